@@ -4,11 +4,12 @@
 #                 REPORT=FILE writes what each part took
 # make bench      runs the program on large domains, and writes what that took into bench/RESULTS.md (it needs python3);
 #                 BEFORE=PATH, an earlier build of the program, runs beside it. It fails where a certificate as `make`
-#                 writes it isn't read in a seventh of the time that the same takes behind one space
+#                 writes it isn't read in a seventh of the time that the same takes behind one space, or where
+#                 mcaudit-plan takes more time or memory for 4,096 flows than bench/plan.py allows
 # make fuzz       fuzzes each command with afl++ for an hour in all, on one core, and writes what that covered and found
 #                 into bench/fuzz.md; MINUTES=N takes N minutes, KEEP=FOLDER keeps the findings there
-# make lab        from routers to a verdict and a page, and each kind of fault to its remedy, in network namespaces (it
-#                 needs root; the file `packages` says what else); PAGES=FOLDER keeps the pages there
+# make lab        from routers to a verdict and a page, and each kind of fault to its plan and its remedy, in network
+#                 namespaces (it needs root; the file `packages` says what else); PAGES=FOLDER keeps the pages there
 # make page-test  tries the page of mcaudit-page in a headless Chromium; PICTURES=FOLDER writes pictures of it there
 # make install    puts the program and its tools into $(PREFIX)/bin, what the tools share, the manual pages and the
 #                 completions for bash, zsh and fish into $(PREFIX)/share, and the units of systemd and their user into
@@ -21,8 +22,8 @@
 PREFIX ?= /usr/local
 VERSION = $(shell cat VERSION)
 PROGRAM = crates/mcaudit/out/mcaudit
-TOOLS = mcaudit-collect mcaudit-diff mcaudit-draft mcaudit-monitor mcaudit-page mcaudit-premises mcaudit-query \
-	mcaudit-reports mcaudit-site
+TOOLS = mcaudit-collect mcaudit-diff mcaudit-draft mcaudit-monitor mcaudit-page mcaudit-plan mcaudit-premises \
+	mcaudit-query mcaudit-reports mcaudit-site mcaudit-try
 # each of them is quoted where it is used: a path may have spaces and signs of the shell
 UNITS = $(DESTDIR)$(PREFIX)/lib/systemd/system
 BASH_COMPLETIONS = $(DESTDIR)$(PREFIX)/share/bash-completion/completions
@@ -56,6 +57,7 @@ test:
 bench: $(PROGRAM)
 	python3 bench/run.py --write bench/RESULTS.md $(PROGRAM) $(BEFORE)
 	python3 bench/run.py $(PROGRAM) --only reading --bounds reading
+	python3 bench/plan.py $(PROGRAM)
 
 fuzz: $(PROGRAM)
 	python3 bench/fuzz/run.py $(PROGRAM) --write bench/fuzz.md $(if $(MINUTES),--minutes $(MINUTES)) $(if $(KEEP),--keep $(KEEP))
@@ -65,6 +67,8 @@ lab: $(PROGRAM)
 	sh tests/lab/ten.sh $(PROGRAM) $(PAGES)
 	sh tests/lab/pim.sh $(PROGRAM)
 	python3 tests/lab/premises.py $(PROGRAM) --ssh
+	python3 tests/lab/conf.py $(PROGRAM)
+	python3 tests/lab/hosts.py $(PROGRAM)
 
 page-test:
 	sh tests/packages.sh page

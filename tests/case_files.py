@@ -61,7 +61,8 @@ CLI = BOTH | {"folder/", "folder.sh", "stdin.pipe", "stdin.path", "stdout.path",
 TOOLS = BOTH | {"place/", "routers/", "times", "before/", "plain/", "after/", "sets", "left/", "gone", "ssh.words",
                 "any.order", "output", "path", "limit", "umask", "term", "disk.size", "disk.filled"}
 TIMES = [(re.compile(pattern, re.M), instead) for pattern, instead in (
-    (rb"[0-9]+ s old", rb"N s old"), (rb'"time":[0-9]+', rb'"time":TIME'), (rb"[0-9]{8}T[0-9]{6}Z", rb"TIME"),
+    (rb"[0-9]+ (?:s|min|h|days)(?= old| ago| to [0-9]+ [a-z]+ old)", rb"N s"),
+    (rb'"time":[0-9]+', rb'"time":TIME'), (rb"[0-9]{8}T[0-9]{6}Z", rb"TIME"),
     (rb'"[-0-9]{10}T[:0-9]{8}Z"', rb'"TIME"'), (rb"[0-9][0-9.]* packets/s", rb"N packets/s"),
     (rb"[0-9][0-9.]* [kM]?bit/s", rb"N bit/s"), (rb"^(mcaudit_[a-z_]*_seconds.* )[0-9]*$", rb"\1TIME"),
     (rb'("last_[a-z_]*": )[0-9]+', rb"\1TIME"))]

@@ -34,9 +34,9 @@ from case_files import make_links, read, value_of, without_times, write, write_f
 
 PROGRAM = os.environ.get("PROGRAM", f"{TOP}/crates/mcaudit/out/mcaudit")
 ASKING = ("collect", "reports")  # the tools that need only a shell on the routers
-OLD = ("collect", "diff", "monitor", "page", "premises", "query", "reports")  # the tools that run with a Python of 3.9
+OLD = ("collect", "diff", "monitor", "page", "plan", "premises", "query", "reports", "try")  # run with a Python of 3.9
 NO_TOML = b"a topology is read by python3 of 3.11 or later"
-ALL = (*ASKING, "diff", "draft", "monitor", "page", "premises", "query", "site")
+ALL = (*ASKING, "diff", "draft", "monitor", "page", "plan", "premises", "query", "site", "try")
 APPLETS = ("cp date grep ln ls mkdir mkfifo mktemp mv od readlink rm rmdir sed setsid sh sleep sync tail timeout tr "
            "wc").split()
 FIRST = "20260101T000000Z"  # the set that exists at first
@@ -235,7 +235,7 @@ class ToolCase:
                 yield f"there is a {name.decode()}"
         yield from self.judge_processes()
         yield from self.judge_metrics()
-        if self.kind in ("collect", "monitor"):
+        if self.kind in ("collect", "monitor") or self.kind == "try" and not self.has("after"):
             yield from self.judge_site()
         elif self.has("after"):
             inside = "disk/site" if self.kind in ("draft", "site") else "disk"

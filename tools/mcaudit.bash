@@ -41,13 +41,13 @@ _mcaudit_tool() {
     shift 3
     COMPREPLY=()
     case $before in
-        -o | --routers | --capture | --audit | --program | --prometheus) kind='file' ;;
-        --all) kind=directory ;;
-        --readings | --pause | --timeout | --at-once | --ssh | --wait | --slack \
+        -o | -f | --routers | --capture | --audit | --plan | --program | --prometheus | --page) kind='file' ;;
+        --all | --conf-root) kind=directory ;;
+        --readings | --pause | --timeout | --at-once | --ssh | --wait | --listen | --slack \
         | --queries | --network | --querier | --interface) return ;;
         --tries | --static | --empty-lan | --by | --shell | --ttl | --measure | --count | --tenths \
-        | --without) return ;;
-        --watch | --keep | --warn-age | --warn-reports | --label) return ;;
+        | --without | --flow | --use | --smcroute | --search) return ;;
+        --watch | --keep | --warn-age | --warn-reports | --label | --conf) return ;;
     esac
     case $word in
         -*) mapfile -t COMPREPLY < <(compgen -W "$*" -- "$word") ;;
@@ -59,7 +59,8 @@ _mcaudit_tool() {
 
 _mcaudit_collect() {
     _mcaudit_tool "${COMP_WORDS[COMP_CWORD]}" "${COMP_WORDS[COMP_CWORD - 1]}" directory \
-        --routers --adopt --readings --pause --timeout --at-once --ssh --facts --shell --version --help
+        --routers --adopt --readings --pause --timeout --at-once --ssh --facts --from-daemon --empty-lan --shell \
+        --version --help
 }
 
 _mcaudit_diff() {
@@ -68,18 +69,24 @@ _mcaudit_diff() {
 
 _mcaudit_monitor() {
     _mcaudit_tool "${COMP_WORDS[COMP_CWORD]}" "${COMP_WORDS[COMP_CWORD - 1]}" directory \
-        --routers --ssh --readings --pause --timeout --at-once --facts --adopt --no-collect --keep --plugin \
+        --routers --ssh --readings --pause --timeout --at-once --facts --from-daemon --empty-lan --adopt \
+        --no-collect --keep --plugin \
         --warn-age --warn-reports --prometheus --label --version --help
 }
 
 _mcaudit_draft() {
     _mcaudit_tool "${COMP_WORDS[COMP_CWORD]}" "${COMP_WORDS[COMP_CWORD - 1]}" directory \
-        --routers --ssh --timeout --ttl --measure --update --version --help
+        --routers --ssh --timeout --ttl --flows --measure --update --version --help
 }
 
 _mcaudit_page() {
     _mcaudit_tool "${COMP_WORDS[COMP_CWORD]}" "${COMP_WORDS[COMP_CWORD - 1]}" directory \
-        -o --audit --program --without --version --help
+        -o --audit --plan --program --without --version --help
+}
+
+_mcaudit_plan() {
+    _mcaudit_tool "${COMP_WORDS[COMP_CWORD]}" "${COMP_WORDS[COMP_CWORD - 1]}" directory \
+        -f --flow --new --use --smcroute --keep --json --search --version --help
 }
 
 _mcaudit_premises() {
@@ -98,16 +105,23 @@ _mcaudit_site() {
         mapfile -t COMPREPLY < <(compgen -W 'init lans --version --help' -- "$word")
     elif [ "${COMP_WORDS[1]}" = init ]; then
         _mcaudit_tool "$word" "${COMP_WORDS[COMP_CWORD - 1]}" directory \
-            --routers --ssh --ttl --wait --tries --static --empty-lan --ask --ask-routers --empty --help
+            --routers --ssh --facts --ttl --wait --listen --tries --static --empty-lan --ask --ask-routers \
+            --from-daemon --empty --help
     else
         _mcaudit_tool "$word" "${COMP_WORDS[COMP_CWORD - 1]}" directory --help
     fi
 }
 
+_mcaudit_try() {
+    _mcaudit_tool "${COMP_WORDS[COMP_CWORD]}" "${COMP_WORDS[COMP_CWORD - 1]}" directory \
+        -f --conf --conf-root --why --json --keep --page --version --help
+}
+
 _mcaudit_reports() {
     _mcaudit_tool "${COMP_WORDS[COMP_CWORD]}" "${COMP_WORDS[COMP_CWORD - 1]}" file \
-        -o --by --capture --text --static --all --empty --empty-lan --ask --ask-routers --tries --queries --wait \
-        --slack --network --querier --interface --routers --ssh --version --help
+        -o --by --capture --text --static --all --empty --empty-lan --ask --ask-routers --from-daemon --from-bridge \
+        --fold --no-fold --tries --queries --wait --listen --slack --network --querier --interface --routers --ssh \
+        --version --help
 }
 
 complete -F _mcaudit mcaudit
@@ -116,7 +130,9 @@ complete -F _mcaudit_diff mcaudit-diff
 complete -F _mcaudit_draft mcaudit-draft
 complete -F _mcaudit_monitor mcaudit-monitor
 complete -F _mcaudit_page mcaudit-page
+complete -F _mcaudit_plan mcaudit-plan
 complete -F _mcaudit_premises mcaudit-premises
 complete -F _mcaudit_query mcaudit-query
 complete -F _mcaudit_reports mcaudit-reports
 complete -F _mcaudit_site mcaudit-site
+complete -F _mcaudit_try mcaudit-try

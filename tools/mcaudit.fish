@@ -58,6 +58,9 @@ set -l readings \
     '--at-once:value:read at most so many routers side by side' \
     '--facts::bring what decides beside the tables what a router forwards' \
     '--adopt::make a plain folder the first set'
+set -l believed \
+    '--from-daemon::take the lists of what the daemons of routers believe' \
+    '--empty-lan:value:the same for this LAN alone'
 set -l asking \
     '--static:value:put into the list what a host wants that can not be asked' \
     '--empty::write a list though no host answered' \
@@ -65,7 +68,9 @@ set -l asking \
     '--ask::ask where no query comes' \
     '--ask-routers::ask also where two routers lie on a LAN' \
     '--tries:value:gather again, so many times in all' \
-    '--wait:value:wait so long for a query'
+    '--wait:value:wait so long for a query' \
+    '--listen:value:capture for so long at least' \
+    '--from-daemon::take the lists of what the daemons of routers believe'
 
 # the word behind --without is a router, whatever it begins with
 set -l audit '__mcaudit_command_is audit; and not __fish_prev_arg_in --without'
@@ -93,20 +98,22 @@ __mcaudit_folders mcaudit '__mcaudit_command_is pack'
 __mcaudit_options mcaudit '__mcaudit_command_is replay' '--order:first last:which waiting copy is handled next'
 
 set -l tool
-for tool in mcaudit-collect mcaudit-draft mcaudit-monitor mcaudit-page mcaudit-premises
+for tool in mcaudit-collect mcaudit-draft mcaudit-monitor mcaudit-page mcaudit-plan mcaudit-premises mcaudit-try
     __mcaudit_folders $tool true
 end
-for tool in mcaudit-collect mcaudit-diff mcaudit-draft mcaudit-monitor mcaudit-page mcaudit-premises mcaudit-query \
-    mcaudit-reports
+for tool in mcaudit-collect mcaudit-diff mcaudit-draft mcaudit-monitor mcaudit-page mcaudit-plan mcaudit-premises \
+    mcaudit-query mcaudit-reports mcaudit-try
     __mcaudit_options $tool true $about
 end
-__mcaudit_options mcaudit-collect true $routers $timeout $readings '--shell:value:run a shell on a router by its way'
+__mcaudit_options mcaudit-collect true $routers $timeout $readings $believed \
+    '--shell:value:run a shell on a router by its way'
 __mcaudit_options mcaudit-diff true '--json::print an object a line'
 __mcaudit_options mcaudit-draft true $routers $timeout \
     '--ttl:value:the time to live of all flows' \
+    '--flows:file:take the flows of this list too' \
     '--measure:value:wait so long for packets of a flow' \
     '--update::print what differs from the topology that is there'
-__mcaudit_options mcaudit-monitor true $routers $timeout $readings \
+__mcaudit_options mcaudit-monitor true $routers $timeout $readings $believed \
     '--no-collect::judge what is there' \
     '--keep:value:keep so many sets' \
     '--plugin::print one line, as a plugin of Nagios or Icinga' \
@@ -117,8 +124,18 @@ __mcaudit_options mcaudit-monitor true $routers $timeout $readings \
 __mcaudit_options mcaudit-page true \
     '-o:file:write the page into a file' \
     '--audit:file:take what an audit answered' \
+    '--plan:file:show the plans of a file too' \
     '--program:file:run this program for mcaudit' \
     '--without:value:audit without the tables of a router'
+__mcaudit_options mcaudit-plan true \
+    '-f:file:take the changes of a file, one a line' \
+    '--flow:value:plan this flow alone' \
+    '--new::plan flows of which no router has an entry, too' \
+    '--use:value:give this router an entry in front of another' \
+    '--smcroute:value:print commands for this router though it has PIM' \
+    '--keep:value:keep the copy with all plans carried out' \
+    '--json::print an object a line' \
+    '--search:value:try so many sets of changes'
 __mcaudit_options mcaudit-premises true $routers $timeout \
     '--watch:value:read the counters four times, with these pauses' \
     '--json::print an object a line' \
@@ -133,7 +150,10 @@ __mcaudit_options mcaudit-reports true $routers $asking \
     '--by:value:the interface is that of a router' \
     '--capture:file:read a capture file' \
     '--text::read a recorded text on standard input' \
+    '--from-bridge::take the list of what a bridge of the router believes' \
     '--all:folder:gather the lists of all LANs' \
+    '--fold::follow hosts that join or leave meanwhile' \
+    '--no-fold::follow no changes' \
     '--slack:value:take answers that are so late' \
     '--queries:value:gather the answers to so many queries' \
     '--network:value:the network of the LAN' \
@@ -144,5 +164,14 @@ __mcaudit_commands mcaudit-site 'init:draft, collect, gather and judge' 'lans:pr
 __mcaudit_options mcaudit-site __fish_use_subcommand $about
 __mcaudit_options mcaudit-site 'not __fish_use_subcommand' $help
 __mcaudit_options mcaudit-site '__fish_seen_subcommand_from init' $routers $asking \
-    '--ttl:value:the time to live of all flows'
+    '--ttl:value:the time to live of all flows' \
+    '--facts::bring what decides beside the tables what a router forwards'
 __mcaudit_folders mcaudit-site 'not __fish_use_subcommand'
+__mcaudit_options mcaudit-try true \
+    '-f:file:take the changes of a file too' \
+    '--conf:value:take what smcrouted makes of a file for a router' \
+    '--conf-root:folder:where the files lie that those of --conf include' \
+    '--why::tell what explains the faults' \
+    '--json::print an object a line' \
+    '--keep:value:keep the changed copy' \
+    '--page:file:write a page of the changed domain'

@@ -1,4 +1,4 @@
-#compdef mcaudit mcaudit-collect mcaudit-diff mcaudit-draft mcaudit-monitor mcaudit-page mcaudit-premises mcaudit-query mcaudit-reports mcaudit-site
+#compdef mcaudit mcaudit-collect mcaudit-diff mcaudit-draft mcaudit-monitor mcaudit-page mcaudit-plan mcaudit-premises mcaudit-query mcaudit-reports mcaudit-site mcaudit-try
 # mcaudit.zsh: completes the words of mcaudit and of its tools in zsh, which looks for it under the name _mcaudit.
 
 # what several tools have
@@ -18,6 +18,10 @@ local -a readings=(
     '--facts[bring what decides beside the tables what a router forwards]'
     '--adopt[make a plain folder the first set]'
 )
+local -a believed=(
+    '--from-daemon[take the lists of what the daemons of routers believe]'
+    '*--empty-lan[the same for this LAN alone]:LAN: '
+)
 local -a asking=(
     '--static[put into the list what a host wants that can not be asked]:group: '
     '--empty[write a list though no host answered]'
@@ -26,6 +30,8 @@ local -a asking=(
     '--ask-routers[ask also where two routers lie on a LAN]'
     '--tries[gather again, so many times in all]:number: '
     '--wait[wait so long for a query]:seconds: '
+    '--listen[capture for so long at least]:seconds: '
+    '--from-daemon[take the lists of what the daemons of routers believe]'
 )
 
 case $service in
@@ -55,15 +61,17 @@ mcaudit)
     *:replay) _arguments ': :' ':flow: ' ':ttl: ' '--order[which waiting copy is handled next]:order:(first last)' ;;
     esac ;;
 mcaudit-collect)
-    _arguments $routers $timeout $readings $about $site '--shell[run a shell on a router by its way]:router: ' ;;
+    _arguments $routers $timeout $readings $believed $about $site \
+        '--shell[run a shell on a router by its way]:router: ' ;;
 mcaudit-diff) _arguments $about '--json[print an object a line]' '*:audit:_files' ;;
 mcaudit-draft)
     _arguments $routers $timeout $about $site \
         '--ttl[the time to live of all flows]:ttl: ' \
+        '--flows[take the flows of this list too]:file:_files' \
         '--measure[wait so long for packets of a flow]:seconds: ' \
         '--update[print what differs from the topology that is there]' ;;
 mcaudit-monitor)
-    _arguments $routers $timeout $readings $about $site \
+    _arguments $routers $timeout $readings $believed $about $site \
         '--no-collect[judge what is there]' \
         '--keep[keep so many sets]:number: ' \
         '--plugin[print one line, as a plugin of Nagios or Icinga]' \
@@ -75,8 +83,19 @@ mcaudit-page)
     _arguments $about $site \
         '-o[write the page into a file]:file:_files' \
         '--audit[take what an audit answered]:file:_files' \
+        '--plan[show the plans of a file too]:file:_files' \
         '--program[run this program for mcaudit]:program:_files' \
         '*--without[audit without the tables of a router]:router: ' ;;
+mcaudit-plan)
+    _arguments $about $site \
+        '*-f[take the changes of a file, one a line]:file:_files' \
+        '--flow[plan this flow alone]:number: ' \
+        '--new[plan flows of which no router has an entry, too]' \
+        '*--use[give this router an entry in front of another]:router: ' \
+        '*--smcroute[print commands for this router though it has PIM]:router: ' \
+        '--keep[keep the copy with all plans carried out]:folder: ' \
+        '--json[print an object a line]' \
+        '--search[try so many sets of changes]:number: ' ;;
 mcaudit-premises)
     _arguments $routers $timeout $about $site \
         '--watch[read the counters four times, with these pauses]:seconds: ' \
@@ -94,18 +113,32 @@ mcaudit-reports)
         '--by[the interface is that of a router]:way: ' \
         '--capture[read a capture file]:file:_files' \
         '--text[read a recorded text on standard input]' \
+        '--from-bridge[take the list of what a bridge of the router believes]' \
         '--all[gather the lists of all LANs]:folder:_files -/' \
+        '--fold[follow hosts that join or leave meanwhile]' \
+        '--no-fold[follow no changes]' \
         '--slack[take answers that are so late]:seconds: ' \
         '--queries[gather the answers to so many queries]:number: ' \
         '*--network[the network of the LAN]:prefix: ' \
         '*--querier[a query of this address counts too]:address: ' \
         '--interface[the interface of a capture file that has several]:number: ' ;;
+mcaudit-try)
+    _arguments $about '1:folder:_files -/' '*:change: ' \
+        '*-f[take the changes of a file too]:file:_files' \
+        '*--conf[take what smcrouted makes of a file for a router]:router=file: ' \
+        '--conf-root[where the files lie that those of --conf include]:folder:_files -/' \
+        '--why[tell what explains the faults]' \
+        '--json[print an object a line]' \
+        '--keep[keep the changed copy]:folder: ' \
+        '--page[write a page of the changed domain]:file:_files' ;;
 mcaudit-site)
     case $CURRENT:$words[2] in
     2:*)
         local -a commands=('init:draft, collect, gather and judge' 'lans:print each LAN with each interface on it')
         _arguments $about '1: :{_describe command commands}' ;;
-    *:init) _arguments ': :' $routers $asking '--ttl[the time to live of all flows]:ttl: ' $help $site ;;
+    *:init)
+        _arguments ': :' $routers $asking '--ttl[the time to live of all flows]:ttl: ' \
+            '--facts[bring what decides beside the tables what a router forwards]' $help $site ;;
     *) _arguments ': :' $help $site ;;
     esac ;;
 esac

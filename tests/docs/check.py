@@ -43,7 +43,7 @@ NUMBERED = re.compile(r"^pub enum (\w+)[^{]*\{\n(.*?)^\}", re.M | re.S)
 REFUSAL = re.compile(r"((?:^    ///.*\n)+)(?:^    #\[.*\n)*^    (\w+)", re.M)
 NUMBER = re.compile(r"^    /// \((\d+)\) ")
 # Words that documents show which stand in another program's texts, or in those of a network.
-ELSEWHERE = {"ip_mr_vif", "ip_mr_cache", "authorized_keys", "known_hosts", "pim_register", "no_memory"}
+ELSEWHERE = {"RegJ", "RegP", "ip_mr_vif", "ip_mr_cache", "authorized_keys", "known_hosts", "pim_register", "no_memory"}
 
 
 def read(path):

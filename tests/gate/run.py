@@ -12,7 +12,7 @@ It works on a copy of the repository, in steps:
             refuse each. It begins with a crate as soon as that is proved, beside the proofs that are left, which go
             first. (The copy that `rt ci` sees has none of them: it would try each in a check of its own.)
   cases     tests/docs looks whether what the documents name is there, and runs what README and the tour show; tests/cli has cases of
-            the program that was built; tests/audited works out anew what it says of random domains, and writes topologies in every form; tests/swapped_set.py leads
+            the program that was built; tests/audited works out anew what it says of random domains, writes topologies in every form, and works out what changes make of the files; tests/swapped_set.py leads
             the link to a set elsewhere while the set is read; tests/refusals
             refuses it each request for memory, each read and each write in turn, and the tests about memory each growth;
             tests/tools tries the tools
@@ -236,6 +236,8 @@ def try_program(gate):
     gate.step("what README and the tour show", sys.executable, "tests/docs/run_blocks.py", program)
     gate.step("audits worked out anew", sys.executable, "tests/audited/run.py", program)
     gate.step("topologies in every form", sys.executable, "tests/audited/forms.py", program)
+    gate.step("changes of random domains", sys.executable, "tests/audited/changed.py", program)
+    gate.step("plans carried out", sys.executable, "tests/audited/plans.py", program)
     gate.step("the schema of audits", "/usr/bin/python3", "tests/audited/schema.py")
     gate.step("a set that is swapped while it is read", sys.executable, "tests/swapped_set.py", program)
     gate.step("refusals of memory, reads and writes", sys.executable, "tests/refusals/run.py", program, *TESTS)

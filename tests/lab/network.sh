@@ -36,6 +36,9 @@ take_away() {
         kill "$process" 2> /dev/null
         wait "$process" 2> /dev/null
     done
+    for file in "$scratch"/*.pid; do
+        [ ! -s "$file" ] || kill "$(cat "$file")" 2> /dev/null
+    done
     for place in $(print_places); do
         ip netns del "$lab-$place" 2> /dev/null
     done
@@ -125,13 +128,17 @@ count_packets() {
     listening=
     for member in $members; do
         # shellcheck disable=SC2086 # a word each
-        ip netns exec "$lab-${member%%=*}" python3 "$here/traffic.py" member "${member#*=}" 3 $groups \
+        ip netns exec "$lab-${member%%=*}" python3 "$here/traffic.py" member "${member#*=}" 60 $groups \
             > "$scratch/came-${member%%=*}" &
         listening="$listening $!"
     done
     sleep 1
     send 3
-    for process in $listening; do wait "$process"; done
+    sleep 1
+    for process in $listening; do
+        kill "$process"
+        wait "$process"
+    done
     for member in $members; do sed "s/^/${member%%=*} /" "$scratch/came-${member%%=*}"; done
 }
 

@@ -90,35 +90,44 @@ def run(words, check=True, **how):
 class Lab:
     """The network."""
 
-    def __init__(self, program):
-        """Takes the program, and builds the network."""
+    def __init__(self, program, ports=()):
+        """Takes the program, and where there are further places, their ports."""
         self.name, self.folder, self.running = f"mcp{os.getpid()}", tempfile.mkdtemp(), {}
+        self.ports = [*PORTS, *ports]
         self.site = os.path.join(self.folder, "site")
         self.environment = {**os.environ, "PATH": f"{os.path.dirname(program)}:{os.environ['PATH']}"}
-        self.places = ["lans", *dict.fromkeys(place for place, *_ in PORTS)]
+        self.places = ["lans", *dict.fromkeys(place for place, *_ in self.ports)]
         self.ways = [f"{it}=!ip netns exec {self.name}-{it}" for it in ROUTERS]
 
     def at(self, place, line, check=True):
         """Runs a line of the shell at a place."""
         return run(["ip", "netns", "exec", f"{self.name}-{place}", "sh", "-c", line], check)
 
-    def build(self):
-        """Builds the network, starts the routers and makes the folder."""
+    def build_network(self):
+        """Makes the places and the LANs, and joins them."""
         for place in self.places:
             run(f"ip netns add {self.name}-{place}")
             self.at(place, "ip link set lo up; "
                     "for it in all default; do echo 0 > /proc/sys/net/ipv4/conf/$it/rp_filter; done")
-        for lan in dict.fromkeys(lan for _, _, lan, _ in PORTS):
+        for lan in dict.fromkeys(lan for _, _, lan, _ in self.ports):
             self.at("lans", f"ip link add {lan} type bridge mcast_snooping 0; ip link set {lan} up")
-        for place, device, lan, address in PORTS:
+        for place, device, lan, address in self.ports:
             self.at("lans", f"ip link add {place}-{device} type veth peer name {device} netns {self.name}-{place}; "
                     f"ip link set {place}-{device} master {lan} up")
             self.at(place, f"ip link set {device} up; ip address add {address}/24 dev {device}")
         self.at("r2", "ip route add 10.88.0.0/24 via 10.88.1.1")
         self.at("r3", "ip route add 10.88.0.0/16 via 10.88.2.2")
         self.at("source", "ip route add default via 10.88.0.1")
+
+    def build(self):
+        """Builds the network, starts the routers and makes the folder."""
+        self.build_network()
         for router in ROUTERS:
             self.start_router(router)
+        self.make_site()
+
+    def make_site(self):
+        """Makes the folder, whose tables are collected later."""
         os.mkdir(self.site)
         for lan in ("l0", "l1", "l2", "lx"):
             self.write(f"igmp-{lan}", "")
@@ -332,6 +341,7 @@ def add_reverse():
     hidden("strict, by a rule's table", f"{strict(1)}\n{AWAY}\nr2: ip route add 10.88.0.0/24 via 10.88.1.1 table 77; "
            "ip rule add to 10.88.0.0/24 lookup 77",
            "r2: ip rule del to 10.88.0.0/24 lookup 77; ip route flush table 77\n" + BACK)
+    hidden("strict on the first router, whose own LAN the source is on", strict(1, router="r1"), strict(0, router="r1"))
     hidden("the source's address is local", f"r2: ip address add {SOURCE}/32 dev lo",
            f"r2: ip address del {SOURCE}/32 dev lo; echo 0 > /proc/sys/net/ipv4/conf/eth0/accept_local",
            [("drops", "one of its own addresses")], [("none comes", "one of r2's own")])
@@ -387,6 +397,8 @@ def add_links():
            [("drops", "r2: eth0 (in) has no carrier")], [("none comes", "")], settle=1)
     hidden("eth1 is down", "r2: ip link set eth1 down", "r2: ip link set eth1 up",
            [("drops", "r2: eth1 (out) is down")], [("none comes", "r2 did not send them by eth1")], settle=1)
+    hidden("eth1 has no carrier", "lans: ip link set r2-eth1 down", "lans: ip link set r2-eth1 up",
+           [("drops", "r2: eth1 (out) has no carrier")], [("none comes", "")], settle=1)
     hidden("the last LAN has no carrier", "lans: ip link set r3-eth1 down", "lans: ip link set r3-eth1 up",
            [("drops", "r3: eth1 (out) has no carrier")], [("lost", "r3: eth1: its vif counts")], settle=1)
     hidden("eth1's MTU is too small", "r2: ip link set eth1 mtu 1200", "r2: ip link set eth1 mtu 1500",
@@ -414,6 +426,10 @@ def add_links():
                                              "add chain ip q f { type filter hook forward priority 0; }",
                                              "add rule ip q f numgen inc mod 2 == 0 drop"), NO_RULES,
            [("may drop", "nft ip q f")], [("lost", "r2")], pauses="0.3,3,0.3", is_doubtful=True)
+    hidden("each twentieth packet is lost", nft("add table ip q",
+                                                "add chain ip q f { type filter hook forward priority 0; }",
+                                                "add rule ip q f numgen inc mod 20 == 0 drop"), NO_RULES,
+           [("may drop", "nft ip q f")], [("lost", "r2")], pauses="0.2,20,0.2", is_doubtful=True)
     hidden("bursts", "", "", part="100", pauses="1,3,1")
 
 
@@ -437,6 +453,16 @@ def try_sets():
     print(f"{name}, mended: {lines[-2]}\n{shown(found)}", end="")
     judge(name, status == 0 and not any(it["kind"] == "packets" for it in found),
           f"found after it was mended, {status}")
+
+
+def try_idle():
+    """A source that sends nothing: its flow is idle, and nothing is found."""
+    LAB.end("send")
+    found, status, lines = LAB.premises("--watch", "0.5,2,0.5", LAB.site, *LAB.ways)
+    found = [it for it in found if it["kind"] == "packets"]
+    print(f"an idle source: {lines[-2]['packets']}\n{shown(found)}", end="")
+    judge("an idle source", lines[-2]["packets"]["idle"] == 1 and lines[-2]["packets"]["come"] == 0, lines[-2])
+    judge("an idle source", status == 0 and not found, f"found, status {status}")
 
 
 def try_healthy(runs=3):
@@ -478,7 +504,7 @@ def main():
         for it in CASES:
             if len(sys.argv) == 2 or it[0] in sys.argv[2:]:
                 try_case(*it)
-        for name, function in (("four sets", try_sets), ("healthy flows", try_healthy)):
+        for name, function in (("four sets", try_sets), ("an idle source", try_idle), ("healthy flows", try_healthy)):
             if len(sys.argv) == 2 or name in sys.argv[2:]:
                 function()
     finally:

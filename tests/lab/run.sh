@@ -84,7 +84,7 @@ echo '- Nobody asks on l2, so there is no list of it.'
 expect 1 at r2 "$tools/mcaudit-reports" --empty --wait 2 eth1 < /dev/null
 echo '- The whole folder in one go, of routers and hosts that nobody has asked before.'
 expect 0 print_router_ports < /dev/null
-while_sending on_routers mcaudit-site init --ask-routers --empty --wait 5 > "$scratch/init" 2> "$scratch/said" ||
+while_sending on_routers mcaudit-site init --ask-routers --empty --wait 5 --listen 0 > "$scratch/init" 2> "$scratch/said" ||
     fail "init: $(cat "$scratch/init" "$scratch/said")"
 cat "$scratch/init"
 expect 0 print_topology <<'END'

@@ -2,7 +2,8 @@
 # From nothing to a verdict and a page of ten routers, and each kind of fault with its remedy, on a network of this
 # machine's kernel: ten routers with smcroute, ten LANs and four hosts, in network namespaces. mcaudit-site makes the
 # whole folder and judges it, and mcaudit-page shows it. Then one fault after the other is made, audit has to tell it
-# and what ends it, just that is done, and audit has to say yes. Before and after the hosts count what comes.
+# and what ends it, just that is done, and audit has to say yes. Before and after the hosts count what comes, and where
+# commands end it, those of mcaudit-plan are carried out while hosts count.
 # Usage: ten.sh PROGRAM [PAGES], a folder that keeps the pages
 #
 #   source -- l0 -- r1 -- l1 -- r2 -- l2 -- r4 -- l4 -- r6 -- l5 -- r7 -- l6 -- r8 -- l7 -- r9 -- l8 -- r10 -- l9
@@ -105,6 +106,25 @@ verdict yes
 END
 }
 
+# What was wrong is mended: the members hear each packet once, and audit says yes, of whatever rows.
+expect_mended() {
+    expect_counts 3 3 3
+    collect
+    "$mcaudit" audit "$site" > "$scratch/audited" || fail "it is not mended: $(cat "$scratch/audited")"
+    cat "$scratch/audited"
+}
+
+# Carries out the plan for the site, after the changes that are given, and says how often the members hear each packet.
+play_plan() {
+    python3 "$here/plans.py" "$lab" "$scratch" "$members" "$@" || fail 'the plan does not do what it says'
+}
+
+# Ends smcroute on a router, and with it its rows.
+stop_router() {
+    kill "$(cat "$scratch/$1.pid")"
+    until [ "$(at "$1" cat /proc/net/ip_mr_cache | wc -l)" -eq 1 ]; do sleep 0.2; done
+}
+
 # Makes a page of the folder as it is, which says what audit says.
 make_page() {
     "$tools/mcaudit-page" "$site" -o "$pages/$1.html" > "$scratch/paged"
@@ -117,8 +137,9 @@ make_page() {
 watch_once() {
     on_routers mcaudit-monitor --keep 300 > "$scratch/watched" 2> "$scratch/said"
     watched=$?
-    sed -e 's/20[0-9]*T[0-9]*Z/TIME/' -e 's/ [0-9]* s old$/ N s old/' -e 's/^\(packets: not looked at:\) [0-9]/\1 N/' \
-        -e 's/\(by the last 4 sets\), .*/\1)/' "$scratch/watched"
+    sed -e 's/20[0-9]*T[0-9]*Z/TIME/' -e 's/[0-9]* [a-z]* to \([0-9]* [a-z]* old\)/\1/g' \
+        -e 's/[0-9][0-9]* [a-z]* old/N old/g' -e 's/([0-9] of 4 sets/(N of 4 sets/' \
+        -e 's/\(by the last 4 sets\), .*/\1/' "$scratch/watched"
     return "$watched"
 }
 
@@ -132,7 +153,7 @@ start_routers
 start_members
 
 echo '- From nothing: the whole folder in one go, its verdict, and its page.'
-while_sending on_routers mcaudit-site init --ask-routers --empty --wait 5 > "$scratch/init" 2> "$scratch/said"
+while_sending on_routers mcaudit-site init --ask-routers --empty --wait 5 --listen 0 > "$scratch/init" 2> "$scratch/said"
 status=$?
 cat "$scratch/init"
 if [ "$status" -ne 1 ] || ! grep -q '^verdict yes$' "$scratch/init" || ! grep -q 'unsure: r9 alone0' "$scratch/said"; then
@@ -145,10 +166,7 @@ echo "lab: from nothing to the page of ten routers: $taken s"
 expect_right
 expect 0 watch_once <<'END'
 TIME: verdict yes, flows 2, right 2, wrong 0, unwanted 0, unlisted 0
-tables N s old
-reports N s old
-decided, not gathered: 10.77.0.0-24 10.77.1.0-24 10.77.2.0-24 10.77.3.0-24 10.77.4.0-24 10.77.6.0-24 10.77.8.0-24
-packets: not looked at: N of 4 sets, each read after the one before
+tables N old; lists of 3 LANs N old; decided, not gathered: 10.77.0.0-24 10.77.1.0-24 10.77.2.0-24 10.77.3.0-24 10.77.4.0-24 10.77.6.0-24 10.77.8.0-24; packets: not looked at (N of 4 sets, each read after the one before); rp_filter, links, MTU, netfilter, ip mrule: not looked at (r1 r2 r3 r4 r5 r6 r7 r8 ..: not asked)
 no audit before it is there to compare with
 END
 
@@ -176,10 +194,8 @@ change_rows r3 add eth0 "$sender" 239.1.2.3 eth1
 expect_counts 6 6 6
 expect 1 watch_once <<'END'
 TIME: verdict no, flows 2, right 1, wrong 1, unwanted 0, unlisted 0
-tables N s old
-reports N s old
-decided, not gathered: 10.77.0.0-24 10.77.1.0-24 10.77.2.0-24 10.77.3.0-24 10.77.4.0-24 10.77.6.0-24 10.77.8.0-24
-packets flow on 1 of 1 flows (by the last 4 sets)
+tables N old; lists of 3 LANs N old; decided, not gathered: 10.77.0.0-24 10.77.1.0-24 10.77.2.0-24 10.77.3.0-24 10.77.4.0-24 10.77.6.0-24 10.77.8.0-24; packets flow on 1 of 1 flows; rp_filter, links, MTU, netfilter, ip mrule: not looked at (r1 r2 r3 r4 r5 r6 r7 r8 ..: not asked)
+packets: by the last 4 sets
 wrong: 10.77.0.50 239.1.2.3 Duplicate 10.77.4.0-24
 changed since TIME:
 flow 10.77.0.50 239.1.2.3: new fault: Duplicate 10.77.4.0-24
@@ -200,12 +216,15 @@ summary flows 2 right 1 wrong 1 unknown 0 unwanted 0
 verdict no
 END
 make_page duplicate 1
-echo '- The remedy that is told: eth1 out of the row of r5.'
-change_rows r5 remove eth0 "$sender" 239.1.2.3 eth1
-expect_counts 3 3 3
-collect
-"$mcaudit" audit "$site" > "$scratch/audited" || fail "after the remedy: $(cat "$scratch/audited")"
-cat "$scratch/audited"
+echo '- The remedy that is told, and the plan: eth1 out of the row of r5.'
+expect 0 play_plan <<END
+flow $sender 239.1.2.3
+before   # then Duplicate 10.77.4.0-24
+    heard: m5 2 m7 2 m9 2
+r5: smcroutectl remove eth0 $sender 239.1.2.3 eth1   # then right
+    heard: m5 1 m7 1 m9 1
+END
+expect_mended
 change_rows r3 remove eth0 "$sender" 239.1.2.3 eth1
 
 # Sent with 16, a copy is on l1 with 15, 11, 7 and 3: each time round takes four. So l5 carries copies with 12, 8 and 4,
@@ -228,12 +247,15 @@ summary flows 2 right 1 wrong 1 unknown 0 unwanted 0
 verdict no
 END
 make_page loop 1
-echo '- The remedy that is told: eth0 out of the row of r3.'
-change_rows r3 remove eth1 "$sender" 239.1.2.3 eth0
-expect_counts 3 3 3
-collect
-"$mcaudit" audit "$site" > "$scratch/audited" || fail "after the remedy: $(cat "$scratch/audited")"
-cat "$scratch/audited"
+echo '- The remedy that is told, and the plan: eth0 out of the row of r3.'
+expect 0 play_plan <<END
+flow $sender 239.1.2.3
+before   # then Loop 10.77.1.0-24
+    heard: m5 3 m7 3 m9 2
+r3: smcroutectl remove eth1 $sender 239.1.2.3 eth0   # then right
+    heard: m5 1 m7 1 m9 1
+END
+expect_mended
 change_rows r5 remove eth1 "$sender" 239.1.2.3 eth0
 expect_right
 
@@ -251,8 +273,14 @@ summary flows 2 right 1 wrong 1 unknown 0 unwanted 0
 verdict no
 END
 make_page stray 1
-echo '- The remedy of the guide: alone0 out of the row of r9.'
-change_rows r9 remove eth0 "$sender" 239.1.2.3 alone0
+echo '- The remedy of the guide, and the plan: alone0 out of the row of r9.'
+expect 0 play_plan <<END
+flow $sender 239.1.2.3
+before   # then Stray r9 $stray
+    heard: m5 1 m7 1 m9 1
+r9: smcroutectl remove eth0 $sender 239.1.2.3 alone0   # then right
+    heard: m5 1 m7 1 m9 1
+END
 expect_right
 
 echo '- Missed: the row of r8 has lost eth1. m7 and m9 get nothing.'
@@ -281,14 +309,93 @@ summary flows 2 right 0 wrong 0 unknown 2 unwanted 0
   excluded: r8: the verdict is no; a yes requires all routers
 verdict no
 END
-echo '- The remedy of the guide: the row of r8 gets eth1.'
-change_rows r8 add eth0 "$sender" 239.1.2.3 eth1
+echo '- The remedy of the guide, and the plan: the row of r8 gets eth1.'
+expect 0 play_plan <<END
+flow $sender 239.1.2.3
+before   # then Missed 10.77.7.0-24
+    heard: m5 1 m7 0 m9 0
+r8: smcroutectl add eth0 $sender 239.1.2.3 eth1   # then right
+    heard: m5 1 m7 1 m9 1
+END
 expect_right
+
+# r8 forwards by no entry while it is turned, and had forwarded by none before, since no packets come to it from l7.
+echo '- Missed: the row of r8 goes the other way, from eth1 to eth0. m7 and m9 get nothing.'
+change_rows r8 remove eth0 "$sender" 239.1.2.3
+change_rows r8 add eth1 "$sender" 239.1.2.3 eth0
+collect
+echo '- The plan: the row is turned.'
+expect 0 play_plan <<END
+flow $sender 239.1.2.3
+before   # then Missed 10.77.7.0-24
+    heard: m5 1 m7 0 m9 0
+r8: smcroutectl remove eth1 $sender 239.1.2.3   # then Missed 10.77.7.0-24
+    heard: m5 1 m7 0 m9 0
+r8: smcroutectl add eth0 $sender 239.1.2.3 eth1   # then right
+    heard: m5 1 m7 1 m9 1
+END
+expect_right
+
+# Packets that came to r5 from l4 had smcroute make a row there that sends them to nobody. It has no rule for it, so
+# it gets one first. r3 has kept such a row since the loop, and tables don't tell that it has a rule.
+echo '- A router goes down: r2. m5, m7 and m9 get nothing.'
+stop_router r2
+echo '- The plan for that, by r3 and r5.'
+expect 0 play_plan 'r2: down' <<END
+flow $sender 239.1.2.3
+before   # then Missed 10.77.5.0-24
+    heard: m5 0 m7 0 m9 0
+r5: smcroutectl add eth1 $sender 239.1.2.3   # then Missed 10.77.5.0-24
+    heard: m5 0 m7 0 m9 0
+r5: smcroutectl add eth0 $sender 239.1.2.3 eth1   # then Missed 10.77.5.0-24
+    heard: m5 0 m7 0 m9 0
+r3: smcroutectl add eth1 $sender 239.1.2.3   # then Missed 10.77.5.0-24
+    heard: m5 0 m7 0 m9 0
+r3: smcroutectl add eth0 $sender 239.1.2.3 eth1   # then right
+    heard: m5 1 m7 1 m9 1
+when what is down is back: Duplicate 10.77.4.0-24
+END
+expect_mended
+echo '- What the plan says of the time when r2 is back with its row: each packet comes twice.'
+start_forwarding r2 239.1.2.3 < "$scratch/eth1"
+expect_counts 6 6 6
+change_rows r3 remove eth0 "$sender" 239.1.2.3 eth1
+change_rows r5 remove eth0 "$sender" 239.1.2.3 eth1
+expect_right
+
+# A copy has 10 on l7 by r2 and r4, and 11 by r5 alone. Between the two commands nobody gets anything: the other way round
+# m5 and m7 would hear packets twice.
+echo '- Missed, with a shorter path: r5 gets a device on l1, and r9 sends by eth1 only above threshold 10.'
+stop_router r5
+join r5 eth2 l1 10.77.1.5
+start_forwarding r5 239.1.2.4 <<'END'
+phyint eth1 enable
+phyint eth2 enable
+END
+stop_router r9
+start_forwarding r9 239.1.2.3 <<'END'
+phyint eth1 enable ttl-threshold 10
+END
+sed -i 's/^{router = "r5", device = "eth1".*/&\n{router = "r5", device = "eth2", lan = "10.77.1.0-24"},/' "$site/topology"
+expect_counts 3 3 0
+collect
+echo '- The plan, with a gap: the shorter path in the place of the longer one.'
+expect 0 play_plan <<END
+flow $sender 239.1.2.3
+before   # then Missed 10.77.9.0-24
+    heard: m5 1 m7 1 m9 0
+r4: smcroutectl remove eth0 $sender 239.1.2.3 eth1   # then Missed 10.77.5.0-24; without the stream: 10.77.5.0-24 10.77.7.0-24
+    heard: m5 0 m7 0 m9 0
+r5: smcroutectl add eth2 $sender 239.1.2.3 eth1   # then right
+    heard: m5 1 m7 1 m9 1
+END
+expect_mended
+change_rows r5 remove eth2 "$sender" 239.1.2.3 eth1
+change_rows r4 add eth0 "$sender" 239.1.2.3 eth1
 
 # A copy that is sent with 16 has 10 on l7. To have 13 there it is sent with 19.
 echo '- Missed at the time to live of the flow: r9 sends by eth1 only above threshold 12. m9 gets nothing.'
-kill "$(cat "$scratch/r9.pid")"
-until [ "$(at r9 cat /proc/net/ip_mr_cache | wc -l)" -eq 1 ]; do sleep 0.2; done
+stop_router r9
 start_forwarding r9 239.1.2.3 <<'END'
 phyint eth1 enable ttl-threshold 12
 END

@@ -1,13 +1,14 @@
 """Multicast traffic for the lab: members and a source.
 
 Usage: traffic.py member ADDRESS SECONDS GROUP ...
-           joins the groups on the interface of the address, and after so many seconds prints for each
-           how many packets came
+           joins the groups on the interface of the address, and after so many seconds, or once it is
+           ended by SIGTERM, prints for each how many packets came
        traffic.py source ADDRESS TTL COUNT GROUP ...
            sends so many packets to each group by the interface of the address
 """
 
 import select
+import signal
 import socket
 import sys
 import time
@@ -26,10 +27,14 @@ def member(address, seconds, *groups):
         receivers[receiver] = group
     counts = dict.fromkeys(groups, 0)
     end = time.monotonic() + float(seconds)
-    while (left := end - time.monotonic()) > 0:
-        for receiver in select.select(list(receivers), [], [], left)[0]:
-            receiver.recv(2048)
-            counts[receivers[receiver]] += 1
+    signal.signal(signal.SIGTERM, signal.default_int_handler)
+    try:
+        while (left := end - time.monotonic()) > 0:
+            for receiver in select.select(list(receivers), [], [], left)[0]:
+                receiver.recv(2048)
+                counts[receivers[receiver]] += 1
+    except KeyboardInterrupt:
+        pass
     for group in groups:
         print(group, counts[group])
 

@@ -43,7 +43,7 @@ summary flows 1 right 0 wrong 1 unknown 0 unwanted 0
 verdict no
 END
 in_room mcaudit audit /tmp/network | grep -qx 'verdict yes' || fail 'an audit of what is right says no yes'
-for tool in collect diff draft monitor page premises query reports site; do
+for tool in collect diff draft monitor page plan premises query reports site try; do
     in_room "mcaudit-$tool" --version
 done
 for file in man/man1/mcaudit.1.gz man/man1/mcaudit-site.1.gz bash-completion/completions/mcaudit-site \

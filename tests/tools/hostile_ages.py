@@ -47,20 +47,21 @@ def told_of_ages(place, *lost):
 
 @case
 def ages_of_each_answer(place):
-    """A yes and a no of the plugin, the text and the page say how old it is and what was decided, and so do the
-    metrics."""
+    """A yes and a no of the plugin, the text, the page and mcaudit-premises say how old it is, what was decided and
+    what was not looked at, in one line, and so do the metrics."""
     def is_told():
-        """Whether what was said has the ages, which grow as the case runs, and the decided list."""
-        return any(f"tables {5000 + it} s old, reports {9000 + it} s old, decided, not gathered: l2" in place.said
-                   for it in range(60))
+        """Whether what was said has the ages, which grow as the case runs, the decided list and what is missing."""
+        line = ("tables 8[34] min old; lists of 2 LANs 2 h old; decided, not gathered: l2; packets: not looked at "
+                r"\([^)]*\); rp_filter, links, MTU, netfilter, ip mrule: not looked at \(r1 r2: not asked\)")
+        return re.search(line, place.said)
     ways = place.routers("r1", "r2")
     for lost, status in (((), 1), (("r2",), 2)):
         told_of_ages(place, *lost)
         assert place.run("monitor", "--plugin", "--no-collect", "site") == status and is_told(), place.said
+        assert place.run("premises", "site") == 0 and is_told(), place.said
         place.run("page", "--program", PROGRAM, "site")
         assert is_told() and "When this page was made, at 2" in place.said
         place.run("monitor", "--no-collect", "site")
-        place.said = ", ".join(place.said.splitlines())
         assert is_told(), place.said
     told_of_ages(place)
     place.run("monitor", "--pause", "0", "--prometheus", "m.prom", "site", *ways)
@@ -84,8 +85,9 @@ def plugin_line_of_many_decided_lists(place):
     topology = place.read("site/topology").replace("lans = [", "lans = [" + "".join(f'"{it}", ' for it in names), 1)
     place.write("site/topology", topology)
     assert place.run("monitor", "--plugin", "--no-collect", "site") == 2, place.said
-    assert "1 of 1 flows wrong: " in place.said and "reports 90" in place.said and len(place.said) < 600, place.said
-    assert "decided, not gathered: l" in place.said and " .. | right=0" in place.said, place.said
+    assert "1 of 1 flows wrong: " in place.said and "lists of 2 LANs 2 h old" in place.said, place.said
+    assert "decided, not gathered: l" in place.said and " ..; packets: " in place.said, place.said
+    assert len(place.said) < 600, place.said
 
 
 @case
@@ -109,7 +111,7 @@ def times_that_are_none(place):
             os.utime(place.at("site", name), (when, when))
         assert place.run("monitor", "--plugin", "--no-collect", "site") == status, (files, by_hand, place.said)
         assert re.search(said.replace("30 s", "3[0-9] s"), place.said), (files, by_hand, place.said)
-        assert said != later or "tables of a later time than now" in place.said, (files, by_hand, place.said)
+        assert said != later or "tables of r1 of a later time than now" in place.said, (files, by_hand, place.said)
 
 
 @case
@@ -124,7 +126,7 @@ def copy_with_one_time_ahead(place):
     for name in os.listdir(place.at("site")):
         os.utime(place.at("site", name), (now, now))
     assert place.run("monitor", "--plugin", "--no-collect", "site") == 1, place.said
-    assert re.search("tables 50[0-9][0-9] s old", place.said), place.said
+    assert re.search("tables 8[34] min old", place.said), place.said
     assert "reports of l1 are of a later time than now" in place.said, place.said
 
 

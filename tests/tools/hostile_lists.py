@@ -158,7 +158,7 @@ def live_list_marked_with_who_sent_nothing_whole(place):
     place.write("window", p.pcap(framed((0, p.asked(tenths=10)), *GOOD[1:2], *bad_of("10.0.1.66"))))
     place.script("tcpdump", 'echo "listening on l1" >&2; trap "echo 3 packets captured >&2; exit 0" TERM; cat window\n'
                  "while :; do sleep .1; done")
-    for words in (["-o", "site/igmp-l1", "l1"], ["--all", "site", "r1=!env", "r2=!env"]):
+    for words in (["-o", "site/igmp-l1", "l1"], ["--listen", "0", "--all", "site", "r1=!env", "r2=!env"]):
         assert place.run("reports", "--wait", "9", *words) == 0, place.said
         found = json.loads(place.read("site/collected.json"))["files"]["igmp-l1"]
         assert found["unchecked"] == ["sender 10.0.1.66"] and "nothing else of it came" in place.said, place.said
@@ -297,7 +297,7 @@ def lists_of_many_lans_with_few_files(place):
     place.write("site/topology", f'lans = {json.dumps(lans)}\nrouter = [{{name = "r1"}}]\ninterface = [{interfaces}]\n')
     place.script("limited", f'ulimit -Sn 64; exec {sys.executable} {TOOLS}/mcaudit-reports "$@"')
     live(place, ASKED, "echo 2 packets captured >&2")
-    words = [place.at("bin", "limited"), "--all", "site", "--wait", "60", "r1=!env"]
+    words = [place.at("bin", "limited"), "--all", "site", "--wait", "60", "--listen", "0", "r1=!env"]
     done = subprocess.run(words, cwd=place.folder, env=place.environment, capture_output=True, check=False, timeout=300)
     assert done.returncode == 0 and b"90 of 90 LANs gathered" in done.stdout, done
 

@@ -72,11 +72,16 @@ def later():
     return packet("10.0.1.9", "224.0.0.5", b"x" * 20, protocol=89)
 
 
-def frame(data, mac=None, vlan=None):
-    """Returns a packet in an Ethernet frame, to its group's MAC."""
+def hardware(number):
+    """Returns the hardware address of a host by its number."""
+    return bytes([2, 0, 0, 0, 0, number])
+
+
+def frame(data, mac=None, vlan=None, sender=1):
+    """Returns a packet in an Ethernet frame of the host of this number, to its group's MAC."""
     mac = bytes([1, 0, 0x5E, data[17] & 127]) + data[18:20] if mac is None else mac
     tag = b"" if vlan is None else struct.pack("!HH", 0x8100, vlan)
-    return mac + bytes([2, 0, 0, 0, 0, 1]) + tag + b"\x08\0" + data
+    return mac + hardware(sender) + tag + b"\x08\0" + data
 
 
 def cooked(data, kind=2, hardware=1):
@@ -84,9 +89,9 @@ def cooked(data, kind=2, hardware=1):
     return struct.pack("!HHH8sH", kind, hardware, 6, b"\2\0\0\0\0\1\0\0", 0x800) + data
 
 
-def cooked_2(data, index, kind=2):
+def cooked_2(data, index, kind=2, sender=b"\2\0\0\0\0\1"):
     """Returns a packet in a frame of Linux's second cooked kind."""
-    return struct.pack("!HHIHBB8s", 0x800, 0, index, 1, kind, 6, b"\2\0\0\0\0\1\0\0") + data
+    return struct.pack("!HHIHBB8s", 0x800, 0, index, 1, kind, 6, sender) + data
 
 
 def pcap(frames, link=1, order="<"):
@@ -116,11 +121,16 @@ def pcapng(frames, link=1, names=(b"",), number=0):
     return b"".join(parts)
 
 
-def text(packets):
-    """Returns what `tcpdump -n -tt -x` prints of (seconds after the start, packet)."""
+def text(packets, frames=()):
+    """Returns what `tcpdump -n -tt -x` prints of (seconds after the start, packet), or with -e of frames."""
     lines = []
-    for at, it in packets:
-        lines.append(f"{START + at:.6f} IP x > y: igmp")
+    for at, it in [*packets, *frames]:
+        if frames:
+            ends = ":".join(f"{it:02x}" for it in it[6:12]), ":".join(f"{it:02x}" for it in it[:6])
+            it = it[14:]
+            lines.append(f"{START + at:.6f} {ends[0]} > {ends[1]}, ethertype IPv4 (0x0800), length 60: x > y: igmp")
+        else:
+            lines.append(f"{START + at:.6f} IP x > y: igmp")
         for first in range(0, len(it), 16):
             digits = it[first:first + 16].hex()
             lines.append(f"\t0x{first:04x}:  " + " ".join(digits[it:it + 4] for it in range(0, len(digits), 4)))

@@ -4,7 +4,7 @@
   python3 tests/tools/page.py [PROGRAM]
 
 The page of each folder of examples/faults has to have the verdict, each flow, each line that explains it, each step of
-its travel and each unlisted flow, as tests/audited/answers.py works the text out. It has to be one file that asks for
+its travel and each unlisted flow, as tests/audited/answers.py works the text out. A page of what was tried says so. It has to be one file that asks for
 nothing from elsewhere, with no elements but its own, whatever the names of the domain are. An answer of which something
 is turned at random makes a page or is refused. And of random domains the arrows of a travel's steps are those that the
 packet took, and those of a path the entries' own. Each colour of its style has another one for a dark page, and texts can be read in both.
@@ -218,6 +218,28 @@ def look_at_hostile_names(check, tool):
                 check.that(f"{example}: {names} is there", all(json.dumps(it)[1:-1] in told for it in names.values()))
 
 
+def look_at_tried(check, tool):
+    """Looks at pages of what was tried: each says so first, with what was made, whatever that has in it, and what it
+    rests on; and none has a verdict that was not audited whole."""
+    lines = answers.audit([os.path.join(FAULTS, "nobody-wants-it"), "--json", "--travel", "--unlisted"]).output()
+    for hostile in HOSTILE:
+        for unaudited in ([], [f"r1: {hostile}"]):
+            audit = tool.audit_of(map(json.loads, lines.splitlines()))
+            graph = tool.Graph(audit.domain, tool.roots_of(audit))
+            graph.lay_out()
+            made = types.SimpleNamespace(site=f"a {hostile}", changes=[f"r2: down {hostile}"], unaudited=unaudited,
+                                         assumed=[f"r2 {hostile}: threshold 1"])
+            page = tool.page_of(audit, graph, tool.Folder("site"), made).encode("utf-8", "replace").decode()
+            read = check.whole(f"tried with {hostile!r}", page)
+            texts = "\n".join(read.texts).encode("utf-8", "replace").decode()
+            wanted = ["Tried, not found", *made.changes, *made.assumed, *unaudited]
+            check.that(f"tried with {hostile!r} is there", all(
+                it.encode("utf-8", "replace").decode().replace("\x00", "") in texts.replace("\x00", "") for it in wanted))
+            has_yes = "Verdict after what was tried: yes" in texts
+            check.that("a verdict of what was audited whole alone", has_yes != bool(unaudited))
+            check.that("no verdict of what was found", "Verdict: yes" not in texts and "<title>Tried: " in page)
+
+
 def places_in(value):
     """Each place in a value: the object or list, and the key or number there."""
     children = value.items() if isinstance(value, dict) else enumerate(value) if isinstance(value, list) else ()
@@ -358,6 +380,7 @@ def main():
         look_at_colours(check)
         look_at_faults(check)
         look_at_hostile_names(check, tool)
+        look_at_tried(check, tool)
         look_at_turned_answers(check, tool)
         look_at_paths(check, tool)
     print(f"{check.passed} passed, {check.failed} failed")

@@ -3,9 +3,9 @@
 # those that help_words.sh takes from the help of the program and of its tools, are completed by bash, zsh and fish
 # alike. All tools are to tell one version and to be installed, and shellcheck reads all shell of the tools
 # and of their tests. Their manual pages are those that packaging/man_pages.py writes. page.py looks at the
-# pages that mcaudit-page makes, rates.py at the words of a rate, and formats.py at audits of both formats. What it
-# needs that is not there is named, and is a failure; but promtool reads the files for Prometheus, and systemd-analyze
-# the units, only where they are. hostile.py tries what hosts, routers and names may do to the tools, and loops.py ends
+# pages that mcaudit-page makes, rates.py at the words of a rate, basis.py at the line that tells what a verdict rests
+# on, and formats.py at audits of both formats. What it needs that is not there is named, and is a failure; but promtool
+# reads the files for Prometheus, and systemd-analyze the units, only where they are. hostile.py tries what hosts, routers and names may do to the tools, and loops.py ends
 # them at random moments, fills their disks and forges answers, and prints its seed; upgrading.py holds the guide to
 # what it says of 0.2. flake8, pylint and mypy read their Python, as that of 3.9.
 # Usage: run.sh [CASE ...], as collect/unreachable. So many cases run at once as JOBS says.
@@ -147,13 +147,14 @@ if [ $# -eq 0 ]; then
     run_apart shellcheck shellcheck check_shell
     run_apart pages dot "$python" "$here/page.py"
     run_apart rates python3 "$python" "$here/rates.py"
+    run_apart basis python3 "$python" "$here/basis.py"
     run_apart formats python3 "$python" "$here/formats.py"
     run_apart hostile dot "$python" "$here/hostile.py"
     run_apart loops dot "$python" "$here/loops.py"
     run_apart upgrading make "$python" "$here/upgrading.py"
     run_apart flake8 flake8 flake8 --max-line-length 120 "$tools" "$tools"/mcaudit-* "$here"/hostile.py "$here"/loops.py \
-        "$here"/formats.py "$here"/packets.py "$here"/rates.py "$here"/upgrading.py "$here"/commands "$here"/../cases.py \
-        "$here"/../case_files.py
+        "$here"/formats.py "$here"/packets.py "$here"/rates.py "$here"/basis.py "$here"/upgrading.py "$here"/commands \
+        "$here"/../cases.py "$here"/../case_files.py
     run_apart pylint pylint check_python
     run_apart mypy mypy check_types
     run_apart script node node --check "$tools/mcaudit_tools/page/page.js"

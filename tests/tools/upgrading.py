@@ -20,6 +20,8 @@ import time
 sys.dont_write_bytecode = True
 sys.path.insert(0, os.path.dirname(os.path.abspath(__file__)))
 import packets as p  # noqa: E402 pylint: disable=wrong-import-position
+from hostile_drafts import S, T, drafted, router  # noqa: E402 pylint: disable=wrong-import-position
+from hostile_lists import live  # noqa: E402 pylint: disable=wrong-import-position
 from place import GOOD, HERE, LAST, LISTED, NETWORK, TOOLS, TOP, collected, framed, kept, run_cases  # noqa: E402
 
 with open(os.path.join(TOP, "docs", "GUIDE.md"), encoding="utf-8") as opened:
@@ -137,6 +139,37 @@ def queries_that_count(place):
     links = re.sub(b" IP x > y: igmp", lambda _: b" 02:00:00:00:00:01 > %s, ethertype IPv4 (0x0800), length 60: x > y"
                    % next(groups), text)
     assert place.reports("--text", text=links) == (0, LISTED) and "tcpdump -e" not in place.said, place.said
+
+
+@line("`mcaudit-reports --all` follows hosts that join and leave")
+def changes_that_are_followed(place):
+    """A host that joins is in the list, which --no-fold refuses; one without a change has what came."""
+    joined = p.packet("10.0.0.6", p.ROUTERS, p.report(p.record(4, "239.2.2.2")))
+    window = (0, p.asked("10.0.0.1", tenths=10)), (0.5, p.wanted("10.0.0.5", "239.1.1.1"))
+    words = "reports", "--wait", "9", "--network", "10.0.0.0/8", "--all", "site", "r1=!env", "r2=!env"
+    place.site()
+    for some, options, status, lines in ((window, (), 0, LISTED), ((*window, (0.6, joined)), ("--no-fold",), 1, None),
+                                         ((*window, (0.6, joined)), (), 0, [*LISTED, p.wants("239.2.2.2").hex()])):
+        before = place.read("site/igmp-l1")
+        live(place, some, "echo 3 packets captured >&2")
+        assert place.run(*words, *options) == status, place.said
+        after = place.read("site/igmp-l1")
+        assert after == before if lines is None else after.splitlines() == lines, (after, place.said)
+
+
+@line("A draft leaves services out")
+def drafts_without_services(place):
+    """It has them as comments, and --update prints them where the topology lists a flow of their group."""
+    router(place, (S, "239.255.255.250"), (S, "239.1.1.1"))
+    assert drafted(place, "--ttl", "4")[0] == 0 and place.topology["flow"] == [
+        {"source": S, "group": "239.1.1.1", "ttl": 4}], place.topology
+    assert drafted(place, "--ttl", "4", "--update")[0] == 0 and "+ flow" not in place.said, place.said
+    text = place.read("site/topology").replace("\nflow = [\n", '\nflow = [\n{source = "%s", group = "239.255.255.250", '
+                                               'ttl = 4},\n' % S)
+    place.write("site/topology", text)
+    router(place, (S, "239.255.255.250"), (T, "239.255.255.250"), (S, "239.1.1.1"))
+    assert drafted(place, "--ttl", "4", "--update")[0] == 1, place.said
+    assert f'+ flow {{source = "{T}", group = "239.255.255.250", ttl = 4}}' in place.said, place.said
 
 
 @line("The tools want Python")

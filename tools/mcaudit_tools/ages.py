@@ -1,10 +1,11 @@
 """How old what is judged is: the tables of routers, their facts, and the LANs' lists of reports."""
 import contextlib
 import os
-import time
 
 from mcaudit_tools import origins
+from mcaudit_tools.common import Failed, say
 
+UNITS = ("days", 86400), ("h", 3600), ("min", 60)  # the longest first, each with its seconds
 LATER = -1  # stands for a time too far ahead, which can't be believed: it is older than all others
 
 
@@ -15,6 +16,7 @@ class Ages:
         """Takes the set's folder, which is read at once, what is told of its files, and the names of what is judged;
         all, where that isn't known."""
         judged, entries = {"vif": routers, "cache": routers, "facts": routers, "igmp": lans}, []
+        self.judged = judged  # by kind
         self.files = {kind: [] for kind in judged}  # of each kind, whose file it is, and where it comes from
         with contextlib.suppress(OSError):
             is_copied = origins.is_copy(folder, known)
@@ -24,6 +26,17 @@ class Ages:
             if kind in judged and (judged[kind] is None or name in judged[kind]):
                 with contextlib.suppress(OSError):
                     self.files[kind].append((name, origins.current(entry.path, known.get(entry.name), is_copied)))
+
+    @classmethod
+    def of_set(cls, folder, named, routers, lans):
+        """Returns the ages of a set that has this name. Where its collected.json can't be read that is told, and each
+        file is as old as itself."""
+        known = {}
+        try:
+            known = origins.read(folder, named)
+        except Failed as fault:
+            say(str(fault))
+        return cls(folder, known, routers, lans)
 
     def times(self, *kinds):
         """Returns for each name when the oldest of its files of these kinds was written, in Unix seconds, by name;
@@ -51,18 +64,29 @@ class Ages:
         """Returns the LANs whose lists an operator decided."""
         return sorted({name for name, it in self.files["igmp"] if it.by == origins.STATIC})
 
-    def sentences(self):
-        """Returns how old the oldest of the tables, of the lists and of the facts are, and which lists were decided."""
-        now, found = time.time(), []
-        for what, times in (("tables", self.tables()), ("reports", self.reports()), ("facts", self.facts())):
-            if LATER in times.values():
-                found.append(f"{what} of a later time than now")
-            elif times:
-                found.append(f"{what} {age_of(min(times.values()), now)} s old")
-        decided = self.decided()
-        return found + ([f"decided, not gathered: {' '.join(decided)}"] if decided else [])
+    def believed(self):
+        """Returns the LANs whose lists a daemon or a bridge of a router believes."""
+        return sorted({name for name, it in self.files["igmp"]
+                       if it.by in (origins.DAEMON, origins.BRIDGE) and origins.NOT_ASKED not in it.unchecked})
+
+    def not_asked(self):
+        """Returns the LANs whose lists are empty since no router there asks hosts."""
+        return sorted({name for name, it in self.files["igmp"] if origins.NOT_ASKED in it.unchecked})
+
+    def unknown(self, *kinds):
+        """Returns the names of what is judged of which a file of these kinds can't be seen."""
+        return sorted({name for kind in kinds for name in self.judged[kind] or ()
+                       if name not in {it for it, _ in self.files[kind]}})
 
 
 def age_of(when, now):
     """Returns how many seconds ago that was; 0 where it is still to come."""
     return max(0, int(now - when))
+
+
+def age_text(seconds):
+    """Returns an age in the longest unit of which it has at least two, rounded down."""
+    for unit, length in UNITS:
+        if seconds >= 2 * length:
+            return f"{seconds // length} {unit}"
+    return f"{seconds} s"

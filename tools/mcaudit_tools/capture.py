@@ -16,6 +16,7 @@ ALL_HOSTS_MAC = bytes([1, 0, 0x5E, 0, 0, 1])
 IPV4, TAGS = 0x0800, (0x8100, 0x88A8, 0x9100)
 ETHERNET, RAW, COOKED, COOKED_2 = 1, (12, 14, 101, 228), 113, 276
 HARDWARE_ETHERNET, HARDWARE_LOOPBACK = 1, 772  # of cooked frames (ARPHRD)
+HARDWARE_LENGTH = b"\0\x06"  # of an address, as cooked frames have it
 TO_ALL, OWN = 2, 4  # packet types of cooked frames: multicast, and sent by this machine
 OF_ANY = "the capture is of all interfaces (any), and a list is of one LAN: capture on its interface"
 SECOND = 1_000_000_000  # times are whole nanoseconds
@@ -37,6 +38,8 @@ class Frame:
     vlans: list = dataclasses.field(default_factory=list)  # the numbers of its tags
     interface: "int | None" = None  # of those that the capture has
     line: "int | None" = None  # of a text
+    hardware: "bytes | None" = None  # the hardware address that sent it, where the link has them
+    target: "bytes | None" = None  # that to which it was sent, where the capture has it
 
 
 class Decoder:
@@ -219,14 +222,22 @@ def frame_of(link, time, data):
     if link in RAW:
         return Frame(time, data if data[:1] and data[0] >> 4 == 4 else b"")
     if link == ETHERNET:
-        return untagged(Frame(time, is_to_all=data[:6] == ALL_HOSTS_MAC), data[12:])
+        return untagged(Frame(time, is_to_all=data[:6] == ALL_HOSTS_MAC, hardware=data[6:12] or None,
+                              target=data[:6]), data[12:])
     if link == COOKED:
         kind, hardware = struct.unpack_from("!HH", data.ljust(4, b"\xff"))
         if hardware in (HARDWARE_ETHERNET, HARDWARE_LOOPBACK):
             raise Broken(OF_ANY)
-        return untagged(Frame(time, is_to_all=kind in (TO_ALL, OWN)), data[14:])
+        return untagged(Frame(time, is_to_all=kind in (TO_ALL, OWN), hardware=cooked_address(data[4:14])), data[14:])
     index, kind = struct.unpack_from("!I2xB", data.ljust(11, b"\xff"), 4)
-    return untagged(Frame(time, is_to_all=kind in (TO_ALL, OWN), interface=index), data[:2] + data[20:])
+    return untagged(Frame(time, is_to_all=kind in (TO_ALL, OWN), interface=index, hardware=cooked_address(
+        b"\0" + data[11:20])), data[:2] + data[20:])
+
+
+def cooked_address(data):
+    """Returns the address of the sender's hardware, of its length and of what has room for it; None where it is no
+    such one."""
+    return data[2:8] if data[:2] == HARDWARE_LENGTH and len(data) == 10 else None
 
 
 def untagged(frame, data):

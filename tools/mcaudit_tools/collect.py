@@ -7,16 +7,18 @@ A read of ip_mr_cache gives about 4 KB at a time. Where rows are deleted between
 the while can slip through. So each router is read until two readings one after the other are equal, counters aside.
 Some routers are read side by side: the sooner all are read, the less their tables can change in between.
 """
-import concurrent.futures
-import dataclasses
+import functools
 import os
 import sys
 import threading
-import time
 
 from mcaudit_tools import answers, facts, origins, topology, ways
-from mcaudit_tools.common import Ended, Failed, Parser, Wrong, printable, say
-from mcaudit_tools.programs import RUNNING, run
+from mcaudit_tools.believed import Options, by_place, devices_of, judge_until, lans_of
+from mcaudit_tools.common import Ended, Failed, Parser, Wrong, printable, say, tell_lines
+from mcaudit_tools.daemon import Belief
+from mcaudit_tools.gather import files_of, tell_empty
+from mcaudit_tools.programs import RUNNING, side_by_side
+from mcaudit_tools.reading import Collected, Reading
 from mcaudit_tools.sets import Site
 
 ABOUT = """Brings the multicast tables of each router NAME into SITE, as vif-NAME and cache-NAME.
@@ -60,25 +62,17 @@ OPTIONS = [
      "judges (rp_filter, links, filters, counters ..; as root it has the filters), and those of the last set as "
      "earlier-NAME; addresses and routes for mcaudit-draft, as address-NAME and route-NAME. What a router has not is "
      "left out"),
+    ("--from-daemon", None, "bring the lists of the LANs too, right behind the tables, as the routers' daemons believe "
+     "them (FRR's pimd, by vtysh): mcaudit-reports --help says when one counts. A LAN without keeps its last list, and "
+     "is named"),
+    ("--empty-lan", "LAN", "with --from-daemon, write an empty list of this LAN too; may be given again for another "
+     "one"),
     ("--shell", "NAME", "collect nothing: run a shell on the router NAME by its way, with this standard input and "
      "output")]
 FILES = {  # the tables that a set has
     "ip_mr_vif": "vif", "ip_mr_cache": "cache", "route": "route", "address": "address"}
 
 PRINTING = threading.Lock()
-
-
-@dataclasses.dataclass
-class Collected:
-    """What came of a router: why it is missing, or where its tables are."""
-
-    fault: "str | None" = None
-    sentences: list = dataclasses.field(default_factory=list)  # what the way to it said
-    line: str = ""
-    folder: str = ""
-    time: int = 0
-    facts_time: int = 0
-    identity: "bytes | None" = None  # the boot and the network namespace, where the router says them
 
 
 # The arguments
@@ -89,9 +83,11 @@ def read_arguments():
                     usage="mcaudit-collect [option ...] SITE [NAME=WAY ...]\n"
                           "       mcaudit-collect [option ...] --shell NAME [NAME=WAY ...]")
     parser.add_argument("words", nargs="*", metavar="SITE [NAME=WAY ...]", help="the folder, and the routers")
-    parser.add_options(OPTIONS)
+    parser.add_options(OPTIONS, ["--empty-lan"])
     parser.add_version()
     found = parser.parse_intermixed_args()
+    if found.empty_lan and not found.from_daemon:
+        parser.error("--empty-lan goes with --from-daemon")
     found.ssh = ways.SSH if found.ssh is None else found.ssh
     take_words(parser, found)
     return found
@@ -114,117 +110,62 @@ def take_words(parser, found):
         parser.error(f"{found.shell} is none of the routers")
 
 
-# One router
+# All routers
 
-class Reading:
-    """The readings of one router, in a folder of its own."""
+class Collection:
+    """All routers, collected side by side: once, or where lists are held back once more."""
 
-    def __init__(self, words, router, folder):
-        """Takes the arguments, the router and the folder, which it makes."""
-        self.words, self.router, self.folder = words, router, folder
-        self.sentences, self.deadline = [], 0.0
-        os.makedirs(folder)
-
-    def ask(self, tables):
-        """Asks the router for these tables, for at most the time that a reading has, in which all has to be done with
-        the answer too. Returns what is wrong, or None."""
-        word, path = answers.random_word(), os.path.join(self.folder, "answer")
-        self.deadline = time.monotonic() + self.words.timeout
-        try:
-            with open(path, "wb") as file:
-                came = run(self.router.shell(self.words.ssh), answers.questions(word, tables), self.words.timeout,
-                           answers.MOST_ANSWER, file)
-            self.sentences = came.sentences()
-            if came.is_long:
-                return f"the answer has more than {answers.MOST_ANSWER} bytes"
-            if came.is_late:
-                raise answers.Late("late")
-            with open(path, "rb") as file:
-                return answers.Answer(file, word, tables, self.folder, self.deadline).fault()
-        except answers.Late:
-            return f"no whole answer in {self.words.timeout} s"
-        finally:
-            os.unlink(path)
+    def __init__(self, words, scratch, listed):
+        """Takes the arguments, the folder in which the set is made, and what the topology lists, where that is
+        needed."""
+        self.words, self.scratch, self.listed, self.count, self.found = words, scratch, listed, 0, {}
 
     def collect(self):
-        """Reads the router until two readings are equal. Returns what came of it."""
-        earlier = None
-        for count in range(1, self.words.readings + 1):
-            if count > 1:
-                RUNNING.rest(self.words.pause)
-            fault = self.ask(answers.TABLES)
-            if fault:
-                return Collected(fault, self.sentences)
-            when = int(time.time())
-            try:
-                shape = answers.shape_of(self.folder, self.deadline)
-                if shape == earlier:
-                    vifs, rows = (answers.rows_of(os.path.join(self.folder, it), self.deadline)
-                                  for it in answers.TABLES[:2])
-                    order = answers.order_of(os.path.join(self.folder, "igmp"), self.deadline)
-                    return self.ask_more(Collected(line=f"vifs {vifs}, rows {rows}, readings {count}, {order}",
-                                                   folder=self.folder, time=when))
-            except answers.Late:
-                return Collected(f"no whole answer in {self.words.timeout} s")
-            earlier = shape
-        return Collected(f"did not hold still in {self.words.readings} readings")
+        """Collects all routers."""
+        self.count += 1
+        folder = os.path.join(self.scratch, f"routers-{self.count}")
+        works = {it.name: functools.partial(self.collect_router, it, folder) for it in self.words.all}
+        self.found = side_by_side(works, self.words.at_once)
+        refuse_twins(self.words, self.found)
 
-    def ask_more(self, found):
-        """Asks for what goes beyond the three tables, which a key that is restricted to them doesn't answer."""
-        wanted = answers.FACTS if self.words.facts else ()
-        if len(self.words.all) > 1 or wanted:
-            fault = self.ask((*wanted, *answers.IDENTITY))
-            if fault and wanted:
-                return Collected(fault, self.sentences)
-            if not fault:
-                parts = [self.identity_part(it) for it in answers.IDENTITY]
-                found.identity = b" ".join(parts) if all(parts) else None
-        if wanted:
-            found.facts_time = facts.ask(self.words, self.router, self.folder)
+    def collect_router(self, router, folder):
+        """Collects one router, and prints what came of it."""
+        devices = devices_of(self.listed, router.name) if self.listed else []
+        with self.words.site.failing():
+            found = Reading(self.words, router, os.path.join(folder, router.name), devices).collect()
+        if RUNNING.ended.is_set():
+            raise Ended
+        if found.fault:
+            with PRINTING:
+                for sentence in (found.fault, *found.sentences):
+                    print(f"{router.name}: {sentence}", file=sys.stderr, flush=True)
+        else:
+            show(self.words, f"{router.name}: {found.line}")
         return found
 
-    def identity_part(self, name):
-        """Returns the first word of what the router says of itself, or nothing."""
-        with open(os.path.join(self.folder, name), "rb") as file:
-            return b"".join(file.read(256).split()[:1])
+    def beliefs(self):
+        """Collects all routers. Returns what their daemons believe, by router and device."""
+        self.collect()
+        missing = Belief(reason="its tables were not collected")
+        return by_place({name: one.beliefs if not one.fault else dict.fromkeys(devices_of(self.listed, name), missing)
+                         for name, one in self.found.items()})
 
-
-def collect_router(words, router, scratch):
-    """Collects one router, and prints what came of it."""
-    with words.site.failing():
-        found = Reading(words, router, os.path.join(scratch, "routers", router.name)).collect()
-    if RUNNING.ended.is_set():
-        raise Ended
-    if found.fault:
-        with PRINTING:
-            for sentence in (found.fault, *found.sentences):
-                print(f"{router.name}: {sentence}", file=sys.stderr, flush=True)
-    else:
-        show(words, f"{router.name}: {found.line}")
-    return found
+    def lists(self):
+        """Collects all routers, and makes the lists of their LANs. Returns the LANs."""
+        names = self.words.empty_lan or ()
+        lans = lans_of(self.listed, lambda name: Options(name in names, f"--empty-lan {name}", is_named=name in names))
+        judge_until(lans, self.words.site.folder(), self.beliefs)
+        for lan in lans:
+            with self.words.site.failing(), PRINTING:
+                tell_lines(lan.name, [*lan.answers, *lan.sentences], lan.answers)
+        tell_empty("--empty-lan", [it.name for it in lans if it.list.is_decided])
+        return lans
 
 
 def show(words, line):
     """Prints a line, as long as that can be."""
     with words.site.failing(), PRINTING:
         print(printable(line), flush=True)
-
-
-# All routers
-
-def collect_all(words, scratch):
-    """Collects all routers, at most so many side by side. Returns what came of each, by name."""
-    with concurrent.futures.ThreadPoolExecutor(words.at_once) as pool:
-        running = {it.name: pool.submit(collect_router, words, it, scratch) for it in words.all}
-        try:
-            for one in concurrent.futures.as_completed(running.values()):
-                one.result()
-        except BaseException:
-            for one in running.values():
-                one.cancel()
-            RUNNING.end_all()
-            raise
-    return {name: one.result() for name, one in running.items()}
 
 
 def refuse_twins(words, found):
@@ -275,12 +216,14 @@ def unlisted_of(words, folder):
     return [it.name for it in words.all if listed and it.name not in listed]
 
 
-def publish(words, found, scratch):
+def publish(words, found, lans, scratch):
     """Makes the new set. Returns whether all routers are in it, and in its topology."""
     missing = [name for name, one in found.items() if one.fault]
     count = f"{len(words.all) - len(missing)} of {len(words.all)} routers collected"
     replaced = (*(f"{FILES[it]}-" for it in tables_of(words)), *(facts.PREFIXES if words.facts else ()))
-    folder = words.site.publish(new_files(words, found), lambda it: it.startswith(replaced), scratch,
+    with words.site.failing():
+        files = {**new_files(words, found), **files_of(lans, scratch)}
+    folder = words.site.publish(files, lambda it: it.startswith(replaced), scratch,
                                 lambda folder: show(words, f"{count}: {folder}"))
     if missing:
         say(f"not collected: {' '.join(missing)}")
@@ -301,6 +244,9 @@ def main():
             words.site.adopt()
         if not words.all:
             return 0
-        found = collect_all(words, scratch)
-        refuse_twins(words, found)
-        return 0 if publish(words, found, scratch) else 1
+        listed = topology.read_topology(words.site.folder(), words.site.path) if words.from_daemon else None
+        if listed:
+            topology.check_lans(listed, {"--empty-lan": words.empty_lan})
+        collection = Collection(words, scratch, listed)
+        lans = collection.lists() if listed else collection.collect() or []
+        return 0 if publish(words, collection.found, lans, scratch) else 1

@@ -47,6 +47,12 @@ def say(sentence):
     print(f"{PROGRAM.name}: {clean(sentence)}", file=sys.stderr, flush=True)
 
 
+def tell_lines(name, sentences, answers):
+    """Tells what is so of one name, and the sentences that are answers as such."""
+    for sentence in sentences:
+        print(clean(f"{name}: {sentence}"), file=sys.stdout if sentence in answers else sys.stderr, flush=True)
+
+
 def clean(text, without=""):
     """Returns the text in printable characters of ASCII, each other one and each of those to be without as `?`."""
     return "".join(it if " " <= it <= "~" and it not in without else "?" for it in text)
@@ -60,6 +66,11 @@ def printable(text):
 def clean_lines(data):
     """Returns the lines of bytes that another program wrote, each of them clean."""
     return [clean(it) for it in data.decode("ascii", "replace").replace("\r", "").split("\n") if it]
+
+
+def from_hex(digits):
+    """Returns the bytes of hexadecimal digits; that there are none of them is a ValueError."""
+    return bytes.fromhex(digits.decode())
 
 
 def cut(text, most):
@@ -113,6 +124,13 @@ class Parser(argparse.ArgumentParser):
             unit = "whole seconds, " if value == "SECONDS" else ""
             more = {"type": whole_number(*number[:2], unit), "default": number[2]} if number else {}
             self.add_argument(option, action=how, help=about, **({"metavar": value} if value else {}), **more)
+
+    def print_help(self, file=None):
+        """Prints the help. That a long one can't be written, argparse itself leaves aside."""
+        try:
+            print(self.format_help(), end="", file=file)
+        except OSError as fault:
+            raise Failed(f"standard output can't be written: {fault.strerror}") from fault
 
     def error(self, message):
         """Tells what is wrong."""

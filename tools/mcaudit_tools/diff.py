@@ -289,6 +289,11 @@ def tell(whose, change, was, now):
     return f"{kind} {name}: {change_text(change, was, now)}"
 
 
+def object_of(whose, change, was, now):
+    """Returns a change as an object of JSON."""
+    return {**whose, "change": change, "was": was, "now": now}
+
+
 def read_arguments():
     """Reads the arguments."""
     parser = Parser(description=ABOUT, epilog=MORE)
@@ -307,9 +312,7 @@ def main():
         say("only the lowest sources and groups that are no flow's are compared: --unlisted tells all")
     changes = faults_first(all_changes(old, new))
     with printing():
-        for whose, change, was, now in changes:
-            line = {**whose, "change": change, "was": was, "now": now}
-            print(json.dumps(line, sort_keys=True, separators=(",", ":")) if words.json else
-                  tell(whose, change, was, now))
+        for it in changes:
+            print(json.dumps(object_of(*it), sort_keys=True, separators=(",", ":")) if words.json else tell(*it))
         sys.stdout.flush()
     return 1 if changes else 0

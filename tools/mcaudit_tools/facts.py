@@ -16,6 +16,7 @@ from mcaudit_tools.common import Failed
 from mcaudit_tools.files import PIECE, open_regular
 from mcaudit_tools.programs import run
 
+SCRIPTS = "sections.sh", "facts.sh"  # what a router is asked by
 PREFIXES = PREFIX, EARLIER = "facts-", "earlier-"  # of the facts of a set, and of those before them
 MOST_SECTION = 4 << 20  # bytes
 MOST_TOLD = 8 << 20  # bytes of what a daemon answers
@@ -109,23 +110,34 @@ def check_time(deadline):
         raise Late("late")
 
 
+def script(word, *names):
+    """Returns what the shell on a router is handed: the random word, and then the texts of what it runs."""
+    return b"word=" + word + b"\n" + b"".join(map(script_of, names))
+
+
+def take_answer(came, answer, word, target, seconds, until):
+    """Takes the sections of the rest of an open answer, which had so many seconds, into a file until then, whatever
+    came."""
+    sections, late = Sections(target), f"no whole answer in {seconds} s"
+    cut = "the answer is too large" if came.is_long else late if came.is_late else None
+    try:
+        reason = take_sections(answer, word, sections, until)
+    except Late:
+        reason = late
+    if reason:
+        sections.fail(cut or reason)
+    target.write(b"@" + END.encode() + b"\n")
+
+
 def ask(words, router, folder):
     """Asks a router for its facts, for at most the time that a reading has, and writes them into the folder, whatever
     comes of it. Returns when that was, in Unix seconds."""
     word, answer = random_word().encode(), os.path.join(folder, "facts.answer")
-    deadline, late = time.monotonic() + words.timeout, f"no whole answer in {words.timeout} s"
+    until = time.monotonic() + words.timeout + TAKING
     with open(answer, "wb") as file:
-        came = run(router.shell(words.ssh), b"word=" + word + b"\n" + script_of("facts.sh"), words.timeout, MOST_ANSWER,
-                   file)
+        came = run(router.shell(words.ssh), script(word, *SCRIPTS), words.timeout, MOST_ANSWER, file)
     with open(answer, "rb") as file, open(os.path.join(folder, "facts"), "w+b") as target:
-        sections = Sections(target)
-        try:
-            reason = take_sections(file, word, sections, deadline + TAKING)
-        except Late:
-            reason = late
-        if reason:
-            sections.fail(late if came.is_late else reason)
-        target.write(b"@" + END.encode() + b"\n")
+        take_answer(came, file, word, target, words.timeout, until)
     os.unlink(answer)
     return int(time.time())
 

@@ -1,50 +1,9 @@
 # What a router's multicast tables don't show, printed for `mcaudit-collect --facts`. It reads and changes nothing; sh,
 # cat and the commands of BusyBox are enough, and what can't be had is left out or has the line `!` and the reason. As
 # root it shows the filters too. Each section begins with a line `@NAME`, and each line of it with a blank, so that no
-# text of the router can look like a section. The variable word is set by whoever sends this.
+# text of the router can look like a section. The variable word is set by whoever sends this, behind sections.sh.
 # shellcheck shell=sh
 : "${word:=}"
-LC_ALL=C
-PATH=$PATH:/sbin:/usr/sbin:/usr/local/sbin
-export LC_ALL PATH
-set -f
-most=4194305 # bytes of a section, and one
-most_told=8388609 # bytes of what a daemon answers, and one
-
-has() { command -v "$1" > /dev/null 2>&1; }
-
-# Lets so many bytes of its input through.
-if [ "$(echo word | head -c 2 2> /dev/null)" = wo ]; then
-    bounded() { head -c "$1"; }
-else
-    bounded() { cat; }
-fi
-# Puts a blank before each line.
-if has sed; then
-    indented() { sed 's/^/ /'; }
-else
-    indented() { while IFS= read -r line; do printf ' %s\n' "$line"; done; }
-fi
-# Ends what may wait for ever.
-if has timeout; then
-    limited() { timeout 10 "$@"; }
-else
-    limited() { "$@"; }
-fi
-
-# The section of this name: what the further words print, or why not.
-section() {
-    echo "@$1"
-    shift
-    { { "$@" < /dev/null 2> /dev/null || printf '\n!%s\n' "$?"; } | bounded "$most"; echo; } | indented
-}
-told() {
-    whole=$most
-    most=$most_told
-    section "$@"
-    most=$whole
-}
-file() { [ -r "$1" ] && cat "$1"; }
 
 # One file a line, PATH and value; what can't be read has no line. The shell's own read won't do: it reads byte by byte,
 # and a file below /proc/sys gives nothing after the first one.
@@ -158,7 +117,6 @@ older_rules() {
 }
 # Queueing that filters or loses packets.
 queues() { tc qdisc show | grep -e ' ingress ' -e ' clsact ' -e ' netem '; true; }
-asked() { limited vtysh -c "$1"; }
 
 order=little
 ! grep -qs E0000001 /proc/net/igmp || order=big

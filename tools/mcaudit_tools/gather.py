@@ -2,18 +2,18 @@
 import contextlib
 import os
 import resource
-import sys
 import threading
 import time
 
 from mcaudit_tools import origins
-from mcaudit_tools.common import Ended, Failed, clean, say
+from mcaudit_tools.common import Ended, Failed, say, tell_lines
 from mcaudit_tools.files import beside, write_beside
 from mcaudit_tools.live import Task, capture_list
 from mcaudit_tools.programs import RUNNING
 from mcaudit_tools.session import NoCapture
 from mcaudit_tools.sets import Site, record, site_of
-from mcaudit_tools.topology import read_topology
+from mcaudit_tools.speakers import Listed, Speakers
+from mcaudit_tools.topology import check_lans, read_routers, read_topology
 from mcaudit_tools.window import NO_LIST, WRITTEN, List
 from mcaudit_tools.ways import SSH
 
@@ -46,6 +46,7 @@ class Lan:
         self.words, self.name, self.places, self.statics = words, name, places, statics
         self.sentences = ["no router of the topology has an interface on it"]
         self.list, self.router, self.time, self.fault = List(NO_LIST), None, 0, None
+        self.speakers, self.own = Speakers(), set()  # who speaks as a router there, and by which addresses it is asked
 
     def is_empty_named(self):
         """Whether an empty list of it is allowed by its name."""
@@ -85,31 +86,24 @@ class Lan:
         return Task(self.words, way.shell(self.words.ssh or SSH), device, self.statics,
                     lambda sentence: self.say_of(router, device, sentence),
                     self.words.empty or self.is_empty_named(), f"--empty-lan {self.name}",
-                    self.words.ask and others < 2, others if others > 1 else None)
+                    self.words.ask and others < 2, others if others > 1 else None, self.speakers, self.own)
 
     def say_of(self, router, device, sentence):
         """Keeps what is said, but for what is of use only meanwhile."""
         if not sentence.startswith("waiting on ") and ": its answers have " not in sentence:
             self.sentences.append(f"{router} {device}: {sentence}")
 
-    def tell(self):
+    def tell(self, listed):
         """Tells what came of it: of a list that is whole, how many reports it has, as an answer."""
-        for sentence in [*self.sentences, *([str(self.fault)] if self.fault else [])]:
-            is_answer = self.list.status == WRITTEN and ": query of " in sentence and ": reports " in sentence
-            print(clean(f"{self.name}: {sentence}"), file=sys.stdout if is_answer else sys.stderr, flush=True)
+        answers = [it for it in self.sentences if self.list.status == WRITTEN and ": query of " in it
+                   and ": reports " in it]
+        strangers = [] if listed.missing else self.speakers.sentences(listed, self.own)
+        tell_lines(self.name, [*self.sentences, *([str(self.fault)] if self.fault else []), *strangers], answers)
 
     def origin(self):
         """Returns where its list comes from."""
         by = origins.STATIC if self.list.is_decided else origins.CAPTURE
         return origins.Origin(by, self.router, self.time, self.list.unchecked)
-
-
-def check_lans(words, lans):
-    """Fails where an option names a LAN that the topology doesn't have."""
-    for option, names in (("--static", words.statics), ("--empty-lan", words.empty_lan or ())):
-        for name in names:
-            if name not in lans:
-                raise Failed(f"{option}: the topology has no LAN {name}", 5)
 
 
 def allow_files():
@@ -120,7 +114,7 @@ def allow_files():
             resource.setrlimit(resource.RLIMIT_NOFILE, (MOST_FILES if most < 0 else min(most, MOST_FILES), most))
 
 
-def gather_side_by_side(lans):
+def gather_side_by_side(lans, listed):
     """Gathers all lists, some more each second, and tells of each what came of it."""
     allow_files()
     threads = []
@@ -132,7 +126,19 @@ def gather_side_by_side(lans):
     for thread, lan in zip(threads, lans):
         while thread.is_alive():
             thread.join(0.5)
-        lan.tell()
+        lan.tell(listed)
+
+
+def files_of(lans, folder):
+    """Writes the lists of LANs that are whole into a folder. Returns the files that a set has of them: where each lies,
+    and where it comes from."""
+    new = {}
+    for lan in (it for it in lans if it.list.status == WRITTEN):
+        path = os.path.join(folder, f"igmp-{lan.name}")
+        with open(path, "wb") as file:
+            file.write(text_of(lan.list.messages))
+        new[f"igmp-{lan.name}"] = path, lan.origin()
+    return new
 
 
 def publish(site, lans, scratch):
@@ -141,13 +147,7 @@ def publish(site, lans, scratch):
     if not whole:
         return
     if os.path.islink(site.path):
-        new = {}
-        for lan in whole:
-            path = os.path.join(scratch, f"igmp-{lan.name}")
-            with open(path, "wb") as file:
-                file.write(text_of(lan.list.messages))
-            new[f"igmp-{lan.name}"] = path, lan.origin()
-        site.publish(new, lambda name: False, scratch, lambda folder: None)
+        site.publish(files_of(lans, scratch), lambda name: False, scratch, lambda folder: None)
         return
     with site.writing():
         for lan in whole:
@@ -179,10 +179,35 @@ def gather_all(words):
     site = Site(words.all)
     topology = read_topology(site.folder(), site.path)
     names = list(dict.fromkeys(topology.lans))
-    check_lans(words, names)
+    check_lans(topology, {"--static": words.statics, "--empty-lan": words.empty_lan})
     lans = [Lan(words, name, [(router, device) for lan, router, device in topology.interfaces if lan == name],
                 words.statics.get(name, [])) for name in names]
-    gather_side_by_side(lans)
+    listed = Listed(site.folder(), topology.routers)
+    gather_side_by_side(lans, listed)
+    unknown = listed.sentence([(it.name, it.speakers, it.own) for it in lans])
+    if unknown:
+        say(unknown)
+    return finish(site, lans)
+
+
+def tell_strangers(words, task):
+    """Names who speaks as a multicast router and is no listed one, where the list goes into a site that says which
+    are."""
+    site = site_of(os.path.dirname(words.o)) if words.o else None
+    if site is None or not os.path.lexists(os.path.join(site.folder(), "topology")):
+        return
+    try:
+        listed = Listed(site.folder(), read_routers(site.folder(), site.path))
+    except Failed as fault:
+        say(f"whether all who speak as multicast routers are listed isn't known: {fault}")
+        return
+    unknown = listed.sentence([(words.device or "the LAN", task.speakers, task.own)])
+    for sentence in [unknown] * bool(unknown) if listed.missing else task.speakers.sentences(listed, task.own):
+        say(sentence)
+
+
+def finish(site, lans):
+    """Puts the lists into the site, and tells how many there are. Returns the status."""
     if os.path.islink(site.path):
         with site.scratch() as scratch:
             publish(site, lans, scratch)

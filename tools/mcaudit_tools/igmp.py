@@ -1,6 +1,7 @@
 """IGMP messages (RFC 1112, 2236, 3376) and the IPv4 packets that carry them."""
 import dataclasses
 import ipaddress
+import re
 import struct
 import typing
 
@@ -10,15 +11,48 @@ REPORTS = REPORT_1, REPORT_2, REPORT_3
 IGMP = 2  # the protocol in IPv4
 ALL_HOSTS = bytes([224, 0, 0, 1])
 FIRST_FORWARDED = bytes([224, 0, 1, 0])  # groups below are never forwarded (RFC 5771, section 4)
+BEHIND_GROUPS = bytes([240, 0, 0, 0])  # the first address that is no group's any more
 SSM = 232  # the first number of the source-specific groups (RFC 4607)
-EXCLUDE = 2  # the record type MODE_IS_EXCLUDE
+INCLUDE, EXCLUDE = 1, 2  # the record types MODE_IS_INCLUDE and MODE_IS_EXCLUDE
 CURRENT, CHANGES = (1, 2), (3, 4, 5, 6)  # record types (RFC 3376, section 4.2.12)
 LEAST_MESSAGE = 8
+TO_INCLUDE, TO_EXCLUDE, ALLOW, BLOCK = CHANGES
+DOTTED = re.compile(r"(?:0|[1-9][0-9]{0,2})(?:\.(?:0|[1-9][0-9]{0,2})){3}")
 
 
 def dotted(address):
     """Returns an address of four bytes as text."""
     return str(ipaddress.IPv4Address(address))
+
+
+def address_of(text):
+    """Returns the address of four bytes that a text is, or None."""
+    try:
+        return ipaddress.IPv4Address(text).packed if DOTTED.fullmatch(text) else None
+    except ValueError:
+        return None
+
+
+def is_host(address):
+    """Whether an address may be a host's."""
+    return 0 < address[0] < 224 and address[0] != 127
+
+
+def is_forwarded(group):
+    """Whether an address is a group's that routers forward."""
+    return FIRST_FORWARDED <= group < BEHIND_GROUPS
+
+
+def host_of(text):
+    """Returns the address of a host that a text is, or None."""
+    found = address_of(text)
+    return found if found and is_host(found) else None
+
+
+def group_of(text):
+    """Returns the address of a group that routers forward which a text is, or None."""
+    found = address_of(text)
+    return found if found and is_forwarded(found) else None
 
 
 def sum_of(data):
@@ -105,11 +139,31 @@ def tenths_to_answer(query):
     return code if code < 128 else (code & 15 | 16) << ((code >> 4 & 7) + 3)
 
 
+def mac_of(group):
+    """Returns the MAC to which a group's packets are sent (RFC 1112, section 6.4)."""
+    return bytes([1, 0, 0x5E, group[1] & 127]) + group[2:]
+
+
+def group_asked(query):
+    """Returns the group that a whole query asks for, with or without sources; None where that is none."""
+    return query[4:8] if query[0] == QUERY and 224 <= query[4] < 240 else None
+
+
+def is_without_sources(query):
+    """Whether a whole query asks for no sources."""
+    return len(query) < 12 or query[10:12] == bytes(2)
+
+
 class Record(typing.NamedTuple):
     """A group record of a report."""
 
     kind: int
     group: bytes
+    sources: bytes = b""  # four of each
+
+    def addresses(self):
+        """Returns its sources."""
+        return [self.sources[at:at + 4] for at in range(0, len(self.sources), 4)]
 
 
 def records_of(report):
@@ -118,21 +172,27 @@ def records_of(report):
     for number in range(1, int.from_bytes(report[6:8], "big") + 1):
         if at + 8 > len(report):
             return found, number
-        end = at + 8 + 4 * int.from_bytes(report[at + 2:at + 4], "big") + 4 * report[at + 1]
+        sources_end = at + 8 + 4 * int.from_bytes(report[at + 2:at + 4], "big")
+        end = sources_end + 4 * report[at + 1]
         if end > len(report):
             return found, number
-        found.append(Record(report[at], report[at + 4:at + 8]))
+        found.append(Record(report[at], report[at + 4:at + 8], report[at + 8:sources_end]))
         at = end
     return found, None
 
 
+def all_records(message):
+    """Returns the records of a message of any version, of which a report of version 1 or 2 has one (RFC 3376, section
+    7.3.2); none, where it is no report."""
+    if message[0] in (REPORT_1, REPORT_2):
+        return [Record(EXCLUDE, message[4:8])]
+    return records_of(message)[0] if message[0] == REPORT_3 else []
+
+
 def groups_of(report):
     """Yields each group of a report, and whether all its sources are asked for."""
-    if report[0] == REPORT_3:
-        for record in records_of(report)[0]:
-            yield record.group, record.kind == EXCLUDE
-    else:
-        yield report[4:8], True
+    for record in all_records(report):
+        yield record.group, record.kind == EXCLUDE
 
 
 def is_of_current_state(report):
@@ -140,8 +200,23 @@ def is_of_current_state(report):
     return report[0] != REPORT_3 or any(it.kind in CURRENT for it in records_of(report)[0])
 
 
+def summed(kind, rest):
+    """Returns a message of this type, with the checksum of all of it."""
+    head = bytes([kind, 0])
+    return head + sum_of(head + bytes(2) + rest).to_bytes(2, "big") + rest
+
+
+def state_report(mode, group, sources=()):
+    """Returns the report of a host of version 3 whose current state of a group this is."""
+    return message_of([Record(mode, group, b"".join(sources))])
+
+
 def report_of(group, source=None):
     """Returns the report of a host of version 3 that wants a group, of all sources or of one."""
-    record = bytes([EXCLUDE, 0, 0, 0]) + group if source is None else bytes([1, 0, 0, 1]) + group + source
-    head = bytes([REPORT_3, 0]), bytes([0, 0, 0, 1])
-    return head[0] + sum_of(head[0] + bytes(2) + head[1] + record).to_bytes(2, "big") + head[1] + record
+    return state_report(EXCLUDE, group) if source is None else state_report(INCLUDE, group, [source])
+
+
+def message_of(records):
+    """Returns the report of version 3 that has these records."""
+    bodies = (bytes([it.kind, 0]) + (len(it.sources) // 4).to_bytes(2, "big") + it.group + it.sources for it in records)
+    return summed(REPORT_3, bytes(2) + len(records).to_bytes(2, "big") + b"".join(bodies))

@@ -33,12 +33,15 @@ class Task:
     empty_option: str = "--empty"
     is_asking: bool = False
     others: "int | None" = None  # routers that lie on the LAN, where nothing is asked for their sake
+    speakers: object = None  # takes all that is heard, beside the list
+    own: set = dataclasses.field(default_factory=set)  # gets the addresses by which it is asked
 
     def rules(self, networks, is_live):
         """Returns what queries count."""
         given = self.words.networks
         known = [*(networks or ()), *given] if networks is not None or given else None
-        return Rules(known, self.words.queriers, self.words.slack * capture.SECOND, self.words.queries, is_live)
+        return Rules(known, self.words.queriers, self.words.slack * capture.SECOND, self.words.queries, is_live,
+                     self.words.fold)
 
     def list_of(self, gathering):
         """Makes the list of what was gathered."""
@@ -52,6 +55,7 @@ class Live:
         """Takes the task."""
         self.task, self.words, self.say = task, task.words, task.say
         self.gathering, self.held = None, None
+        self.begun, self.until = time.monotonic(), None  # until when frames are the list's
 
     def make_take(self, networks):
         """Begins to gather, once the interface's networks are known. Returns what takes the frames."""
@@ -60,6 +64,10 @@ class Live:
 
     def take(self, frame):
         """Takes a frame, or holds it as long as it isn't known which address asks."""
+        if self.task.speakers is not None:
+            self.task.speakers.take(frame)
+        if self.until is not None and frame.time > self.until:
+            return
         if self.held is None:
             self.gathering.take(frame)
         elif len(self.held) < MOST_HELD:
@@ -86,6 +94,7 @@ class Live:
                 self.close()
             if not self.await_window(session):
                 return List(NO_LIST)
+        self.listen(session)
         lost = session.end()
         self.close()
         if lost:
@@ -93,6 +102,14 @@ class Live:
             self.say("no list: it would lack a report")
             return List(SPOILT)
         return self.task.list_of(self.gathering)
+
+    def listen(self, session):
+        """Goes on for whoever speaks seldom, as PIM's Hello comes each 30 s; nothing of it is the list's."""
+        left = self.begun + self.words.listen - time.monotonic()
+        if self.gathering.window is not None and left > 0:
+            self.until = self.gathering.window.ends + int(MARGIN * capture.SECOND)
+            session.pump(time.monotonic() + left)
+            session.check()
 
     def close(self):
         """Ends the window that is open. The last one is, once all has come that the capture gave until its end: it may
@@ -155,7 +172,9 @@ class Live:
         is_asked = came and not isinstance(came[0], Failed)
         found = is_asked and re.search(rb"^asked from ([0-9.]+)$", came[0].printed, re.M)
         try:
-            return ipaddress.IPv4Address(found[1].decode()).packed
+            asker = ipaddress.IPv4Address(found[1].decode()).packed
+            self.task.own.add(asker)
+            return asker
         except (TypeError, ValueError) as fault:
             for sentence in came[0].sentences() if came and not isinstance(came[0], Failed) else ():
                 self.say(sentence)
@@ -178,3 +197,18 @@ def capture_list(task):
         if found.status not in (REFUSED, SPOILT):
             break
     return found
+
+
+def hear(task, seconds):
+    """Has the task's speakers hear what comes for so many seconds. Returns what tells how much was lost of it, or
+    None."""
+    with Session(task.shell, task.device, lambda networks: task.speakers.take) as session:
+        try:
+            session.await_start()
+            session.pump(time.monotonic() + seconds)
+            session.check()
+            return session.end()
+        except NoCapture:
+            for sentence in session.sentences():
+                task.say(sentence)
+            raise

@@ -21,6 +21,8 @@ OLD_TIME = re.compile(r"\d{4}-\d\d-\d\dT\d\d:\d\d:\d\dZ", re.ASCII)  # as versio
 AHEAD = 60  # seconds that a time may be later than now
 CHANGED = 2  # seconds that a file may be newer than its time says
 COLLECT, CAPTURE, STATIC, OPERATOR = "collect", "capture", "static", "operator"
+DAEMON, BRIDGE = "daemon", "bridge"  # of lists that a router's routing daemon or its bridge believes
+NOT_ASKED = "hosts"  # unchecked of a list that is empty because no router asks the hosts of its LAN
 
 
 @dataclasses.dataclass

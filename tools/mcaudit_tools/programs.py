@@ -3,6 +3,7 @@
 A signal that ends the tool raises `Ended` in its main thread, never between the fork of a program and the moment from
 which that program can be ended; whatever still runs at the end of the tool is ended with all that it began.
 """
+import concurrent.futures
 import contextlib
 import dataclasses
 import os
@@ -215,3 +216,19 @@ def hand_on(pipe, rest):
         return rest
     except BrokenPipeError:
         return rest[:0]
+
+
+def side_by_side(works, at_once):
+    """Does all works, at most so many at a time, each under its name. Returns what came of each, by name; where one
+    fails, or the tool is to end, all are ended."""
+    with concurrent.futures.ThreadPoolExecutor(at_once) as pool:
+        running = {name: pool.submit(work) for name, work in works.items()}
+        try:
+            for one in concurrent.futures.as_completed(running.values()):
+                one.result()
+        except BaseException:
+            for one in running.values():
+                one.cancel()
+            RUNNING.end_all()
+            raise
+    return {name: one.result() for name, one in running.items()}

@@ -2,7 +2,7 @@
 import re
 
 from mcaudit_tools.capture import ALL_HOSTS_MAC, MOST_BYTES, SECOND, Frame
-from mcaudit_tools.common import Failed
+from mcaudit_tools.common import Failed, from_hex
 
 MOST_LINE = 65536
 MOST_PACKET = 65535  # bytes of an IPv4 packet
@@ -10,7 +10,8 @@ DIGITS = re.compile(rb"[ \t]+0x([0-9a-f]+):  ?(.*)", re.DOTALL)
 SECONDS = re.compile(rb"[0-9]{1,12}(\.[0-9]{1,9})?")
 CLOCK = re.compile(rb"([0-9]{2}):([0-9]{2}):([0-9]{2})(?:\.([0-9]{1,9}))?")
 DATE = re.compile(rb"[0-9]{4}-[0-9]{2}-[0-9]{2}")
-LINK = re.compile(rb" (?:[0-9a-f:]{17}) (?:\([^)]*\) )?> ([0-9a-f:]{17}|Broadcast)(?: \([^)]*\))?, ")
+LINK = re.compile(rb" ([0-9a-f:]{17}) (?:\([^)]*\) )?> ([0-9a-f:]{17}|Broadcast)(?: \([^)]*\))?, ")
+MAC = re.compile(rb"[0-9a-f]{2}(:[0-9a-f]{2}){5}")
 TAG = re.compile(rb"\bvlan ([0-9]{1,4})\b")
 DAY, HALF_DAY = 86400 * SECOND, 43200 * SECOND
 
@@ -81,7 +82,8 @@ class Recording:
         """Takes what the line says of the link, with -e."""
         found = LINK.search(line[:256])
         if found:
-            self.frame.is_to_all = found[1] == b":".join(b"%02x" % it for it in ALL_HOSTS_MAC)
+            self.frame.hardware, self.frame.target = map(hardware_of, found.groups())
+            self.frame.is_to_all = self.frame.target == ALL_HOSTS_MAC
             self.frame.vlans = [int(it) & 0xFFF for it in TAG.findall(line[:256])]
 
     def end(self):
@@ -92,11 +94,16 @@ class Recording:
         return frame if frame is not None and (frame.data or frame.time is not None) else None
 
 
+def hardware_of(text):
+    """Returns a link's address, or None where the text is none."""
+    return from_hex(text.replace(b":", b"")) if MAC.fullmatch(text) else None
+
+
 def bytes_of(text):
     """Returns the bytes of a line's digits: eight words of four at most, before what -X prints."""
     digits = text[:39].replace(b" ", b"").strip()
     try:
-        return bytes.fromhex(digits[:len(digits) // 2 * 2].decode())
+        return from_hex(digits[:len(digits) // 2 * 2])
     except ValueError as fault:
         raise Failed("the text has a line of digits that are none") from fault
 

@@ -8,15 +8,15 @@ before all of it was written, and an empty one only where it was asked for.
 """
 import ipaddress
 import os
-import re
 import sys
 import time
 
-from mcaudit_tools import capture, igmp, origins, recording, ways
+from mcaudit_tools import capture, from_daemon, igmp, origins, recording, ways
 from mcaudit_tools.common import Failed, Parser, Wrong, say
 from mcaudit_tools.files import PIECE, open_regular, printing
-from mcaudit_tools.gather import gather_all, text_of, write_list
+from mcaudit_tools.gather import gather_all, tell_strangers, text_of, write_list
 from mcaudit_tools.live import Task, capture_list
+from mcaudit_tools.speakers import Speakers
 from mcaudit_tools.window import NO_LIST, REFUSED, SPOILT, WRITTEN, Gathering, List
 
 ABOUT = """Writes the IGMP reports of one LAN into a file or to standard output, in hexadecimal, one a line,
@@ -27,7 +27,8 @@ answers' time.
 MORE = """Reports of IGMP versions 1, 2 and 3 are written whole and unchanged. Queries, leaves and packets
 that aren't IGMP are left aside, and so is what receivers ignore: too short, or a wrong checksum, at
 most 8 packets of at most 2 senders. A report of a change (a host joined or left while the list was
-made) is named on standard error, and `mcaudit` answers StateChange. Then ask again. A fragment, or a
+made) is followed with --fold; else it is named on standard error, and `mcaudit` answers StateChange:
+then ask again. A fragment, or a
 packet that the capture cut or dropped, is named, and then no list is written, since it would lack a
 report. Nor is one where a second General Query came before the answers to the first were over, where
 the clock was set among them, or where nothing shows that the recording went on to the end of the
@@ -43,6 +44,13 @@ group. For a group of 232.0.0.0/8, which is source-specific (SSM), routers ignor
 such group is named on standard error, with how many such reports came. The list has them all the
 same, and mcaudit counts every listed flow of the group as wanted.
 
+With --fold each host, which is a hardware address with an address, is followed from the query on,
+and the list says what each wants at the end. What a host leaves counts only where the same one had
+asked for it, and where 2 seconds passed without an answer that says otherwise; else it stays in the
+list. A leave of version 2 counts once the querier asked for the group and nobody answered. There is
+no list where a host of 0.0.0.0 leaves anything, or where hosts change and one address has two
+hardware addresses. A text without link headers (tcpdump -e) is not followed.
+
 An empty list says that no host of the LAN wants anything, and so does one that has no group but
 those that routers never forward (224.0.0.x), as the routers and switches themselves report them.
 Where nothing else came there is no list, unless --empty or --empty-lan says that this is so: see
@@ -51,6 +59,18 @@ first that the switch shows reports here.
 Capture where all reports come by: on the LAN's multicast router, or on a switch port that it
 shows them to (a switch with IGMP snooping shows them to routers alone). Of a VLAN, name the
 interface of its own (eth0.20, and not eth0).
+
+With --from-daemon the list is what FRR's pimd believes, of `show ip igmp groups json` and `sources json`,
+read until two answers are equal; nobody is captured, so hosts may zap. It counts where IGMP is up on the
+interface for longer than a query and its answers take, and where not more than half of the groups of a
+list that is under 260 s old are gone: then it is asked again after that time. Else the reason is named,
+and there is no list. Of several routers of a LAN the list is the union. What no router there forwards
+though it is asked for (forwarded: false) is named. An empty list needs --empty-lan, but for a LAN on which
+two listed routers or more lie and none asks hosts (no `ip igmp`): where its last list has no group, or
+nobody is heard to report one for --wait, its list is empty, and the verdict's line names it.
+
+Who speaks as a multicast router (PIM, queries, member of routers' groups) and has no address of a listed
+one is named, with its hardware address, where the facts of SITE have the addresses of all of them.
 
 A query of 0.0.0.0, which a switch sends in a querier's place, makes no port a router's port: it
 counts for none, unless --querier says so. Where any other query was heard nothing is asked.
@@ -64,11 +84,14 @@ Examples:
   mcaudit-reports -o site/igmp-l1 eth1
   mcaudit-reports -o site/igmp-l1 --by root@r1 eth1
   mcaudit-reports -o site/igmp-l1 --capture l1.pcap --network 10.0.1.0/24
+  mcaudit-reports --all site --from-daemon --routers routers
   mcaudit-reports --all site --empty-lan core --tries 3 --routers routers --ssh 'ssh -l root'"""
 USAGE = """mcaudit-reports [option ...] [--by WAY] INTERFACE
        mcaudit-reports [option ...] --capture FILE
        mcaudit-reports [option ...] --text
        mcaudit-reports [option ...] --static GROUP[,SOURCE] ...
+       mcaudit-reports [option ...] --from-daemon [--by WAY] INTERFACE
+       mcaudit-reports [option ...] --from-bridge [--by WAY] BRIDGE
        mcaudit-reports [option ...] --all SITE [NAME=WAY ...]"""
 OPTIONS = [
     ("--by", "WAY", "the interface is that of a router: HOST, USER@HOST or !COMMAND, as `mcaudit-collect --help` says; "
@@ -82,6 +105,10 @@ OPTIONS = [
     ("--all", "SITE", "gather the lists of all LANs of SITE/topology at once, as SITE/igmp-LAN: each on a router of "
      "the LAN, or where that fails on its next one. The routers are given by NAME=WAY, as for mcaudit-collect. For "
      "--static say LAN:GROUP[,SOURCE]. All lists come into SITE as one new set"),
+    ("--from-daemon", None, "take the list of what the router's routing daemon believes, FRR's pimd, and ask nobody "
+     "else: a captured list can't be had while hosts zap. vtysh has to answer there"),
+    ("--from-bridge", None, "the interface is a bridge of the router's own: take the list of its multicast database, "
+     "once a query and its answers are over. It has to snoop with IGMPv3, and ask hosts itself; nobody else is asked"),
     ("-o", "FILE", "put the list into FILE, when it is whole and on the disk; with any other status than 0 FILE stays "
      "as it is"),
     ("--empty", None, "write the list though no host answered, or only for groups that routers never forward "
@@ -92,12 +119,17 @@ OPTIONS = [
      "Routers may take it for the querier for 255 seconds, and a switch that snoops may keep streams from the LAN's "
      "other routers meanwhile. With --all no LAN is asked that two routers of the topology lie on"),
     ("--ask-routers", None, "with --all, ask on those LANs too"),
+    ("--fold", None, "where hosts join or leave meanwhile, follow their changes, host by host, and put into the list "
+     "what each wants at the end. With --all this is so by itself"),
+    ("--no-fold", None, "with --all, follow no changes: a list with one is refused"),
     ("--tries", "N", "gather again where a host joined or left meanwhile, or a report was lost, 1 to 99 times in all "
      "(1)", 1, 99, 1),
     ("--queries", "N", "gather the answers to so many queries of the same querier, one after the other, 1 to 3 (1): "
      "the list is the last one's, and what an earlier one had beyond it is named", 1, 3, 1),
     ("--wait", "SECONDS", "wait so long for a General Query, at most 9999 (260: after 255 seconds without one, by RFC "
      "3376, another router of the LAN would have taken over)", 0, 9999, 260),
+    ("--listen", "SECONDS", "capture for so long at least, at most 999 (0; with --all 35): PIM's Hello comes each 30 "
+     "s. Who speaks as a multicast router and has no address of a listed one is named", 0, 999, None),
     ("--slack", "SECONDS", "take answers that are so late, at most 99 (1)", 0, 99, 1),
     ("--network", "PREFIX", "the LAN's network, as 10.0.1.0/24, whose addresses a query may come from; may be given "
      "again"),
@@ -105,6 +137,7 @@ OPTIONS = [
     ("--interface", "NUMBER", "with --capture, the interface of a file that has several: its index, or its number in "
      "the file", 0, 999_999_999, None),
     *ways.REACH]
+LISTEN = 35  # seconds in which whoever speaks PIM says so
 REPEATED = "--static", "--empty-lan", "--routers", "--network", "--querier"
 
 
@@ -118,6 +151,7 @@ def read_arguments():
     parser.add_version()
     found = parser.parse_intermixed_args()
     found.ask = found.ask or found.ask_routers
+    found.listen = LISTEN * (found.all is not None) if found.listen is None else found.listen
     check_sources(parser, found)
     try:
         take_statics(parser, found)
@@ -149,12 +183,19 @@ def check_sources(parser, found):
         parser.error("--ask and --by want an interface")
     if found.all is not None and (found.o is not None or found.by is not None):
         parser.error("--all takes no -o and no --by")
+    if found.from_daemon and (found.capture or found.text or found.ask or not sources):
+        parser.error("--from-daemon wants an interface or --all, and goes without --ask")
+    if found.from_bridge and (found.device is None or found.ask or found.from_daemon):
+        parser.error("--from-bridge wants an interface, and goes without --ask and --from-daemon")
     if found.all is None and found.ask_routers:
         parser.error("--ask-routers goes with --all")
     if found.all is None and found.empty_lan:
         parser.error("--empty-lan goes with --all")
     if "" in (found.empty_lan or ()):
         parser.error("--empty-lan wants a LAN")
+    if found.no_fold and (found.all is None or found.fold):
+        parser.error("--no-fold goes with --all, and without --fold")
+    found.fold = found.fold or found.all is not None and not found.no_fold
 
 
 def take_statics(parser, found):
@@ -175,18 +216,9 @@ def take_statics(parser, found):
 
 def static_report(word):
     """Returns the report of a host of version 3 that wants GROUP[,SOURCE]; None where the word is none."""
-    parts = word.split(",")
-    if len(parts) > 2 or not all(re.fullmatch(r"[0-9]{1,3}(\.[0-9]{1,3}){3}", it) for it in parts):
-        return None
-    try:
-        group, *sources = (ipaddress.IPv4Address(it).packed for it in parts)
-    except ValueError:
-        return None
-    if not igmp.FIRST_FORWARDED <= group < bytes([240, 0, 0, 0]):
-        return None
-    if sources and (not 0 < sources[0][0] < 224 or sources[0][0] == 127):
-        return None
-    return igmp.report_of(group, *sources)
+    group, *sources = word.split(",")
+    addresses = [igmp.group_of(group), *map(igmp.host_of, sources)]
+    return igmp.report_of(*addresses) if len(sources) < 2 and None not in addresses else None
 
 
 # A list
@@ -199,6 +231,7 @@ def file_list(task, path):
         for piece in iter(lambda: file.read(PIECE), b""):
             for frame in decoder.feed(piece):
                 if decoder.interface is None or frame.interface in (None, decoder.interface):
+                    task.speakers.take(frame)
                     gathering.take(frame)
     decoder.finish()
     if decoder.dropped:
@@ -215,6 +248,7 @@ def text_list(task):
     reader = recording.Recording()
     gathering = Gathering(task.rules(None, False), task.say)
     for frame in reader.frames(sys.stdin.buffer):
+        task.speakers.take(frame)
         gathering.take(frame)
     found = task.list_of(gathering)
     if reader.lacks_links and found.status in (WRITTEN, REFUSED):
@@ -259,9 +293,11 @@ def give(words, found, origin):
 def one_list(words):
     """Makes one list of the source that the arguments name. Returns the status."""
     check_output(words)
+    if words.from_daemon or words.from_bridge:
+        return give(words, *from_daemon.one_list(words))
     shell = ways.Router("router", words.by or "").shell(words.ssh or ways.SSH)
     task = Task(words, shell, words.device, words.statics.get(None, []), say, is_empty_allowed=words.empty,
-                is_asking=words.ask)
+                is_asking=words.ask, speakers=Speakers())
     if words.device is not None:
         found = capture_list(task)
     elif words.capture is not None:
@@ -270,6 +306,7 @@ def one_list(words):
         found = text_list(task)
     else:
         found = List(WRITTEN, task.statics, True)
+    tell_strangers(words, task)
     by = origins.STATIC if found.is_decided else origins.CAPTURE
     return give(words, found, origins.Origin(by, None, int(time.time()), found.unchecked))
 
@@ -278,5 +315,5 @@ def main():
     """Gathers one list, or those of all LANs. Returns the status."""
     words = read_arguments()
     if words.all is not None:
-        return gather_all(words)
+        return from_daemon.gather_all(words) if words.from_daemon else gather_all(words)
     return one_list(words)

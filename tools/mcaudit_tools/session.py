@@ -33,7 +33,7 @@ SCRIPT = """{{
     echo {word} addresses
     ip -4 address show dev {interface} 2> /dev/null
     echo {word} capture
-    tcpdump -n -U -w - --immediate-mode -i {interface} 'ip proto 2' 3<&- < /dev/null &
+    tcpdump -n -U -w - --immediate-mode -i {interface} 'ip proto 2 or ip proto 103' 3<&- < /dev/null &
     capture=$!
     {{ cat <&3 > /dev/null; kill "$capture"; }} > /dev/null 2>&1 &
     ending=$!

@@ -6,8 +6,10 @@ audit`, each by its own words. It takes nothing over from them but their statuse
 import os
 import subprocess
 
-from mcaudit_tools.common import Failed, Parser, find_tool, options_of, printable, say
+from mcaudit_tools.ages import Ages
+from mcaudit_tools.common import Failed, Parser, clean, find_tool, options_of, printable, say
 from mcaudit_tools.files import read_regular
+from mcaudit_tools.premises import beside, domain
 from mcaudit_tools.programs import RUNNING
 from mcaudit_tools.topology import MOST_BYTES, read_topology
 from mcaudit_tools.ways import REACH
@@ -15,17 +17,21 @@ from mcaudit_tools.ways import REACH
 ABOUT = """Makes the whole folder of a domain in one go, or tells the LANs of its topology.
 
 `init` drafts the topology (mcaudit-draft), collects the routers' tables (mcaudit-collect --adopt), gathers the
-reports of all LANs (mcaudit-reports --all) and judges the folder (mcaudit audit --travel). A topology that is
-there stays as it is. What could not be had of a router or a LAN is named, and the next step is done all the same."""
+reports of all LANs (mcaudit-reports --all) and judges the folder (mcaudit audit --travel). Below the verdict stands
+what it rests on: how old the tables and the lists are, and what was not looked at. A topology that is there stays as it
+is. What could not be had of a router or a LAN is named, and the next step is done all the same."""
 MORE = """Statuses of init: 0 verdict yes, 1 verdict no or something is missing; else that of the step that ended it.
 Of lans: 0 printed, 3 the topology can't be read. 5 wrong words.
 
 Examples:
-  mcaudit-site init site --routers routers --ssh 'ssh -l root'
+  mcaudit-site init site --facts --routers routers --ssh 'ssh -l root'
   mcaudit-site lans site"""
 OPTIONS = [*REACH,
+           ("--facts", None, "bring the routers' facts too, and look whether one of their own settings drops what its "
+            "tables forward (mcaudit-premises)"),
            ("--ttl", "N", "the time to live of all flows; without it each is measured"),
            ("--wait", "SECONDS", "wait so long for a General Query on each LAN"),
+           ("--listen", "SECONDS", "capture on each LAN for so long at least, for who speaks as a router"),
            ("--tries", "N", "gather a LAN's reports so often, where they changed meanwhile"),
            ("--static", "LAN:GROUP[,SOURCE]", "what a host wants that can't be asked"),
            ("--empty-lan", "LAN", "where no host of this LAN answers, nobody on it wants anything")]
@@ -62,6 +68,8 @@ def read_arguments():
     init.add_options(OPTIONS, REPEATED)
     init.add_argument("--ask", action="store_true", help="ask the hosts where no querier does, as mcaudit-reports")
     init.add_argument("--ask-routers", action="store_true", help="on LANs that two routers lie on, too")
+    init.add_argument("--from-daemon", action="store_true",
+                      help="take the lists of what the routers' daemons believe, as mcaudit-reports")
     init.add_argument("--empty", action="store_true",
                       help="as --empty-lan of every LAN, also of one whose hosts just weren't heard")
     lans = commands.add_parser("lans", prog="mcaudit-site lans", help="print each LAN with each interface on it",
@@ -73,11 +81,13 @@ def read_arguments():
 def steps_of(words):
     """Returns each step: its name, what it does, and the words that do it."""
     reach = options_of(words, "--routers", "--ssh")
-    gather = options_of(words, "--ask", "--ask-routers", "--empty", "--wait", "--tries", *REPEATED)
+    gather = options_of(words, "--ask", "--ask-routers", "--from-daemon", "--empty", "--wait", "--listen",
+                        "--tries", *REPEATED)
     steps = [("draft", "draft the topology of what the routers say",
               [find_tool("mcaudit-draft"), *reach, *options_of(words, "--ttl"), words.site, *words.ways]),
              ("collect", "collect the routers' tables",
-              [find_tool("mcaudit-collect"), "--adopt", *reach, words.site, *words.ways]),
+              [find_tool("mcaudit-collect"), "--adopt", *reach, *options_of(words, "--facts"), words.site,
+               *words.ways]),
              ("reports", "gather what the hosts of each LAN want",
               [find_tool("mcaudit-reports"), *reach, *gather, "--all", words.site, *words.ways]),
              ("audit", "judge the folder", [find_tool("mcaudit"), "audit", "--travel"])]
@@ -105,6 +115,18 @@ def run_step(command):
         RUNNING.end(process, GRACE)
 
 
+def tell_basis(site, folder):
+    """Tells beside the verdict what it rests on, and what contradicts it."""
+    try:
+        answer = domain.run_audit(find_tool("mcaudit"), folder, "mcaudit audit")
+    except Failed as fault:
+        say(f"what the verdict rests on isn't known: {fault}")
+        return
+    ages = Ages.of_set(folder, site, answer.routers, answer.lans)
+    for line in beside.look(lambda: answer, site, folder, ages).sentences():
+        print(clean(line), flush=True)
+
+
 def init_site(words):
     """Runs each step, as long as the next one can be. Returns the status."""
     steps = steps_of(words)
@@ -116,6 +138,8 @@ def init_site(words):
             status = run_step([*command[:2], folder, *command[2:]])
             if not os.path.isdir(folder):
                 raise Failed(f"{words.site}: the set was removed meanwhile")
+            if status in (0, 1):
+                tell_basis(words.site, folder)
             break
         status = run_step(command)
         if status not in (0, 1):

@@ -88,6 +88,14 @@ def read_topology(folder, named):
     return Topology(router_names(path, topology), [checked_name(path, "LAN", it) for it in lans], interfaces)
 
 
+def check_lans(topology, options):
+    """Fails where one of the options names a LAN that the topology doesn't have."""
+    for option, names in options.items():
+        for name in names or ():
+            if name not in topology.lans:
+                raise Failed(f"{option}: the topology has no LAN {name}", 5)
+
+
 def router_names(path, topology):
     """Returns the names of the routers that a topology lists."""
     return [checked_name(path, "router", it.get("name")) for it in tables_of(path, topology, "router")]

@@ -6,17 +6,15 @@ so that the others stay silent doesn't. The list is spoilt where it may lack an 
 import dataclasses
 import ipaddress
 
-from mcaudit_tools import igmp
+from mcaudit_tools import fold, igmp
 from mcaudit_tools.capture import SECOND
+from mcaudit_tools.heard import MOST_IGNORED, MOST_IGNORED_SENDERS, Heard, Window
 from mcaudit_tools.igmp import dotted
 
-TENTH = SECOND // 10
 LEAST_TENTHS, MOST_TENTHS = 10, 255  # of the answers' time of a query that counts
-MOST_MESSAGES, MOST_BYTES = 65_536, 16 << 20  # of a list, as mcaudit takes it
-MOST_IGNORED, MOST_IGNORED_SENDERS = 8, 2  # packets that receivers ignore, of a list that is given out
+MOST_ASKED = 4096  # groups that were asked for
 MOST_TOLD = 20  # sentences of each kind on what hosts sent: they may send as much as they like
 NOBODY = bytes(4)
-VERSIONS = {igmp.REPORT_1: "1", igmp.REPORT_2: "2"}  # of IGMP, whose reports ask for every source of their group
 WRITTEN, NO_LIST, REFUSED, SPOILT = 0, 1, 2, 4  # SPOILT: there is no list, and a second try may have one
 
 
@@ -29,65 +27,7 @@ class Rules:
     slack: int = SECOND  # how late answers may be
     windows: int = 1  # of the same querier, one after the other
     is_live: bool = False  # the windows are closed by whoever captures
-
-
-class Window:
-    """What came from a query to the end of its answers' time."""
-
-    def __init__(self, querier, begins, tenths, slack):
-        """Takes who asked, when, and how long the answers may take."""
-        self.querier, self.begins, self.tenths, self.slack = querier, begins, tenths, slack
-        self.reports, self.bytes, self.aside = [], 0, 0
-        self.is_spoilt, self.is_refused, self.wants = False, False, set()  # wants: who asks for which group
-        self.ignored, self.whole = {}, set()  # by sender: packets that receivers ignore; who sent whole ones
-        self.unheeded = {}  # by kind of report and group: how many SSM routers ignore
-        self.extend(begins)
-
-    def extend(self, asked):
-        """Lets the answers' time go on from this query."""
-        self.ends = asked + self.tenths * TENTH + self.slack
-
-    def seconds(self):
-        """Returns how long the answers may take."""
-        return self.tenths / 10
-
-    def ignore(self, sender):
-        """Leaves aside what receivers ignore. Returns whether there is too much of it."""
-        self.ignored[sender] = self.ignored.get(sender, 0) + 1
-        return sum(self.ignored.values()) > MOST_IGNORED or len(self.ignored) > MOST_IGNORED_SENDERS
-
-    def take_report(self, sender, report):
-        """Takes a whole report. Returns why mcaudit would refuse it, or None."""
-        self.whole.add(sender)
-        self.bytes += 2 * len(report) + 1
-        if len(self.reports) >= MOST_MESSAGES or self.bytes > MOST_BYTES:
-            return f"more than {MOST_MESSAGES} messages, or {MOST_BYTES} bytes of them"
-        self.reports.append(report)
-        for group, is_every in igmp.groups_of(report):
-            self.wants.add((sender, group))
-            if is_every and group[0] == igmp.SSM:
-                key = VERSIONS.get(report[0], "3 in EXCLUDE mode"), group
-                self.unheeded[key] = self.unheeded.get(key, 0) + 1
-        return report_fault(report)
-
-    def is_wanting(self):
-        """Whether any host wants a group that routers forward."""
-        return any(group >= igmp.FIRST_FORWARDED for _, group in self.wants)
-
-    def silent(self):
-        """Returns the senders from whom nothing came but what receivers ignore."""
-        return [it for it in self.ignored if it not in self.whole]
-
-
-def report_fault(report):
-    """Returns why mcaudit would refuse a report, or None."""
-    if report[0] != igmp.REPORT_3:
-        return None
-    records, cut = igmp.records_of(report)
-    changes = [number for number, it in enumerate(records, 1) if it.kind in igmp.CHANGES]
-    if changes:
-        return f"record {changes[0]} reports a change"
-    return f"record {cut} doesn't end within the message" if cut else None
+    is_folding: bool = False  # changes are followed, of hosts whose hardware addresses are known
 
 
 class Remarks:
@@ -123,6 +63,7 @@ class Gathering:
         self.is_watching = False  # the first report after the window is still to come
         self.is_lost = False  # something came that can't be told in time
         self.told = set()
+        self.asked = {}  # by group: until when its members may answer a query for it
 
     def take(self, frame):
         """Takes a frame."""
@@ -181,7 +122,9 @@ class Gathering:
             self.is_watching = False
             if not self.is_done():
                 self.take_query(frame, packet)
-        elif self.is_watching and message[0] in igmp.REPORTS:
+        elif message[0] == igmp.QUERY:
+            self.take_group_query(frame, packet)
+        elif self.is_watching and message[0] in igmp.REPORTS and not self.is_asked_for(frame, message):
             self.is_watching = False
             if igmp.is_of_current_state(message):
                 self.spoil(f"the first report after the answers' time, of {dotted(packet.sender)}, is one of a current "
@@ -221,8 +164,8 @@ class Gathering:
         if address == NOBODY:
             return f"a switch sends it in a querier's place; where it is the LAN's, say --querier {sender}"
         if self.rules.networks is None:
-            is_host = 0 < address[0] < 224 and address[0] != 127
-            return None if is_host else f"it is no host's address; where it is the LAN's, say --querier {sender}"
+            unlike = f"it is no host's address; where it is the LAN's, say --querier {sender}"
+            return None if igmp.is_host(address) else unlike
         if any(ipaddress.IPv4Address(address) in it for it in self.rules.networks):
             return None
         networks = " ".join(map(str, self.rules.networks)) or "which has no address here"
@@ -241,18 +184,39 @@ class Gathering:
                 self.spoil(f"more than {MOST_IGNORED} packets, or of more than {MOST_IGNORED_SENDERS} senders, are too "
                            "short or have a wrong checksum")
         elif message[0] in igmp.REPORTS:
-            self.take_report(sender, packet)
+            self.take_report(frame, packet)
         else:
             window.whole.add(packet.sender)
             window.aside += 1
-            if message[0] == igmp.LEAVE:
+            if message[0] == igmp.LEAVE and self.rules.is_folding and frame.hardware:
+                window.note(heard_of(frame, packet))
+            elif message[0] == igmp.LEAVE:
                 self.remarks.tell("leaves", f"{sender} left a group: its report may still be in the list")
             elif igmp.is_general_query(message):
                 self.take_further_query(frame, packet)
+            else:
+                self.take_group_query(frame, packet)
 
-    def take_report(self, sender, packet):
+    def take_group_query(self, frame, packet):
+        """Takes a query of one group, where the LAN's querier sent it so that all members of the group hear it."""
+        window, group = self.window or (self.done[-1] if self.done else None), igmp.group_asked(packet.message)
+        heard = heard_of(frame, packet)
+        is_counted = heard.is_public and group == packet.target and packet.ttl == 1 and frame.target is not None
+        if not self.rules.is_folding or window is None or not is_counted or packet.sender != window.querier:
+            return
+        if len(self.asked) < MOST_ASKED or group in self.asked:
+            self.asked[group] = frame.time + fold.longest_answer(packet.message) + fold.LATE
+        if self.window is not None:
+            window.note(heard)
+
+    def is_asked_for(self, frame, report):
+        """Whether a report may be the answer to a query for its groups."""
+        return all(frame.time <= self.asked.get(group, 0) for group, _ in igmp.groups_of(report))
+
+    def take_report(self, frame, packet):
         """Takes a report, and names it where mcaudit would refuse it."""
-        fault = self.window.take_report(packet.sender, packet.message)
+        sender, is_followed = dotted(packet.sender), self.rules.is_folding and frame.hardware is not None
+        fault = self.window.take_report(heard_of(frame, packet), is_followed)
         if fault and not (self.window.is_refused and fault.startswith("more than")):
             at = f"line {len(self.window.reports)} of {sender}"
             self.remarks.tell("reports that mcaudit would refuse", f"{at}: {fault}")
@@ -292,6 +256,12 @@ class Gathering:
         return None
 
 
+def heard_of(frame, packet):
+    """Returns what was heard of a whole message."""
+    is_public = frame.is_to_all if frame.target is None else frame.target == igmp.mac_of(packet.target)
+    return Heard(frame.time, frame.hardware, packet.sender, packet.message, bool(is_public))
+
+
 @dataclasses.dataclass
 class List:
     """A list of reports, or why there is none."""
@@ -302,6 +272,23 @@ class List:
     unchecked: list = dataclasses.field(default_factory=list)
 
 
+def followed(window, gathering):
+    """Follows the changes in a window, where that is wanted and mcaudit would take its other reports. Returns the
+    window with the reports that make the list, and words on it."""
+    if gathering.rules.is_folding and window.is_refused and any(it.hardware is None for it in window.heard):
+        gathering.say("changes are followed only where link headers (tcpdump -e) show whose they are")
+    if not gathering.rules.is_folding or window.is_refused:
+        return window, ""
+    found = fold.follow(window, gathering.asker is None)
+    for sentence in found.kept:
+        gathering.remarks.tell("such hosts and groups", sentence)
+    gathering.remarks.finish()
+    if not found.changes:
+        return window, ""
+    window = window if found.reports is None else window.with_reports(found.reports)
+    return window, f", changes {found.changes}: reports in the list {len(window.reports)}"
+
+
 def list_of(gathering, statics, is_empty_allowed, option):
     """Makes the list of what was gathered, and of the hosts that can't be asked. Tells it, or why there is none."""
     status, say = gathering.finish(), gathering.say
@@ -309,7 +296,14 @@ def list_of(gathering, statics, is_empty_allowed, option):
         return List(status)
     window = gathering.done[-1]
     static = f", static {len(statics)}" if statics else ""
-    say(f"query of {dotted(window.querier)}: reports {len(window.reports)}, other messages {window.aside}{static}")
+    told = f"query of {dotted(window.querier)}: reports {len(window.reports)}, other messages {window.aside}{static}"
+    try:
+        window, changes = followed(window, gathering)
+    except fold.NotFollowed as fault:
+        say(f"{fault}: changes can't be followed")
+        say("no list: it may lack what a host wants")
+        return List(SPOILT)
+    say(told + changes)
     for sender, count in window.ignored.items():
         alone = ", and nothing else of it came" if sender in window.silent() else ""
         say(f"left aside of {dotted(sender)}, too short or with a wrong checksum: {count}{alone}")
@@ -320,16 +314,16 @@ def list_of(gathering, statics, is_empty_allowed, option):
     remarks.finish()
     is_silent = not window.is_wanting() and not window.is_refused
     if is_silent:
-        of = " for a group that routers forward" if window.reports else ""
-        say(f"no host answered{of}; where there are hosts, see that the switch shows their reports here")
+        of = " for a group that routers forward" if gathering.done[-1].reports else ""
+        say(f"no host answered{of}; where there are hosts, see that the switch shows their reports here"
+            if not changes else "no host wants a group that routers forward any more")
         if not is_empty_allowed:
             say(f"no list: {option} writes one that says that nobody wants anything")
             return List(NO_LIST)
     if window.is_refused:
         say("mcaudit will refuse this list: ask again")
-    for (kind, group), count in window.unheeded.items() if not window.is_refused else ():
-        remarks.tell("such groups", f"SSM group {dotted(group)}: reports of IGMP version {kind}, which ask for every "
-                     f"source, so that SSM routers ignore them: {count}")
+    for sentence in window.unheeded.sentences() if not window.is_refused else ():
+        remarks.tell("such groups", sentence)
     remarks.finish()
     unchecked = [f"sender {dotted(it)}" for it in window.silent()]
     return List(REFUSED if window.is_refused else WRITTEN, window.reports + statics, is_silent, unchecked)

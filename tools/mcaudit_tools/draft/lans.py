@@ -8,6 +8,8 @@ from mcaudit_tools.draft.told import Link
 LEAST_PREFIX = 8  # of a network that can be a LAN
 MOST_NETWORKS = 16  # on one interface
 REGISTER, TUNNEL = 4, 1  # flags of a vif
+LOOPBACK = "lo"
+OF_REGISTER, OF_LOOPBACK = HARMLESS = "a register vif is on no LAN", "a loopback is on no LAN"  # no question to anybody
 
 
 def place_of(network):
@@ -18,14 +20,16 @@ def place_of(network):
 def fault_of_device(device, flags, addresses):
     """Returns why the device of a vif can't be placed by what its router says, or None."""
     if flags & REGISTER:
-        return "a register vif is on no LAN"
+        return OF_REGISTER
     if flags & TUNNEL:
         return "a tunnel is on no LAN"
     if not 1 <= len(device.encode()) <= 15 or device == "none" or re.search("[\ufffd\t-\r /:]", device):
         return "its name is none that a topology can have"
+    networks = [it.network for it in addresses if it.network is not None]
+    if device == LOOPBACK and not networks:
+        return OF_LOOPBACK
     if not addresses:
         return "unnumbered: it has no IPv4 address"
-    networks = [it.network for it in addresses if it.network is not None]
     if not networks:
         return f"unnumbered: {addresses[0].local} is a lone address"
     for network in networks:

@@ -8,13 +8,20 @@ import shlex
 
 from mcaudit_tools import igmp, recording
 from mcaudit_tools.common import Failed, clean, find_tool
-from mcaudit_tools.draft.told import PAUSE, Flow
+from mcaudit_tools.draft.asked import Asked
+from mcaudit_tools.draft.told import MOST_FLOWS, PAUSE, Flow
 from mcaudit_tools.programs import run
 
-MOST_FLOWS = 4096
 IDLE = f"it is idle: no packet of it was counted in {PAUSE} s"
 PACKETS = 3  # packets of a flow that are looked at
 MOST_PACKETS = 16 << 20  # bytes of the packets that a router prints
+START = """LC_ALL=C
+export LC_ALL
+command -v tcpdump > /dev/null || {
+    echo 'there is no tcpdump: install it there, or give the time to live of all flows by --ttl' >&2
+    exit
+}
+"""
 
 
 def flow_of(draft, key):
@@ -29,17 +36,24 @@ def flow_of(draft, key):
     return Flow(*key, lan, rate, points, said="" if lan else "its source is on no LAN of these routers")
 
 
-def find_flows(draft):
-    """Gives the draft the flows that the routers have rows of, the busiest first where they are too many."""
-    found = sorted({key for router in draft.routers for key in router.rows})
-    draft.flows = [flow_of(draft, it) for it in found]
-    if not found:
+def find_flows(draft, given, services):
+    """Gives the draft the flows that the routers have rows of and those that are given, by source and group, but for
+    what is sent to groups of services; the busiest first where they are too many."""
+    pairs = {it for it in given if it[0] is not None}
+    found = sorted({*(key for router in draft.routers for key in router.rows), *pairs})
+    draft.services = [flow_of(draft, it) for it in found if str(it[1]) in services]
+    draft.flows = [flow_of(draft, it) for it in found if str(it[1]) not in services]
+    groups = {flow.group for flow in draft.flows}
+    draft.asked = [Asked(group, None, is_given=True) for source, group in given if not source and group not in groups]
+    if not draft.flows:
         draft.doubts.append("no router has a row of one source, so there is no flow")
-    groups = {group for _, group in found}
     for router in draft.routers:
         for group in sorted(router.wildcards - groups):
-            draft.doubts.append(f"{router.name}: a row of every source of {group}, whose flows can't be told")
-    busiest = sorted(draft.flows, key=lambda it: (it.rate is None, -(it.rate or (0, 0))[0]))
+            if str(group) not in services:
+                draft.doubts.append(f"{router.name}: a row of every source of {group}, whose flows can't be told")
+    for flow in draft.flows:
+        flow.is_given = (flow.source, flow.group) in pairs
+    busiest = sorted(draft.flows, key=lambda it: (not it.is_given, it.rate is None, -(it.rate or (0, 0))[0]))
     for flow in busiest[MOST_FLOWS:]:
         flow.lan, flow.said = None, f"there are more than {MOST_FLOWS} flows"
 
@@ -65,7 +79,7 @@ def times_to_live(printed):
 def ask_packets(words, router, flows):
     """Returns what the router prints when it is asked for packets of the flows, and what it complains of."""
     command = [find_tool("mcaudit-collect"), *words.reach, "--shell", router, *words.ways]
-    script = "LC_ALL=C\nexport LC_ALL\n" + "".join(
+    script = START + "".join(
         f"timeout {words.measure} {command_of(flow, device, f'-l -n -x -s 96 -c {PACKETS}')} < /dev/null\n"
         for flow, device in flows)
     came = run(command, script.encode(), len(flows) * (words.measure + 2) + 20, MOST_PACKETS)
@@ -95,16 +109,21 @@ def measure_on(words, router, flows):
     return [f"{router}: {clean(last[-1])[:200]}"] if last and any(flow.ttl is None for flow, _ in flows) else []
 
 
-def measure_flows(words, draft):
-    """Gives the draft its flows, each with its time to live, as it was told by hand or as it is measured."""
-    find_flows(draft)
+def measure_flows(words, draft, given):
+    """Gives the draft's flows their times to live, as they are given, as they were told by hand or as they are
+    measured."""
     tasks = {}
     for flow in draft.flows:
+        key = flow.source, flow.group
         if flow.lan is None:
             continue
-        if words.ttl is not None:
+        if key in given and given[key].ttl is not None:
+            flow.ttl, flow.said = given[key].ttl, "as the list of flows has it"
+        elif words.ttl is not None:
             flow.ttl, flow.said = words.ttl, "told by hand"
-        elif flow.rate is not None and not any((flow.source, flow.group) in it.counted for it in draft.routers):
+        elif not any(key in it.rows for it in draft.routers):
+            flow.said = "the list of flows has no time to live of it, and no router a row"
+        elif flow.rate is not None and not any(key in it.counted for it in draft.routers):
             flow.said = IDLE
         elif flow.points:
             tasks.setdefault(flow.points[0][0], []).append((flow, flow.points[0][1]))

@@ -3,7 +3,11 @@ import difflib
 
 from mcaudit_tools.common import clean
 from mcaudit_tools.draft.measure import command_of
+from mcaudit_tools.services import SERVICES
 
+MOST_NAMES = 8  # of LANs or routers
+MOST_SOURCES = 20  # of a service that are named
+MOST_ASKED = 256  # groups that are asked for
 TABLES = {"router": ("name", "order"), "interface": ("router", "device", "lan"), "flow": ("source", "group", "ttl")}
 
 
@@ -61,12 +65,63 @@ def tables_of(topology, kind):
             for it in topology.get(kind, [])]
 
 
+def names(found):
+    """Returns the first of some names."""
+    return " ".join([*found[:MOST_NAMES], *[".."] * (len(found) > MOST_NAMES)])
+
+
+def asked_words(asked):
+    """Returns what is known of a group of which no flow is."""
+    return "; ".join([*["the list of flows has no source of it"] * asked.is_given,
+                      *[f"asked for on {names(asked.lans)}"] * bool(asked.lans),
+                      *[f"a row of every source on {names(asked.routers)}"] * bool(asked.routers)])
+
+
+def asked_lines(draft):
+    """Yields a comment for each group of which no flow is known."""
+    for it in draft.asked[:MOST_ASKED]:
+        source = "?" if it.source is None else toml_text(str(it.source))
+        yield f"# {{source = {source}, group = {toml_text(str(it.group))}}}, # {asked_words(it)}"
+    if len(draft.asked) > MOST_ASKED:
+        yield f"# and {len(draft.asked) - MOST_ASKED} more are asked for"
+
+
+def service_counts(draft):
+    """Returns how many sources send to each group of a service."""
+    groups = [it.group for it in draft.services]
+    return {it: groups.count(it) for it in sorted({*groups})}
+
+
+def service_lines(draft):
+    """Yields a comment for each of some sources that send to a group of a service."""
+    for group, count in service_counts(draft).items():
+        why = f"left out: {SERVICES[str(group)]}, a service of hosts"
+        for it in [it for it in draft.services if it.group == group][:MOST_SOURCES]:
+            table = table_text(source=str(it.source), group=str(group), ttl="?")
+            yield f"# {table}, # {why}; {shown_rate(it.rate)}"
+        if count > MOST_SOURCES:
+            yield f"# and {count - MOST_SOURCES} more sources of {group}, {why}"
+
+
+def flow_lines(draft, topology):
+    """Yields the lines of the flows: those of the topology, and as comments all others."""
+    judged = [it for it in draft.flows if it.ttl is not None]
+    for line, it in zip(tables_of(topology, "flow"), judged):
+        yield f"{line}, # {shown_rate(it.rate)}; ttl {it.said}"
+    for it in draft.flows:
+        if it.ttl is None:
+            table = table_text(source=str(it.source), group=str(it.group), ttl="?")
+            yield f"# {table}, # not judged: {it.said}; {shown_rate(it.rate)}{measuring_words(it)}"
+    yield from asked_lines(draft)
+    yield from service_lines(draft)
+
+
 def text_of(draft):
     """Returns the topology's text."""
     topology = topology_of(draft)
-    judged, others = ([it for it in draft.flows if (it.ttl is not None) == is_judged] for is_judged in (True, False))
     sources = [table_text(**it) for it in topology["source"]]
-    idle = {(it.source, it.lan or "?") for it in others if it.source not in {one.source for one in judged}}
+    listed = {it["address"] for it in topology["source"]}
+    idle = {(it.source, it.lan or "?") for it in draft.flows if it.ttl is None and str(it.source) not in listed}
     sections = {
         "lans": [f"{toml_text(it)}," for it in topology["lans"]],
         "router": [f"{it}," for it in tables_of(topology, "router")],
@@ -75,10 +130,7 @@ def text_of(draft):
                         for router, device, why, lan in draft.unsure)],
         "source": [*(f"{it}," for it in sources),
                    *(f"# {table_text(address=str(source), lan=lan)}," for source, lan in sorted(idle))],
-        "flow": [*(f"{line}, # {shown_rate(it.rate)}; ttl {it.said}"
-                   for line, it in zip(tables_of(topology, "flow"), judged)),
-                 *(f"# {table_text(source=str(it.source), group=str(it.group), ttl='?')}, # not judged: {it.said}; "
-                   f"{shown_rate(it.rate)}{measuring_words(it)}" for it in others)]}
+        "flow": flow_lines(draft, topology)}
     lines = ["# Drafted by mcaudit-draft of what the routers say: read it before anything is judged by it.",
              *(f"# missing: {it}" for it in draft.doubts), *(f"# {it}" for it in draft.remarks), "version = 1"]
     for name, inner in sections.items():

@@ -17,6 +17,7 @@ from mcaudit_tools.files import read_regular
 from mcaudit_tools.programs import RUNNING, run
 from mcaudit_tools.ways import read_routers
 
+MOST_FLOWS = 4096
 PAUSE = 5  # seconds between two readings of the counters, at least
 COLLECTED = re.compile(r"([A-Za-z0-9_.-]+): vifs \d+, .*, order (little|big|not known)")
 MOST_TOLD = 1 << 20  # bytes of what mcaudit-collect prints
@@ -72,6 +73,7 @@ class Flow:
     points: list  # routers and devices on the source's LAN
     ttl: "int | None" = None
     said: str = ""  # how the time to live is known, or why it isn't
+    is_given: bool = False  # by the list of flows
 
 
 @dataclasses.dataclass
@@ -84,6 +86,8 @@ class Draft:
     unsure: list = dataclasses.field(default_factory=list)  # interfaces: router, device, why and perhaps the LAN
     remarks: list = dataclasses.field(default_factory=list)
     flows: list = dataclasses.field(default_factory=list)
+    services: list = dataclasses.field(default_factory=list)  # what is sent to groups of services
+    asked: list = dataclasses.field(default_factory=list)  # groups of which no source is known
 
 
 def address_word(word, order):

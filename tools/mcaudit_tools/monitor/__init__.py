@@ -195,7 +195,7 @@ class Run:
         if not self.words.no_collect:
             self.collect()
         self.judge()
-        self.beside = beside.look(self.text, self.site, self.folder, self.ages())
+        self.beside = beside.look_at(self.text, self.site, self.folder, self.ages())
         if not self.words.no_collect:
             self.compare()
         if not self.words.plugin:
@@ -207,7 +207,7 @@ class Run:
         numbers = ", ".join(f"{key} {judged.counts[key]}" for key in ("flows", "right", "wrong", "unwanted"))
         lines = [f"{os.path.basename(self.folder)}: verdict {'yes' if judged.is_right else 'no'}, {numbers}, "
                  f"unlisted {judged.unlisted}"]
-        lines += self.ages().sentences() + self.beside.sentences()
+        lines += self.beside.sentences()
         lines += [f"wrong: {it}" for it in judged.wrong[:MOST_SHOWN]]
         if len(judged.wrong) > MOST_SHOWN:
             lines.append(f"and {len(judged.wrong) - MOST_SHOWN} more")

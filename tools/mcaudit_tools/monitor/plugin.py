@@ -4,8 +4,9 @@ import time
 from mcaudit_tools.ages import LATER, age_of
 from mcaudit_tools.common import CUT, clean, cut
 
-MOST_LETTERS = 300  # of what a plugin says, beside how old that is
-MOST_AGES = 80  # letters of each part of that
+MOST_LETTERS = 300  # of what a plugin says, beside what that rests on
+MOST_PART = 90  # letters of each part of what the verdict rests on
+MOST_PARTS = 250  # letters of all of them
 WORDS = "OK", "WARNING", "CRITICAL", "UNKNOWN"  # of a plugin's statuses
 
 
@@ -50,7 +51,7 @@ def line_of(work):
         warnings = warnings_of(work)
         status, text = int(bool(warnings)), ", ".join([f"{judged.counts['right']} flows right", *warnings])
     if status != 3:
-        parts = [cut(it, MOST_AGES) for it in work.ages().sentences()]
+        parts = [cut("; ".join(cut(it, MOST_PART) for it in work.beside.parts), MOST_PARTS)]
     most = MOST_LETTERS
     if status != 3 and work.count:
         parts.append(changes_text(work.count, work.changes))

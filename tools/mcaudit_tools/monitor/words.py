@@ -33,6 +33,8 @@ COLLECTS = [*REACH,
             ("--at-once", "N", "read at most N routers side by side"),
             ("--facts", None, "bring the routers' facts too, and warn where one of their own settings drops what its "
              "tables forward (mcaudit-premises)"),
+            ("--from-daemon", None, "bring the lists of the LANs too, as the routers' daemons believe them"),
+            ("--empty-lan", "LAN", "with --from-daemon, write an empty list of this LAN too"),
             ("--adopt", None, "if SITE is a plain folder, make it the first set")]
 MOST = 999_999_999  # sets that are kept, and seconds
 OPTIONS = [("--no-collect", None, "judge what SITE has: nothing is read of a router, compared or kept"),
@@ -68,7 +70,7 @@ def read_arguments():
     words.add_version()
     words.add_argument("site", metavar="SITE")
     words.add_argument("ways", metavar="NAME=WAY", nargs="*", help="a router and the way to it, as for mcaudit-collect")
-    words.add_options([*COLLECTS, *OPTIONS])
+    words.add_options([*COLLECTS, *OPTIONS], ["--empty-lan"])
     words.add_argument("--label", metavar="NAME=VALUE", type=label, action="append", default=[],
                        help="a label of all metrics in FILE.prom, where one machine watches several sites")
     found = words.parse_intermixed_args()

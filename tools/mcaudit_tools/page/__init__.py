@@ -12,11 +12,13 @@ from mcaudit_tools.common import Parser, find_tool
 from mcaudit_tools.files import beside, failing, printing
 from mcaudit_tools.page.answer import read_audit, run_audit
 from mcaudit_tools.page.graph import Graph, roots_of
+from mcaudit_tools.page.plans import read_plans
 from mcaudit_tools.page.remarks import Folder
 from mcaudit_tools.page.render import page_of
 
-ABOUT = """Makes one page, an HTML file, of what `mcaudit audit` answers of the folder SITE: the verdict, the domain as
-a graph, each flow's way in it or its fault with the travel that shows it, and what isn't listed or judged.
+ABOUT = """Makes one page, an HTML file, of what `mcaudit audit` answers of the folder SITE: the verdict and what it
+rests on, the domain as a graph, each flow's way in it or its fault with the travel that shows it, and what isn't listed
+or judged.
 
 The page needs nothing but a browser: it has no script, font or picture from elsewhere. It is written beside FILE and
 then renamed, so FILE is the whole page or as it was."""
@@ -32,6 +34,7 @@ Examples:
 OPTIONS = [("-o", "FILE", "write the page into FILE; without it to standard output"),
            ("--audit", "FILE", "run no audit: take what one answered with --json --travel --unlisted from FILE, or "
             "from - for standard input"),
+           ("--plan", "FILE", "show the plans too that `mcaudit-plan --json` printed of the same set into FILE"),
            ("--program", "PATH", "run PATH for mcaudit"),
            ("--without", "ROUTER", "audit without this router's tables, as mcaudit audit --without")]
 
@@ -50,8 +53,9 @@ def read_arguments():
     return found
 
 
-def write_page(path, page, sentence):
-    """Writes the page into the file, whole or not at all, and says what it is; or to standard output or a device."""
+def write_page(path, page, sentence=None):
+    """Writes the page into the file, whole or not at all, and says what it is, where there is something to say; or to
+    standard output or a device."""
     data = page.encode("utf-8", "replace")
     if path is None:
         with printing():
@@ -64,7 +68,7 @@ def write_page(path, page, sentence):
         with beside(path) as file:
             file.write(data)
             with printing():
-                print(f"{path}: {sentence}", flush=True)
+                print(*([f"{path}: {sentence}"] if sentence else []), sep="", end="\n" * bool(sentence), flush=True)
 
 
 def main():
@@ -73,6 +77,8 @@ def main():
     find_tool("dot", ": it comes with graphviz")
     folder = None if words.site is None else Folder(words.site)
     audit = read_audit(words.audit) if words.audit is not None else run_audit(words, folder)
+    if words.plan is not None:
+        audit.plans = read_plans(words.plan, audit)
     graph = Graph(audit.domain, roots_of(audit))
     page = page_of(audit, graph if graph.lay_out() else None, folder)
     if words.audit is None:

@@ -7,6 +7,7 @@ from mcaudit_tools import audit as audits
 from mcaudit_tools.common import Failed, Refused, find_tool, options_of
 from mcaudit_tools.page.explain import FLOW, SEEN, device_text, explanation, some
 from mcaudit_tools.page.travel import steps_of, tree_of
+from mcaudit_tools.premises import domain as premises
 
 Port = collections.namedtuple("Port", "router device vif lan")
 
@@ -53,9 +54,12 @@ class Audit:
         self.trees, self.flows, self.unlisted, self.without = [], [], [], []
         self.reasons, self.travels = {}, {}  # their numbers by their JSON, each once
         self.unlisted_more = 0
+        self.premises = premises.Answer()
+        self.plans = None  # of its flows, where they are shown beside it
 
     def take(self, line):
         """Takes a line's object."""
+        self.premises.take(line)
         if self.domain is None:
             self.domain = Domain(line["domain"])
         elif "entries" in line:

@@ -1,5 +1,5 @@
-"""What a page says beside the verdict: the sources and groups that no flow lists, when what was judged was
-collected, and what isn't judged."""
+"""What a page says beside the verdict: what that rests on, the sources and groups that no flow lists, when what was
+judged was collected, and what isn't judged."""
 import collections
 import contextlib
 import os
@@ -8,10 +8,11 @@ import time
 
 from mcaudit_tools import origins, topology
 from mcaudit_tools.ages import Ages
-from mcaudit_tools.common import Failed, say
+from mcaudit_tools.common import Failed
 from mcaudit_tools.files import read_regular
 from mcaudit_tools.page.explain import some
 from mcaudit_tools.page.markup import table_of, tag
+from mcaudit_tools.premises import beside
 
 SHOWN_UNLISTED = 1000
 UNSEEN = ("What the files don't show: (*,G) entries and shared trees, netfilter, rp_filter, other "
@@ -47,25 +48,32 @@ def text_of_time(seconds):
     return time.strftime("%Y-%m-%dT%H:%M:%SZ", time.gmtime(seconds))
 
 
-def told_times(domain, folder):
-    """Returns when each file of the folder was written, by name, as its collected.json says; and a sentence on how old
-    what was judged was when the page was made. Both are nothing where that isn't known."""
-    try:
-        known = origins.read(folder.path, folder.named)
-        ages = ", ".join(Ages(folder.path, known, domain.routers, domain.lans).sentences())
-        return ({name: text_of_time(it.time) for name, it in known.items()},
-                f" When this page was made, at {text_of_time(time.time())}: {ages}." if ages else "")
-    except (Failed, OverflowError, ValueError, OSError) as fault:
-        say(str(fault))
-        return {}, ""
+def basis_section(audit, folder):
+    """Returns what the verdict rests on, and what contradicts it, as of the time at which the page is made."""
+    if folder is None:
+        return [tag("p", "How old the tables and the lists were, and what else was looked at, isn't known here.",
+                    class_="basis")]
+    routers = [it for it in audit.domain.routers if it not in audit.without]
+    ages = Ages.of_set(folder.path, folder.named, routers, audit.domain.lans)
+    found = beside.look(audit.premises.domain, folder.named, folder.path, ages)
+    said = f"When this page was made, at {text_of_time(time.time())}: {'; '.join(found.parts)}."
+    bad = [tag("li", it) for it in found.contradictions()]
+    return [tag("div", tag("p", said), *([tag("ul", *bad)] if bad else []), class_="basis")]
+
+
+def told_times(folder):
+    """Returns when each file of the folder was written, by name, as its collected.json says."""
+    with contextlib.suppress(Failed, OverflowError, ValueError, OSError):
+        return {name: text_of_time(it.time) for name, it in origins.read(folder.path).items()}
+    return {}
 
 
 def collected_section(domain, folder):
     """Returns when what was judged was collected."""
-    times, ages = told_times(domain, folder) if folder else ({}, "")
+    times = told_times(folder) if folder else {}
     if not times:
         return [tag("p", "When the files were written isn't known: there is no list of times beside them, as "
-                         "mcaudit-collect writes it.", ages)]
+                         "mcaudit-collect writes it.")]
     is_set, own, about = folder.is_set, {}, files_of(domain)
     for name in about:
         with contextlib.suppress(OSError, ValueError):  # no such file, or no name of one
@@ -85,7 +93,7 @@ def collected_section(domain, folder):
         said.append(f"Not in the folder: {some(absent)}.")
     rows = [tag("tr", *(tag("td", it) for it in (tag("code", name), about.get(name, "not read by an audit"),
                                                  all_times[name]))) for name in order]
-    return [tag("p", " ".join(said), ages),
+    return [tag("p", " ".join(said)),
             tag("details", tag("summary", "Each file, and when it was written"),
                 table_of(("File", "What it is", "Written, by collected.json"), rows),
                 open=None if len(rows) > 40 else "")]

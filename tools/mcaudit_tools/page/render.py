@@ -7,7 +7,8 @@ from mcaudit_tools.common import PROGRAM
 from mcaudit_tools.page.explain import FLOW, MEANS, MISSED_PERHAPS, SEEN, some
 from mcaudit_tools.page.graph import DRAWING
 from mcaudit_tools.page.markup import Markup, digest, json_markup, table_of, tag
-from mcaudit_tools.page.remarks import collected_section, unjudged_section, unlisted_section
+from mcaudit_tools.page.plans import plans_section
+from mcaudit_tools.page.remarks import basis_section, collected_section, unjudged_section, unlisted_section
 from mcaudit_tools.page.travel import OUTCOMES
 
 # Where the page's script runs, the table is laid out once, when it is whole, and not again and again
@@ -41,17 +42,41 @@ def verdict_words(audit):
     return said
 
 
-def header(audit, site):
-    """Returns the verdict and what it is about."""
+def tried_section(tried):
+    """Returns what was tried, of which nothing was found in the routers: nothing, where nothing was."""
+    if tried is None:
+        return []
+    items = [tag("li", tag("code", it)) for it in tried.changes]
+    doubts = [tag("li", f"Not audited: {it}") for it in tried.unaudited] + [tag("li", it) for it in tried.assumed]
+    return [tag("section", tag("h2", "Tried, not found"),
+                tag("p", f"This is no page of what was found in {tried.site}. It shows what mcaudit answers of a copy "
+                         "of it after these changes, which no router has made by that:"),
+                tag("ul", *items), *([tag("p", "What that rests on:"), tag("ul", *doubts)] * bool(doubts)), id="tried")]
+
+
+def verdict_heading(audit, tried):
+    """Returns the sign, the heading and the sentences above all, and their kind: of what was not audited whole there
+    is no verdict."""
+    if tried is not None and tried.unaudited:
+        return "?", "Not audited whole", "A file was not audited whole, so there is no verdict.", "no"
+    tail = " after what was tried" if tried is not None else ""
+    return SIGNS[audit.verdict], f"Verdict{tail}: {audit.verdict}", verdict_words(audit), audit.verdict
+
+
+def header(audit, folder, tried):
+    """Returns the verdict, what it is about and what it rests on."""
+    site = folder.named if folder else None
+    sign, heading, said, kind = verdict_heading(audit, tried)
     summary, domain = audit.summary, audit.domain
     facts = [("Flows", summary["flows"]), *((it.capitalize(), summary[it]) for it in ("right", "wrong", "unknown")),
              ("Wanted by nobody", summary["unwanted"]), ("LANs", len(domain.lans)),
              ("Routers", len(domain.routers)), ("Not listed", len(audit.unlisted))]
-    return tag("header", tag("p", SIGNS[audit.verdict], class_="sign", aria_hidden="true"),
-               tag("div", tag("h1", f"Verdict: {audit.verdict}"), tag("p", verdict_words(audit)), class_="said"),
+    return tag("header", tag("p", sign, class_="sign", aria_hidden="true"),
+               tag("div", tag("h1", heading), tag("p", said), class_="said"),
                tag("dl", *(tag("div", tag("dt", name), tag("dd", value)) for name, value in facts)),
                tag("p", "Multicast audit of ", tag("strong", site), class_="site") if site else "",
-               class_=f"verdict {audit.verdict}")
+               *basis_section(audit, folder),
+               class_=f"verdict {kind}")
 
 
 def row_words(audit, flow):
@@ -127,23 +152,27 @@ def page_data(audit, graph):
             "right": right_words(audit), "flows": audit.flows}
 
 
-def page_of(audit, graph, folder):
-    """Returns the page."""
+def page_of(audit, graph, folder, tried=None):
+    """Returns the page, of what was found or of what was tried."""
     style, script = (pathlib.Path(__file__).with_name(it).read_text("utf-8") for it in ("page.css", "page.js"))
     policy = (f"default-src 'none'; base-uri 'none'; form-action 'none'; style-src {digest(style)}; "
               f"script-src {digest(WAIT)} {digest(script)}")
     site = folder.named if folder else None
     named = f" of {site}" if site else ""
-    sections = [("Flows that are not listed", unlisted_section(audit)),
+    title = "not audited whole" if tried is not None and tried.unaudited else f"Verdict {audit.verdict}"
+    title = "Tried: " * (tried is not None) + title
+    planned = [] if audit.plans is None else [("What to do about it", plans_section(audit.plans))]
+    sections = [*planned, ("Flows that are not listed", unlisted_section(audit)),
                 ("What was collected, and when", collected_section(audit.domain, folder)),
                 ("What is not judged", unjudged_section(audit, folder))]
     head = [tag("meta", charset="utf-8"), tag("meta", http_equiv="Content-Security-Policy", content=policy),
             tag("meta", name="viewport", content="width=device-width, initial-scale=1"),
-            tag("title", f"Verdict {audit.verdict}: multicast audit{named}"), tag("style", Markup(style))]
-    body = [tag("script", Markup(WAIT)), header(audit, site), tag("main", flows_section(audit), flow_section(graph)),
+            tag("title", f"{title}: multicast audit{named}"), tag("style", Markup(style))]
+    body = [tag("script", Markup(WAIT)), header(audit, folder, tried), *tried_section(tried),
+            tag("main", flows_section(audit), flow_section(graph)),
             *(tag("section", tag("h2", title), *inner) for title, inner in sections),
             tag("section", id="printed"),
-            tag("footer", f"Made by mcaudit-page {PROGRAM.version} of what mcaudit audit answered."),
+            tag("footer", f"Made by {PROGRAM.name} {PROGRAM.version} of what mcaudit audit answered."),
             tag("script", json_markup(page_data(audit, graph)), type="application/json", id="data"),
             tag("script", Markup(script))]
     return "<!DOCTYPE html>\n" + tag("html", tag("head", *head), "\n", tag("body", *body), lang="en") + "\n"

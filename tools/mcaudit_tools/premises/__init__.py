@@ -8,9 +8,9 @@ import os
 import re
 import sys
 
-from mcaudit_tools import origins, ways
+from mcaudit_tools import ways
 from mcaudit_tools.ages import Ages
-from mcaudit_tools.common import Failed, Parser, find_tool, say
+from mcaudit_tools.common import Failed, Parser, find_tool
 from mcaudit_tools.files import printing
 from mcaudit_tools.premises import counted, domain, judge, text, watch
 from mcaudit_tools.premises.findings import BAD, counts_of
@@ -96,16 +96,6 @@ def check_words(parser, found):
     found.ssh = found.ssh or ways.SSH
 
 
-def ages_of(words, folder, answer):
-    """Returns how old what is judged is."""
-    known = {}
-    try:
-        known = origins.read(folder, words.site)
-    except Failed as fault:
-        say(str(fault))
-    return Ages(folder, known, set(answer.routers), {it for it in answer.lan_of.values() if it is not None})
-
-
 def read_counters(words, folder, answer):
     """Returns what the counters say: of four readings now, or of the last four sets."""
     if words.watch is None:
@@ -121,7 +111,7 @@ def main():
         raise Failed(f"{words.site} is no folder")
     try:
         answer = domain.run_audit(find_tool("mcaudit"), folder, "mcaudit audit")
-        ages = ages_of(words, folder, answer)
+        ages = Ages.of_set(folder, words.site, answer.routers, answer.lans)
         findings = judge.Judge(answer, folder, ages).judge_all()
         counters = read_counters(words, folder, answer)
     except (Failed, OSError) as fault:
@@ -130,8 +120,7 @@ def main():
         raise
     findings += counters.findings
     with printing():
-        text.show(words, answer, os.path.basename(folder), findings, counters,
-                  ages.sentences() + ["no facts"] * (not ages.facts()))
+        text.show(words, answer, os.path.basename(folder), findings, counters, ages)
     counts = counts_of(findings)
     if any(counts[it] for it in BAD):
         return 1

@@ -1,11 +1,9 @@
-"""What stands beside a monitor's verdict: whether packets flow, by the last sets' counters, and what the facts of a set
-say, where it has any. Nothing of it makes a run fail."""
+"""What stands beside the verdict of a tool that gives one: what it rests on, whether packets flow, by the last sets'
+counters, and what the facts of a set say, where it has any. Nothing of it makes a run fail."""
 import io
-import os
 
 from mcaudit_tools import audit as audits
-from mcaudit_tools.facts import PREFIX
-from mcaudit_tools.premises import counted, domain, judge, links, text
+from mcaudit_tools.premises import basis, counted, domain, judge, links, text
 from mcaudit_tools.premises.findings import BAD, DROPS, NONE_COMES
 from mcaudit_tools.premises.windows import Counters
 
@@ -15,17 +13,21 @@ MOST_SHOWN = 20  # lines of what was found
 class Beside:
     """What was found beside a verdict."""
 
-    def __init__(self, findings, counters, domain=None):
-        """Takes what was found, what the counters say, and what was audited, where its facts were judged."""
+    def __init__(self, findings, counters, ages, domain=None):
+        """Takes what was found, what the counters say, how old it is, and what was audited, where that can be read."""
         self.findings, self.counters, self.domain = findings, counters, domain
         self.bad = [it for it in findings if it.word in BAD]
+        self.parts = basis.parts_of(ages, counters, domain, findings)
+
+    def contradictions(self):
+        """Returns what contradicts the tables, in lines."""
+        lines = list(text.lines_of(self.bad))
+        more = [f"and {len(lines) - MOST_SHOWN} lines more: mcaudit-premises"] if len(lines) > MOST_SHOWN else []
+        return lines[:MOST_SHOWN] + more
 
     def sentences(self):
         """Returns what a person is to know of it."""
-        lines = list(text.lines_of(self.bad))
-        more = [f"and {len(lines) - MOST_SHOWN} lines more: mcaudit-premises"] if len(lines) > MOST_SHOWN else []
-        looked = [judge.looked_at_sentence(self.domain, self.findings)] if self.domain else []
-        return [self.counters.sentence(), *looked, *lines[:MOST_SHOWN], *more]
+        return ["; ".join(self.parts), *self.counters.details(), *self.contradictions()]
 
     def warnings(self):
         """Returns what a plugin is to warn of."""
@@ -54,12 +56,17 @@ class Beside:
 
 
 def look(answer, site, folder, ages):
-    """Returns what stands beside what an audit answered of a site's set, whose files are so old."""
+    """Returns what stands beside what an audit answered of a site's set, whose files are so old. The answer is given by
+    a call."""
     try:
-        found = domain.domain_of(audits.lines_of(io.BytesIO(answer)))
-        has_facts = any(os.path.lexists(os.path.join(folder, PREFIX + it)) for it in found.routers)
-        findings = judge.Judge(found, folder, ages).judge_all() if has_facts else []
+        found = answer()
+        findings = judge.Judge(found, folder, ages).judge_all()
         counters = counted.of_sets(found, site, folder)
-        return Beside(findings + counters.findings, counters, found if has_facts else None)
+        return Beside(findings + counters.findings, counters, ages, found)
     except Exception as fault:  # pylint: disable=broad-exception-caught
-        return Beside([], Counters(reason=f"{type(fault).__name__}: {fault}"))
+        return Beside([], Counters(reason=f"{type(fault).__name__}: {fault}"), ages)
+
+
+def look_at(printed, site, folder, ages):
+    """Returns what stands beside what `mcaudit audit --json` printed of a site's set, whose files are so old."""
+    return look(lambda: domain.domain_of(audits.lines_of(io.BytesIO(printed))), site, folder, ages)

@@ -3,7 +3,7 @@ import os
 import time
 
 from mcaudit_tools import origins, sets
-from mcaudit_tools.ages import age_of
+from mcaudit_tools.ages import age_of, age_text
 from mcaudit_tools.answers import MOST_TABLE
 from mcaudit_tools.common import Failed
 from mcaudit_tools.facts import PREFIX
@@ -97,6 +97,6 @@ def of_sets(answer, site, current):
     is_close = apart[0] + apart[2] >= apart[1]
     counters = Windows(answer, rounds, is_close).judge()
     losses = loss_text(times) if is_close else "which are too far apart to show what is lost"
-    age = age_of(times[0][0], time.time())
-    counters.window = f"by the last {ROUNDS} sets, the first of them {age} s old, {losses}"
+    age = age_text(age_of(times[0][0], time.time()))
+    counters.window = f"by the last {ROUNDS} sets, the first of them {age} old, {losses}"
     return counters

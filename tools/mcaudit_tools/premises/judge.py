@@ -11,9 +11,10 @@ from mcaudit_tools.facts import EARLIER, PREFIX
 from mcaudit_tools.files import read_regular
 from mcaudit_tools.premises import links, netfilter, reverse, tables
 from mcaudit_tools.premises.findings import BESIDE, DROPS, MAY_DROP, NOT_KNOWN, Finding, some
-from mcaudit_tools.premises.reader import UNREADABLE, read_facts
+from mcaudit_tools.premises.reader import read_facts
 from mcaudit_tools.premises.rows import Wanted, vifs_of
 from mcaudit_tools.premises.rules import Packet
+from mcaudit_tools.told import UNREADABLE
 
 KINDS = reverse.KIND, links.KIND, links.SIZES, netfilter.KIND, tables.KIND
 ROUTER = "facts"
@@ -182,8 +183,12 @@ class Judge:
                 self.neighbors += [(router, device, address) for address in it]
 
     def judge_neighbors(self):
-        """Yields the neighbours that are no listed router's, where all addresses of the listed routers are known."""
-        if any(self.addresses.get(it) is None for it in self.domain.routers):
+        """Yields the neighbours that are no listed router's, or that this isn't known."""
+        missing = [it for it in self.domain.routers if self.addresses.get(it) is None]
+        if missing:
+            for router in dict.fromkeys(router for router, _, _ in self.neighbors):
+                yield Finding(NOT_KNOWN, "neighbors", router, "whether its PIM neighbours are listed routers: there "
+                              f"are no addresses of {some(missing)}")
             return
         listed = {it for found in self.addresses.values() for them in found.values() for it in them}
         for router, device, address in self.neighbors:
@@ -197,14 +202,3 @@ def looked_at(domain, findings):
     unknown = {(it.kind, it.router) for it in findings if it.word == NOT_KNOWN}
     return {kind: [it for it in domain.routers if (kind, it) not in unknown and (ROUTER, it) not in unknown]
             for kind in KINDS}
-
-
-def looked_at_sentence(domain, findings):
-    """Returns on how many routers each kind was looked at, as a sentence."""
-    parts = []
-    for kind, routers in looked_at(domain, findings).items():
-        there = set(routers)
-        missing = [it for it in domain.routers if it not in there]
-        parts.append(f"{kind} on {len(routers)} of {len(domain.routers)} routers"
-                     + (f" (not {some(missing)})" if missing else ""))
-    return f"looked at: {', '.join(parts)}"

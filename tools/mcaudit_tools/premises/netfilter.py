@@ -4,8 +4,8 @@ import shlex
 
 from mcaudit_tools.premises import iptables
 from mcaudit_tools.premises.findings import DROPS, MAY_DROP, NOT_KNOWN
-from mcaudit_tools.premises.reader import UNREADABLE
 from mcaudit_tools.premises.rules import Ruleset, TooMuch
+from mcaudit_tools.told import UNREADABLE
 
 KIND = "netfilter"
 TABLE_LINE = re.compile(r"\s*table (\S+) (\S+) \{")

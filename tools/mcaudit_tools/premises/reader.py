@@ -1,20 +1,16 @@
 """The facts of one router, as a set has them in facts-NAME: its own words, believed of it alone and in bounds."""
 import functools
 import ipaddress
-import json
 import os
 import re
 
-from mcaudit_tools.common import Failed, clean
+from mcaudit_tools.common import Failed
 from mcaudit_tools.draft.told import link_addresses
-from mcaudit_tools.facts import END, MOST_FILE
-from mcaudit_tools.files import read_regular, whole
+from mcaudit_tools.facts import MOST_FILE
+from mcaudit_tools.files import read_regular
 from mcaudit_tools.premises.routes import MainTable, Route, routes_of
+from mcaudit_tools.told import MOST_LINES, UNREADABLE, Told, json_lists, json_of
 
-MOST_LINES = 1_000_000  # of a router's facts
-MOST_DEPTH = 32  # of JSON that a router answers
-NESTING = re.compile(r'"(?:[^"\\]|\\.)*"|[\[\]{}]')
-UNREADABLE = ValueError, KeyError, TypeError, AttributeError, IndexError, RecursionError
 ADDRESS_LINE = re.compile(r"\s+inet ([0-9.]+)")
 DEVICE_LINE = re.compile(r"\d+: ([^:@ ]+)")
 ABOUT = re.compile(r"order (little|big) uid (\d{1,10}) ")
@@ -23,39 +19,12 @@ ODD_RULE = re.compile(r"\bfrom (?!all\b)|\b(?:tos|dsfield|dscp|ipproto|sport|dpo
 NUMBERS = {10: re.compile(r"[0-9]{1,10}"), 16: re.compile(r"0x[0-9a-fA-F]{1,8}")}
 
 
-def json_of(text):
-    """Returns the value of JSON of a bounded depth; None where it is none."""
-    depth = deepest = 0
-    for found in NESTING.finditer(text):
-        depth += {"[": 1, "{": 1, "]": -1, "}": -1}.get(found[0], 0)
-        deepest = max(deepest, depth)
-    try:
-        return json.loads(text, parse_int=whole) if deepest <= MOST_DEPTH else None
-    except (ValueError, RecursionError):
-        return None
-
-
-def json_lists(text):
-    """Returns the values of a line in which lists of JSON follow each other."""
-    value = json_of("[" + text.replace("][", "],[") + "]")
-    return value if isinstance(value, list) else []
-
-
-class Facts:
+class Facts(Told):
     """What a router says of itself."""
 
     def __init__(self, text):
         """Takes the text of its facts."""
-        self.sections, name = {}, None
-        for line in text.split(b"\n")[:-1]:  # what has no end is cut
-            if line.startswith(b"@"):
-                name = line[1:].decode("ascii", "replace")
-                self.sections.setdefault(name, [])
-            elif line.startswith(b" ") and name is not None:
-                self.sections[name].append(line[1:])
-        self.is_whole = name == END
-        if name is not None and not self.is_whole:
-            self.sections[name].append(b"!cut short")
+        super().__init__(text)
         about = ABOUT.match(self.text("about"))
         self.order, self.is_root = about[1] if about else None, bool(about) and about[2] == "0"
         self.values = {}  # by path, all that there are
@@ -69,38 +38,6 @@ class Facts:
         """The identity of the router's boot, or None."""
         found = BOOT.match(self.text("about"))
         return found[1] if found else None
-
-    def bytes(self, name):
-        """Returns a section as bytes."""
-        return b"\n".join(self.sections.get(name, ()))
-
-    def text(self, name):
-        """Returns a section as text."""
-        return self.bytes(name).decode("ascii", "replace")
-
-    def lines(self, name):
-        """Returns the lines of a section, but for those that say why there are no more."""
-        return [it for it in self.text(name).split("\n") if it and not it.startswith("!")]
-
-    def fault(self, name):
-        """Returns why a section isn't there, or not whole: None where it is."""
-        if name not in self.sections:
-            return "there is nothing that says it"
-        for line in self.sections[name]:
-            if line.startswith(b"!"):
-                reason = clean(line[1:].decode("ascii", "replace"))[:80]
-                return f"it ended with status {reason}" if reason.isdigit() else reason
-        return None
-
-    def failed(self):
-        """Returns why the facts aren't all, or None."""
-        if "failed" in self.sections:
-            return clean(self.text("failed"))[:200]
-        return None if self.is_whole else "the file is cut short"
-
-    def json(self, name):
-        """Returns the value of a section of JSON, or None."""
-        return json_of(self.text(name)) if self.fault(name) is None else None
 
     def is_asked(self, name):
         """Whether a daemon that runs was asked for a section."""

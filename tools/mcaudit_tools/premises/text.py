@@ -2,8 +2,9 @@
 import json
 
 from mcaudit_tools.common import clean
+from mcaudit_tools.premises import basis
 from mcaudit_tools.premises.findings import BAD, MAY_DROP, counts_of, grouped, some
-from mcaudit_tools.premises.judge import ROUTER, looked_at, looked_at_sentence
+from mcaudit_tools.premises.judge import ROUTER, looked_at
 
 MOST_LINES = 200  # for people; --json has all
 
@@ -54,8 +55,9 @@ def object_of(it, flows):
 
 def objects_of(answer, name, findings, counters, ages):
     """Yields the objects of all lines."""
+    no_facts = [] if ages.facts() else ["no facts"]
     yield {"format": 1, "set": name, "verdict": "yes" if answer.is_right else "no", "routers": answer.routers,
-           "ages": ages}
+           "ages": basis.ages_of(ages) + no_facts, "basis": basis.line_of(ages, counters, answer, findings)}
     for it, flows in grouped(findings):
         yield object_of(it, flows)
     for flow, router, reason in counters.unjudged:
@@ -72,7 +74,8 @@ def show(words, answer, name, findings, counters, ages):
     else:
         unknown = {it.router for it in findings if it.kind == ROUTER}
         result = result_of(counts_of(findings), not counters.reason or len(unknown) < len(answer.routers))
-        lines = [*lines_of(findings), f"verdict {'yes' if answer.is_right else 'no'} of {name}: {', '.join(ages)}",
-                 counters.sentence(), looked_at_sentence(answer, findings), result]
+        rests_on = basis.line_of(ages, counters, answer, findings)
+        lines = [*lines_of(findings), f"verdict {'yes' if answer.is_right else 'no'} of {name}: {rests_on}",
+                 *counters.details(), result]
         print("\n".join(map(clean, lines)))
     print(end="", flush=True)

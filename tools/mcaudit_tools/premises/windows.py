@@ -47,12 +47,16 @@ class Counters:
 
     def sentence(self):
         """Returns what they say, in one line."""
-        if self.reason:
-            return f"packets: not looked at: {self.reason}"
+        if self.reason or not self.flows:
+            return f"packets: not looked at ({self.reason or 'no flow is right'})"
         found, unjudged = self.found(), len({flow for flow, _, _ in self.unjudged})
         parts = [f"packets flow on {self.come} of {self.flows} flows", *(f"{name} {count}" for name, count in (
             ("idle", self.idle), ("with a finding", found), ("not judged everywhere", unjudged)) if count)]
-        return f"{', '.join(parts)} ({self.window})"
+        return ", ".join(parts)
+
+    def details(self):
+        """Returns in which time that was, and what could be seen in it, as lines."""
+        return [f"packets: {self.window}"] if self.window and self.flows else []
 
     def as_json(self):
         """Returns the same as JSON has it."""

@@ -1,0 +1,206 @@
+#!/usr/bin/env python3
+"""Hosts that zap, and who else sends to a host, on a network of this machine's kernel. What the program and its tools
+say is held against what a host gets:
+
+- a router that nobody lists sends a flow onto a LAN beside a listed one: the verdict is yes, the host gets each packet
+  twice, and mcaudit-premises says where somebody else sends.
+- hosts that zap through the groups of a domain of PIM: nothing is called lost, the list of their LAN is gathered all
+  the same, and the host that stays gets all of what it is said to get.
+
+  python3 tests/lab/hosts.py PROGRAM [CASE ...]     as root; PROGRAM is the built mcaudit
+
+The network is that of premises.py. The last line counts: N passed, M failed.
+"""
+import os
+import subprocess
+import sys
+import time
+
+sys.dont_write_bytecode = True
+import premises as lab  # noqa: E402
+
+SOURCE, MEMBER = lab.SOURCE, lab.MEMBER
+CHANNELS = [f"239.1.3.{it}" for it in range(1, 9)]
+STEADY, ZAPPED = CHANNELS[:2], CHANNELS[2:]
+HOSTS = [("m1", "10.88.3.71"), ("m2", "10.88.3.72"), ("m3", "10.88.3.73")]
+UNLISTED = [("r9", "eth0", "l1", "10.88.1.9"), ("r9", "eth1", "l2", "10.88.2.9")]
+ZAP = """
+import random, socket, sys, time
+address, groups, rng = socket.inet_aton(sys.argv[1]), sys.argv[2:], random.Random(sys.argv[1])
+print("zapping", flush=True)
+silent = joins = 0
+try:
+    while True:
+        group = rng.choice(groups)
+        one = socket.socket(socket.AF_INET, socket.SOCK_DGRAM)
+        one.setsockopt(socket.SOL_SOCKET, socket.SO_REUSEADDR, 1)
+        one.bind((group, 5004))
+        one.setsockopt(0, socket.IP_ADD_MEMBERSHIP, socket.inet_aton(group) + address)
+        one.settimeout(3)
+        begin = time.monotonic()
+        try:
+            one.recv(2048)
+        except TimeoutError:
+            silent += 1
+        joins += 1
+        time.sleep(max(0, begin + rng.uniform(1, 3) - time.monotonic()))
+        one.close()
+except KeyboardInterrupt:
+    print(joins, silent)
+"""
+PIM = """hostname {router}
+interface eth0
+ ip pim
+{igmp0}exit
+interface eth1
+ ip pim
+{igmp1}exit
+ip pim rp 10.88.1.2 224.0.0.0/4
+"""
+IGMP = " ip igmp\n ip igmp query-interval 10\n ip igmp query-max-response-time 30\n"
+TRAFFIC = os.path.join(lab.HERE, "traffic.py")
+
+
+class HostLab(lab.Lab):
+    """The network of premises.py, with a router that nobody lists and three hosts more."""
+
+    def __init__(self, program):
+        """Takes the program."""
+        super().__init__(program, [*UNLISTED, *((name, "eth0", "l3", address) for name, address in HOSTS)])
+
+    def audit(self):
+        """Returns the lines that audit prints."""
+        done = subprocess.run(["mcaudit", "audit", self.site], env=self.environment, text=True, capture_output=True,
+                              check=False)
+        return done.stdout.splitlines()
+
+    def gather(self, *words):
+        """Gathers the list of the last LAN by its router. Returns the status."""
+        command = [f"{lab.TOOLS}/mcaudit-reports", "-o", f"{self.site}/igmp-l3", *words, "--by",
+                   f"!ip netns exec {self.name}-r3", "eth1"]
+        done = subprocess.run(command, env=self.environment, text=True, capture_output=True, check=False)
+        print(f"    {done.stdout}{done.stderr}".rstrip(), flush=True)
+        return done.returncode
+
+    def list_flows(self, *groups):
+        """Has the topology list these groups, and nothing else."""
+        flows = ", ".join(f'{{source = "{SOURCE}", group = "{it}", ttl = 16}}' for it in groups)
+        self.write("topology", lab.TOPOLOGY[:lab.TOPOLOGY.index("flow = ")] + f"flow = [{flows}]\n")
+
+
+LAB = None
+
+
+def try_unlisted():
+    """A router that nobody lists sends the flow from l1 onto l2, beside r2."""
+    name = "an unlisted router"
+    LAB.start_router("r9")
+    LAB.send()
+    LAB.collect()
+    lines, count = LAB.audit(), LAB.count()
+    found, status, _ = LAB.premises("--watch", "0.5,2,0.5", LAB.site, *LAB.ways)
+    found = [it for it in found if it["kind"] == "packets"]
+    strict = LAB.premises("--watch", "0.5,2,0.5", "--strict", LAB.site, *LAB.ways)[1]
+    print(f"{name}: the member got {count}\n{lab.shown(found)}", end="", flush=True)
+    lab.judge(name, lines[-1:] == ["verdict yes"], lines)
+    lab.judge(name, count >= 250, "the host gets no packet twice")
+    lab.judge(name, lab.finds(found, [("by another vif", "r2: "), ("more come", "r3: ")]), "nobody else is seen")
+    lab.judge(name, not any(map(lab.is_sure, found)), "called sure, and packets come")
+    lab.judge(name, (status, strict) == (0, 1), f"the status is {status}, with --strict {strict}")
+    LAB.end("r9")
+    time.sleep(1)
+    found = [it for it in LAB.premises("--watch", "0.5,2,0.5", LAB.site, *LAB.ways)[0] if it["kind"] == "packets"]
+    lab.judge(name, not found and 140 <= LAB.count() < 160, f"it is gone, and {found}")
+    LAB.end("send")
+
+
+def start_pim(router):
+    """Starts FRR's zebra and pimd on a router, in the place of smcroute."""
+    LAB.end(router)
+    folder = f"{LAB.folder}/{router}-frr"
+    os.mkdir(folder)
+    for daemon, text in (("zebra", f"hostname {router}\n"), ("pimd", PIM.format(
+            router=router, igmp0=IGMP * (router == "r1"), igmp1=IGMP * (router == "r3")))):
+        with open(f"{folder}/{daemon}.conf", "w", encoding="ascii") as file:
+            file.write(text)
+    lab.run(f"chmod 711 {LAB.folder}; chown -R frr: {folder}")
+    LAB.at(router, "sysctl -qw net.ipv4.ip_forward=1")
+    for daemon in ("zebra", "pimd"):
+        LAB.begin(f"{router}-{daemon}", router, [
+            f"/usr/lib/frr/{daemon}", "-N", f"{LAB.name}-{router}", "-f", f"{folder}/{daemon}.conf", "-i",
+            f"{folder}/{daemon}.pid", "-z", f"{folder}/zserv", "--vty_socket", folder])
+        time.sleep(1)
+
+
+def begin_zapping():
+    """Has PIM route, a source send to all channels, one host stay with two of them, and two hosts zap through the
+    others."""
+    LAB.at("r1", "ip route add 10.88.2.0/23 via 10.88.1.2")
+    LAB.at("r2", "ip route add 10.88.3.0/24 via 10.88.2.3")
+    for router in lab.ROUTERS:
+        start_pim(router)
+    for name, _ in HOSTS:
+        LAB.at(name, "ip route add default via 10.88.3.3")
+    LAB.begin("steady", "member", ["python3", TRAFFIC, "member", MEMBER, "999", *STEADY])
+    LAB.begin("channels", "source", ["python3", TRAFFIC, "source", SOURCE, "16", "99999", *CHANNELS])
+    time.sleep(12)
+    for name, address in HOSTS[1:]:
+        LAB.begin(name, name, ["python3", "-c", ZAP, address, *ZAPPED], stdout=subprocess.PIPE, text=True)
+    time.sleep(4)
+    LAB.list_flows(*CHANNELS)
+
+
+def end_zapping(name):
+    """Ends the hosts that zap: of nearly each group that one joined a packet came within three seconds."""
+    for host, _ in HOSTS[1:]:
+        process = LAB.running.pop(host)
+        process.send_signal(2)
+        joins, silent = map(int, process.communicate()[0].split()[1:])
+        print(f"{name}: {host} joined {joins} times, and nothing came {silent} times", flush=True)
+        lab.judge(name, joins >= 8 and 10 * silent <= joins, "hosts that zap get nothing, so that PIM is not well here")
+
+
+def try_zapping(runs=3):
+    """Hosts zap, and nothing is called lost; the list of their LAN is gathered, and says what the host that stays
+    gets."""
+    name = "hosts that zap"
+    begin_zapping()
+    for _ in range(runs):
+        lab.judge(name, LAB.gather("--fold", "--wait", "15") == 0, "no list while hosts zap")
+        LAB.forget_sets()
+        LAB.collect()
+        lines = LAB.audit()
+        found, _, printed = LAB.premises("--watch", "1,3,1", LAB.site, *LAB.ways)
+        found = [it for it in found if it["finding"] not in ("not known", "beside")]
+        print(f"{name}: {lines[-1:]} {printed[-2]['packets']}\n{lab.shown(found)}", end="", flush=True)
+        lab.judge(name, not found, "an alarm, and all is well")
+        for group in STEADY:
+            flow = f"flow {SOURCE} {group} ttl 16 yes copies 4"
+            place = lines.index(flow) if flow in lines else None
+            lab.judge(name, place is not None and lines[place + 1] == "  wanted 1: l3", f"{group} isn't right: {lines}")
+    count = LAB.begin("count", "m1", ["python3", TRAFFIC, "member", HOSTS[0][1], "4", *STEADY], stdout=subprocess.PIPE,
+                      text=True).communicate()[0]
+    del LAB.running["count"]
+    lab.judge(name, all(int(it.split()[1]) >= 30 for it in count.splitlines()), f"in 4 s a host gets {count}")
+    end_zapping(name)
+
+
+def main():
+    """Tries all, or some. Returns the status."""
+    global LAB  # pylint: disable=global-statement
+    if os.getuid() or len(sys.argv) < 2 or not os.access(sys.argv[1], os.X_OK):
+        raise SystemExit("Usage: hosts.py PROGRAM [CASE ...], as root")
+    LAB = lab.LAB = HostLab(os.path.abspath(sys.argv[1]))
+    try:
+        LAB.build()
+        for name, function in (("unlisted", try_unlisted), ("zapping", try_zapping)):
+            if len(sys.argv) == 2 or name in sys.argv[2:]:
+                function()
+    finally:
+        LAB.clear()
+    print(f"{lab.PASSED[True]} passed, {lab.PASSED[False]} failed")
+    return 1 if lab.PASSED[False] or not lab.PASSED[True] else 0
+
+
+if __name__ == "__main__":
+    sys.exit(main())

@@ -81,6 +81,7 @@ def facts_beside(place):
     there = {it.partition("-")[0] for it in os.listdir(place.at("site"))}
     assert {"vif", "cache", "address", "route", "facts"} <= there, there
     for _ in range(2):
+        time.sleep(1)  # a set counts where it was read in a later second than the one before
         assert place.run("monitor", "--pause", "0", "--keep", "1", "site", *ways) == 0, place.said
         assert "\npackets" in place.said, place.said
     assert len(os.listdir(place.at("site.sets"))) >= 4

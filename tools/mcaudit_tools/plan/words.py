@@ -30,8 +30,8 @@ class Words:
         return [self.domain.interface(router, it) for it in vifs]
 
     def by_hand(self, step):
-        """Returns why a person has to do a step, or None: so it is too with one in the place of an entry to none for which
-        smcroute can't be given a rule."""
+        """Returns why a person has to do a step, or None. It is so too with a step that takes the place of an entry to
+        none for which smcroute can't be given a rule."""
         if step.router in self.pim:
             return PIM
         vifs = [it for it in (step.vif, *step.outgoing, step.in_place_of) if it is not None]

@@ -18,7 +18,7 @@ import typing
 sys.dont_write_bytecode = True
 import shapes
 import texts
-from domains import Domain, Plan
+from domains import Domain
 from premises import MEASURING, TOP, write
 
 DOWN = "router-3"
@@ -34,17 +34,8 @@ class Case(typing.NamedTuple):
 
 
 def dual_homed(rng, share):
-    """8 routers on a backbone, 62 each on two of these, and 186 for the buildings, each on two of those, with a LAN each;
-    about 12 of these LANs take a flow."""
-    plan = Plan(256)
-    plan.lan(*range(8))
-    for middle in range(8, 70):
-        plan.lan(middle % 8, middle)
-        plan.lan((middle + 1) % 8, middle)
-    for edge in range(70, 256):
-        plan.lan(8 + edge % 62, edge)
-        plan.lan(8 + (edge + 1) % 62, edge)
-    lans = [plan.lan(edge) for edge in range(70, 256)]
+    """Buildings with a LAN each, of which about 12 take a flow."""
+    plan, lans = shapes.buildings(1)
     flows = shapes.flows_of(rng, int(4096 * share), lans, 16)
     return Domain(rng, plan, flows, shapes.subscribed(rng, plan, lans, shapes.packages_of(flows, 256), 16))
 

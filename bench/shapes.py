@@ -107,9 +107,9 @@ def market(rng, share):
     return Domain(rng, plan, flows, silent(plan, lists), others)
 
 
-def campus(rng, share):
-    """8 routers on a backbone, 62 each on two of these, and 186 for the buildings, each on two of those, with two LANs
-    each; the first 70 have large tables. The whole is 248 MB."""
+def buildings(count):
+    """8 routers on a backbone, 62 each on two of these, and 186 for the buildings, each on two of those, with so many
+    LANs each. Returns the plan, and these LANs."""
     plan = Plan(256)
     plan.lan(*range(8))
     for middle in range(8, 70):
@@ -118,7 +118,12 @@ def campus(rng, share):
     for edge in range(70, 256):
         plan.lan(8 + edge % 62, edge)
         plan.lan(8 + (edge + 1) % 62, edge)
-    lans = [plan.lan(edge) for edge in range(70, 256) for _ in range(2)]
+    return plan, [plan.lan(edge) for edge in range(70, 256) for _ in range(count)]
+
+
+def campus(rng, share):
+    """Buildings with two LANs each, on 256 routers of which the first 70 have large tables. The whole is 248 MB."""
+    plan, lans = buildings(2)
     flows = flows_of(rng, 64, lans, 16)
     reports = subscribed(rng, plan, lans, packages_of(flows, 16), 4)
     return Domain(rng, plan, flows, reports, other_rows(rng, int(60000 * share)), full=70)

@@ -113,6 +113,13 @@ def flows_beside_the_rows(place):
     assert len(flows) == 3 and "its source is on no LAN of these routers" in flows[2], flows
 
 
+def assert_named(place, wrong):
+    """Holds what was said to the reasons of these lines, of which the first is line 3, and to nothing hidden."""
+    named = [f"mcaudit-draft: list: line {line}: {reason}" for line, (_, reason) in enumerate(wrong, 3)]
+    assert [it for it in place.said.splitlines() if ": list: " in it] == named, place.said
+    assert "hidden" not in place.said, place.said
+
+
 @case
 def lines_that_are_wrong(place):
     """Each is named with its number and reason, and nothing of it is printed or written; the others are taken."""
@@ -132,9 +139,7 @@ def lines_that_are_wrong(place):
     lines = ["source,group,ttl,name", f"{S},239.1.1.1,5,title", *(line for line, _ in wrong), f"{T},239.1.1.1,6,title"]
     status, _ = drafted(place, text="\n".join(lines))
     assert (status, pairs(place)) == (1, [(S, "239.1.1.1", 5), (T, "239.1.1.1", 6)]), place.said
-    named = [f"mcaudit-draft: list: line {line}: {reason}" for line, (_, reason) in enumerate(wrong, 3)]
-    assert [it for it in place.said.splitlines() if ": list: " in it] == named, place.said
-    assert "hidden" not in place.said, place.said
+    assert_named(place, wrong)
 
 
 @case
@@ -150,9 +155,7 @@ def urls_that_are_wrong(place):
     lines = [f"udp://{S}@239.1.1.1", "udp://239.1.1.2", *(line for line, _ in wrong)]
     status, _ = drafted(place, "--ttl", "5", text="\n".join(lines))
     assert (status, pairs(place)) == (1, [(S, "239.1.1.1", 5)]), place.said
-    named = [f"mcaudit-draft: list: line {line}: {reason}" for line, (_, reason) in enumerate(wrong, 3)]
-    assert [it for it in place.said.splitlines() if ": list: " in it] == named, place.said
-    assert "hidden" not in place.said, place.said
+    assert_named(place, wrong)
 
 
 @case

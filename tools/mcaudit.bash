@@ -13,9 +13,9 @@ _mcaudit() {
     case ${COMP_WORDS[1]} in
         audit | pack)
             if [ "${COMP_WORDS[1]}" = audit ]; then
-                option='--travel --faults --unlisted --strict --json --without'
-                # the word behind is a router, whatever it begins with
-                if [ "$before" = --without ]; then return; fi
+                option='--travel --faults --unlisted --strict --json --without --ignore'
+                # the word behind is a router, whatever it begins with, or a range
+                if [ "$before" = --without ] || [ "$before" = --ignore ]; then return; fi
             fi
             case $word in
                 -*) mapfile -t COMPREPLY < <(compgen -W "$option" -- "$word") ;;

@@ -67,8 +67,8 @@ set -l asking \
     '--tries:value:gather again, so many times in all' \
     '--wait:value:wait so long for a query'
 
-# the word behind --without is a router, whatever it begins with
-set -l audit '__mcaudit_command_is audit; and not __fish_prev_arg_in --without'
+# the word behind --without is a router, whatever it begins with, and that behind --ignore a range
+set -l audit '__mcaudit_command_is audit; and not __fish_prev_arg_in --without --ignore'
 __mcaudit_commands mcaudit \
     'audit:judge each flow of the files of a folder' \
     'check:judge each flow of a bundle by its certificate' \
@@ -86,7 +86,8 @@ __mcaudit_options mcaudit $audit \
     '--unlisted::tell all unlisted sources and groups' \
     '--strict::end with status 1 where a flow that is right is wanted by nobody' \
     '--json::write an object a line' \
-    '--without:value:audit without the tables of a router'
+    '--without:value:audit without the tables of a router' \
+    '--ignore:value:leave aside what hosts ask for of a range of groups'
 __mcaudit_folders mcaudit $audit
 __mcaudit_options mcaudit '__mcaudit_command_is pack' '--certificate::pack the certificate too'
 __mcaudit_folders mcaudit '__mcaudit_command_is pack'

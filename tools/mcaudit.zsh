@@ -50,7 +50,8 @@ mcaudit)
             '--unlisted[tell all unlisted sources and groups]' \
             '--strict[end with status 1 where a flow that is right is wanted by nobody]' \
             '--json[write an object a line]' \
-            '*--without=[audit without the tables of a router]:router: ' $site ;;
+            '*--without=[audit without the tables of a router]:router: ' \
+            '*--ignore=[leave aside what hosts ask for of a range of groups]:range: ' $site ;;
     *:pack) _arguments ': :' '--certificate[pack the certificate too]' $site ;;
     *:replay) _arguments ': :' ':flow: ' ':ttl: ' '--order[which waiting copy is handled next]:order:(first last)' ;;
     esac ;;

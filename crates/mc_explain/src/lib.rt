@@ -1,6 +1,7 @@
 //! Why a flow isn't right: the causes and remedies that follow from the tables.
 #![tactic(auto)]
 
+mod asked;
 mod causes;
 mod excluded;
 pub mod laws;
@@ -9,6 +10,9 @@ mod shown;
 mod unlisted;
 mod wanted;
 
+pub use asked::{
+    AskedLine, RoutersByState, push_asked, push_asked_more, push_asked_services,
+};
 pub use causes::{Cause, Certainty, Explanation, explain, shown_from};
 pub use excluded::{list_excluded_routers, push_verdict_reason, push_excluded_routers};
 pub use searches::{

@@ -4,6 +4,7 @@ pub mod LineData
 pub mod TreeKey
 pub mod FlowData
 pub mod EndData
+pub mod AskedData
 pub mod WhyData
 pub mod DomainData
 pub mod ObjectLines

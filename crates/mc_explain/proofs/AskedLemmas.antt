@@ -1,12 +1,11 @@
 -- The wants that no flow answers.
-use Rattle.std.proofs.Common.{◌≡◌, ℕ, ◌==◌, ◌<◌, zero, suc, false, List, [], ◌∷◌, ◌++◌, codes, length, arith}
-use Rattle.std.proofs.Common.{refl}
+use Rattle.std.proofs.Common.{◌≡◌, ℕ, ◌==◌, ◌<◌, zero, suc, false, List, [], ◌∷◌, ◌++◌, codes, decimal}
+use Rattle.std.proofs.Common.{length, arith, refl}
 use Rattle.std.specs.Prelude.{slice_get, slice_index_or}
-use Rattle.mc_topology.specs.Topology.{TopologyValue}
 use Rattle.mc_asked.specs.declared.forwarding.RouterState.{RouterState}
 use Rattle.mc_asked.specs.Forwarding.{has_state, is_same_state}
-use Rattle.mc_explain.specs.AskedText.{addresses_text, listed_text, routers_or}
-use Rattle.mc_explain.specs.ShownNames.{routers_text}
+use Rattle.mc_asked.specs.ListWants.{Want}
+use Rattle.mc_explain.specs.AskedText.{services_text, some_services_text}
 
 -- the state of a router whose number is in the list
 pub has_state-at : (state : RouterState) (states : List RouterState) (n : ℕ) (d : RouterState)
@@ -14,3 +13,10 @@ pub has_state-at : (state : RouterState) (states : List RouterState) (n : ℕ) (
 has_state-at state [] n d within = absurd (omega (arith, within))
 has_state-at state (own ∷ states) zero d within = refl
 has_state-at state (own ∷ states) (suc n) d within = has_state-at state states n d (omega (arith, within))
+
+-- the line of services, if there is one
+pub services_text-some_service : (lines : List (Want × List ℕ)) → (length lines == 0) ≡ false
+    → codes "asked services " ++ (decimal (length lines) ++ (codes ":"
+    ++ (some_services_text lines ++ codes "\n"))) ≡ services_text lines
+services_text-some_service [] some = absurd cc
+services_text-some_service (line ∷ lines) some = refl

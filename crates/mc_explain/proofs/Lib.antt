@@ -3,6 +3,7 @@ pub mod LineFeedLemmas
 pub mod IndentedLemmas
 pub mod NameListLemmas
 pub mod FilterLemmas
+pub mod AskedLemmas
 pub mod BackLemmas
 pub mod NeedLemmas
 pub mod FoundCopyLemmas

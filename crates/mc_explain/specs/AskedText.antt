@@ -61,24 +61,29 @@ is_ignored_by_routers want = (want.1 == any_source) && has_group (232 * 2 ^ 24, 
 abbrev pub ssm_text : Want → List ℕ
 ssm_text want = if is_ignored_by_routers want then codes "; SSM: routers ignore it" else []
 
--- the line of a want and its LANs, with the sources of listed flows of its group, and who forwards it
-abbrev pub asked_line_text : TopologyValue → Want × List ℕ → (listed : List ℕ) → (forwarding : List ℕ)
-    → List ℕ
-asked_line_text t line listed forwarding =
+-- what is said of a want behind its LANs: who forwards it, the sources of listed flows of its group, and
+-- that routers ignore it
+abbrev pub what_in : (forwarding : List ℕ) → (listed : List ℕ) → Want → List ℕ
+what_in forwarding listed want = forwarding ++ (listed_text listed ++ ssm_text want)
+
+-- the line of a want and its LANs
+abbrev pub asked_line_text : TopologyValue → Want × List ℕ → (what : List ℕ) → List ℕ
+asked_line_text t line what =
     codes "asked " ++ (address_text line.0.1 ++ (codes " " ++ (dotted line.0.0
     ++ (codes " lans " ++ (decimal (length line.1) ++ (codes ":" ++ (lans_text t line.1
-    ++ (codes ": " ++ (forwarding ++ (listed_text listed
-    ++ (ssm_text line.0 ++ codes "\n")))))))))))
+    ++ (codes ": " ++ (what ++ codes "\n")))))))))
+
+abbrev pub what_text : TopologyValue → AskedLine → List ℕ
+what_text t line = what_in (forwarding_words t line.are_excluded line.routers.now.forwards.items
+    line.routers.now.none_out.items line.routers.now.every_source.items) line.listed.now line.want.now
 
 abbrev pub asked_text_of : TopologyValue → AskedLine → List ℕ
-asked_text_of t line = asked_line_text t line.want.now line.listed.now
-    (forwarding_words t line.are_excluded line.routers.now.forwards.items line.routers.now.none_out.items
-    line.routers.now.every_source.items)
+asked_text_of t line = asked_line_text t (line.want.now, line.lans.now) (what_text t line)
 
 abbrev pub asked_text : TopologyValue → (are_excluded : Bool) → (flows : List (ℕ × ℕ)) → List RouterState
     → Want × List ℕ → List ℕ
-asked_text t are_excluded flows states line = asked_line_text t line (listed_sources flows line.0.0)
-    (forwarding_text t are_excluded states)
+asked_text t are_excluded flows states line = asked_line_text t line
+    (what_in (forwarding_text t are_excluded states) (listed_sources flows line.0.0) line.0)
 
 -- how many more wants there are
 abbrev pub asked_more_text : ℕ → List ℕ

@@ -56,10 +56,10 @@ fn asked_value(
 ) -> Result<Value, AllocError>
     ensures { IfOk result (λ value. data_of value ≡ asked_data_of topology.now line.now) }
 {
-    let (group, source) = *line.want.pair();
+    let (group, source) = *line.want;
     let inner = Fields::new(alloc)
         .string("group", format!(in alloc; "{group}"))
-        .list("lans", lan_names(alloc, topology, line.want.lans()))
+        .list("lans", lan_names(alloc, topology, line.lans))
         .list("listed", address_values(alloc, line.listed))
         .list("none", router_names(alloc, topology, &line.routers.none_out))
         .list("routers", router_names(alloc, topology, &line.routers.forwards))

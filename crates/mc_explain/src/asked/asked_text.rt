@@ -4,21 +4,23 @@ ghost use Rattle.std.specs.Prelude.{◌≡◌, ◌++◌, OnOk, Some, flat_map};
 ghost use Rattle.std.specs.String.{string_bytes};
 ghost use Rattle.mc_explain.specs.AskedText.{addresses_text, asked_more_text, asked_text_of, forwarding_words};
 ghost use Rattle.mc_explain.specs.AskedText.{is_ignored_by_routers, listed_text};
-ghost use Rattle.mc_explain.specs.AskedText.{service_text, services_text, some_services_text, ssm_text};
+ghost use Rattle.mc_explain.specs.AskedText.{service_text, services_text, some_services_text, ssm_text, what_text};
 
 use crate::asked::routers_by_state::RoutersByState;
 use crate::shown::row_text::ShownAddress;
 use crate::shown::shown_names::{MAX_SHOWN_NAMES, ShownLans, ShownMore, ShownRouters, first_eight};
 use mc_asked::{SharedPair, service_name};
 use mc_text::{Addr, Memory};
-use mc_topology::{RouterNo, Topology};
+use mc_topology::{LanNo, RouterNo, Topology};
 use std::fmt;
 
 /// A want that no flow answers, and what is said of it.
 #[derive(Clone, Copy, Drop)]
 pub struct AskedLine<'t> {
-    /// The group, the source or 0.0.0.0 for any, and the LANs whose want it is.
-    pub want: &'t SharedPair,
+    /// The group, and the source or 0.0.0.0 for any.
+    pub want: &'t (Addr, Addr),
+    /// The LANs whose want it is.
+    pub lans: &'t [LanNo],
     /// The sources of the listed flows of the group, in the topology's order.
     pub listed: &'t [Addr],
     /// The routers by what they have for it.
@@ -131,6 +133,32 @@ impl<'t> fmt::Display for ShownSsm<'t> {
     }
 }
 
+/// What is said of a want behind its LANs.
+#[derive(Clone, Copy, Drop)]
+struct ShownWhat<'t> {
+    topology: &'t Topology,
+    line: AskedLine<'t>,
+}
+
+impl<'t> fmt::Display for ShownWhat<'t> {
+    ghost output = { λ shown. Some (what_text shown.topology.now shown.line) };
+
+    fn fmt<W: fmt::Write>(&self, f: &mut fmt::Formatter<W>) -> fmt::Result {
+        let forwarding = ShownForwarding {
+            topology: self.topology,
+            routers: self.line.routers,
+            are_excluded: self.line.are_excluded,
+        };
+        let listed = ShownListed {
+            sources: self.line.listed,
+        };
+        let ssm = ShownSsm {
+            want: self.line.want,
+        };
+        write!(f, "{forwarding}{listed}{ssm}")
+    }
+}
+
 /// Writes the line of a want that no flow answers.
 ///
 /// # Errors
@@ -140,25 +168,20 @@ pub fn push_asked(text: &mut String, topology: &Topology, line: &AskedLine<'_>) 
     ensures { OnOk result (string_bytes text.new ≡ string_bytes text.old
         ++ asked_text_of topology.now line.now) }
 {
-    let want = line.want.pair();
-    let lans = line.want.lans();
-    let (group, address) = *want;
-    let count = lans.len();
-    let source = ShownAddress { address };
-    let lans = ShownLans { lans, topology };
-    let forwarding = ShownForwarding {
+    let group = line.want.0;
+    let source = ShownAddress {
+        address: line.want.1,
+    };
+    let count = line.lans.len();
+    let lans = ShownLans {
+        lans: line.lans,
         topology,
-        routers: line.routers,
-        are_excluded: line.are_excluded,
     };
-    let listed = ShownListed {
-        sources: line.listed,
+    let what = ShownWhat {
+        topology,
+        line: *line,
     };
-    let ssm = ShownSsm { want };
-    writeln!(
-        text,
-        "asked {source} {group} lans {count}:{lans}: {forwarding}{listed}{ssm}"
-    )?;
+    writeln!(text, "asked {source} {group} lans {count}:{lans}: {what}")?;
     Ok(())
 }
 

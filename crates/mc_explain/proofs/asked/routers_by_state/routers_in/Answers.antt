@@ -1,4 +1,4 @@
-use Rattle.std.proofs.Common.{◌∙◌, ap, sym}
+use Rattle.std.proofs.Common.{ℕ, Bool, ◌∙◌, sym}
 use Rattle.std.specs.Prelude.{slice_get}
 use Rattle.mc_theory.specs.Lists.{below}
 use Rattle.mc_asked.specs.Forwarding.{has_state}
@@ -15,7 +15,7 @@ loop-router-init c = c.new-routers.ensures.items
 pub loop-router-preserved : goal.loop-router-preserved
 loop-router-preserved c =
     let states = c.args.states.now in
-    let passes = λ r. has_state c.args.state (slice_get states r) in
+    let passes : ℕ → Bool = λ r. has_state c.args.state (slice_get states r) in
     let xs = c.loop-router.routers.items in
     let n = c.loop-router.router in
     let at = has_state-at c.args.state states n _ c.loop-router-test.true in

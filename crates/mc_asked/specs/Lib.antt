@@ -6,6 +6,7 @@ pub mod Indexes
 pub mod AskedLines
 pub mod PairParts
 pub mod Forwarding
+pub mod WantStates
 pub use Rattle.mc_text.specs.Addr
 pub use Rattle.mc_text.specs.GroupRange
 pub use Rattle.mc_text.specs.Pair

@@ -11,6 +11,7 @@ pub mod laws;
 mod services;
 mod shared_pairs;
 mod want_class;
+mod want_states;
 mod wants;
 
 pub use answers::WantAnswers;
@@ -20,3 +21,4 @@ pub use lan_wants::LanWants;
 pub use services::service_name;
 pub use shared_pairs::SharedPair;
 pub use want_class::WantClass;
+pub use want_states::StatedWant;

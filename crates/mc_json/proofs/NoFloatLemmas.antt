@@ -1,5 +1,5 @@
 -- No value of a line has a fraction.
-use Rattle.std.proofs.Common.{◌≡◌, ℕ, Bool, true, false, List, [], ◌∷◌, ◌++◌, Option, Some, None, map}
+use Rattle.std.proofs.Common.{◌≡◌, ℕ, Bool, true, false, List, [], ◌∷◌, ◌++◌, Option, Some, None, map, ◌==◌, cond}
 use Rattle.std.proofs.Common.{refl}
 use Rattle.std.proofs.lemmas.Bool.{or_parts}
 use Rattle.mc_tables.specs.CacheTable.{EntryValue}
@@ -28,6 +28,10 @@ use Rattle.mc_json.specs.RowData.{count_data, lan_data, router_data}
 use Rattle.mc_json.specs.FlowData.{event_data, events_if_asked, finding_data, passed_vifs}
 use Rattle.mc_json.specs.FlowData.{interface_router, interface_vif, outcome_data, reached_data, right_data}
 use Rattle.mc_json.specs.EndData.{unlisted_data, without_data}
+use Rattle.serde_json.specs.Data.{null}
+use Rattle.mc_json.specs.AskedData.{address_data, asked_data_of, service_data, services_data, source_data}
+use Rattle.mc_asked.specs.ListWants.{Want}
+use Rattle.mc_explain.specs.declared.asked.asked_text.AskedLine.{AskedLine}
 use Rattle.mc_json.specs.FlowData.{shown_from_data, tree_data, wrong_data, wrong_flow_of, wrong_mark}
 use Rattle.mc_json.specs.TreeKey.{taking_interface}
 use Rattle.mc_explain.specs.declared.causes.explanation.Certainty.{Certainty}
@@ -218,3 +222,32 @@ no_float-unlisted_data t source group routers = rw (no_float-routers t routers)
 pub no_float-without_data : (t : TopologyValue) (routers : List ℕ) → has_float (without_data t routers)
     ≡ false
 no_float-without_data t routers = rw (no_float-routers t routers)
+
+-- ---- wants that no flow answers
+
+no_float-addresses : (addresses : List ℕ) → HaveNoFloat (map address_data addresses)
+no_float-addresses addresses = no_float-map address_data (λ address. refl) addresses
+
+no_float-source_data : (source : ℕ) → has_float (source_data source) ≡ false
+no_float-source_data source = elim (source == 0) as (λ b.
+    has_float (cond b null (address_data source)) ≡ false) [
+      | true ↦ refl
+      | false ↦ refl
+    ]
+
+pub no_float-asked_data : (t : TopologyValue) (line : AskedLine) → has_float (asked_data_of t line) ≡ false
+no_float-asked_data t line = rw (
+    no_float-lans t line.lans.now,
+    no_float-addresses line.listed.now,
+    no_float-routers t line.routers.now.none_out.items,
+    no_float-routers t line.routers.now.forwards.items,
+    no_float-source_data line.want.now.1,
+    no_float-routers t line.routers.now.every_source.items,
+  )
+
+no_float-service_data : (t : TopologyValue) (line : Want × List ℕ) → has_float (service_data t line) ≡ false
+no_float-service_data t line = rw (no_float-lans t line.1)
+
+pub no_float-services_data : (t : TopologyValue) (lines : List (Want × List ℕ))
+    → has_float (services_data t lines) ≡ false
+no_float-services_data t lines = rw (no_float-map (service_data t) (no_float-service_data t) lines)

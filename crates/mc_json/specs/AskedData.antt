@@ -43,18 +43,23 @@ abbrev pub asked_data : TopologyValue → (flows : List (ℕ × ℕ)) → List R
 asked_data t flows states line = asked_object t line (listed_sources flows line.0.0)
     (routers_in NoneOut states) (routers_in Forwards states) (routers_in EverySource states)
 
--- how many more wants of LANs there are, as a line, nothing if there are none
+-- how many more wants of LANs there are
+abbrev pub asked_more_data : ℕ → Data
+asked_more_data more = single_member (codes "asked_more") (single_member (codes "wants") (count_data more))
+
+-- as a line, nothing if there are none
 abbrev pub asked_more_line : ℕ → List ℕ
-asked_more_line more =
-    if more == 0 then []
-    else line_of (single_member (codes "asked_more") (single_member (codes "wants") (count_data more)))
+asked_more_line more = if more == 0 then [] else line_of (asked_more_data more)
 
 -- a service and the LANs whose hosts ask for its group
+abbrev pub service_object : TopologyValue → (group : ℕ) → (lans : List ℕ) → Data
+service_object t group lans = object_data (
+    (codes "group", address_data group)
+    ∷ (codes "lans", lans_data t lans)
+    ∷ (codes "name", string (unwrap_or (service_name group) [])) ∷ [])
+
 abbrev pub service_data : TopologyValue → Want × List ℕ → Data
-service_data t line = object_data (
-    (codes "group", address_data line.0.0)
-    ∷ (codes "lans", lans_data t line.1)
-    ∷ (codes "name", string (unwrap_or (service_name line.0.0) [])) ∷ [])
+service_data t line = service_object t line.0.0 line.1
 
 abbrev pub services_data : TopologyValue → List (Want × List ℕ) → Data
 services_data t lines = single_member (codes "asked_services") (list_data (map (service_data t) lines))

@@ -1,10 +1,12 @@
 //! The lines of wants that no flow answers, and of services.
 
-ghost use Rattle.std.specs.Prelude.{◌≡◌, ◌++◌, IfOk, OnOk, map};
+ghost use Rattle.std.specs.Prelude.{◌≡◌, ◌++◌, [], IfOk, OnOk, map, unwrap_or};
+ghost use Rattle.mc_asked.specs.Services.{service_name};
 ghost use Rattle.std.specs.String.{string_bytes};
 ghost use Rattle.serde_json.specs.View.{view as data_of};
 ghost use Rattle.mc_json.specs.AskedData.{address_data, asked_data_of, asked_more_line, service_data};
-ghost use Rattle.mc_json.specs.AskedData.{asked_services_line, services_data, source_data};
+ghost use Rattle.mc_json.specs.AskedData.{asked_services_line, service_object, services_data};
+ghost use Rattle.mc_json.specs.AskedData.{source_data};
 ghost use Rattle.mc_json.specs.RowData.{line_of};
 
 use crate::fields::Fields;
@@ -13,7 +15,7 @@ use crate::name_values::{lan_names, router_names};
 use mc_asked::{SharedPair, service_name};
 use mc_explain::AskedLine;
 use mc_text::{Addr, Memory};
-use mc_topology::Topology;
+use mc_topology::{LanNo, Topology};
 use serde_json::Value;
 use std::alloc::{AllocError, Global};
 
@@ -103,19 +105,26 @@ pub fn push_asked_more_line(text: &mut String, wants: u128) -> Result<(), Memory
     Ok(())
 }
 
+/// The name of the service of a group, or nothing if it is none's.
+fn service_name_or_empty(group: Addr) -> &'static str
+    ensures { result.now ≡ unwrap_or (service_name group) [] }
+{
+    service_name(group).unwrap_or("")
+}
+
 /// The group of a service, the LANs whose hosts ask for it, and its name.
 fn service_value(
     alloc: Global,
     topology: &Topology,
-    service: &SharedPair,
+    group: Addr,
+    lans: &[LanNo],
 ) -> Result<Value, AllocError>
-    ensures { IfOk result (λ value. data_of value ≡ service_data topology.now service.now) }
+    ensures { IfOk result (λ value. data_of value ≡ service_object topology.now group lans.now) }
 {
-    let group = service.pair().0;
     Fields::new(alloc)
         .string("group", format!(in alloc; "{group}"))
-        .list("lans", lan_names(alloc, topology, service.lans()))
-        .text("name", service_name(group).unwrap_or(""))
+        .list("lans", lan_names(alloc, topology, lans))
+        .text("name", service_name_or_empty(group))
         .object()
 }
 
@@ -130,7 +139,8 @@ fn service_values(
 {
     let mut values = Vec::new(alloc);
     for service in services {
-        values.push(service_value(alloc, topology, service)?)?;
+        let group = service.pair().0;
+        values.push(service_value(alloc, topology, group, service.lans())?)?;
     }
     Ok(values)
 }

@@ -4,6 +4,8 @@ pub mod ForwardingLemmas
 pub mod LowestOfParts
 pub mod MergeLemmas
 pub mod PartLemmas
+pub mod OneKeyLemmas
+pub mod WantStateLemmas
 pub mod SharedPairLemmas
 pub mod LawLemmas
 pub mod AskedLawLemmas

@@ -159,7 +159,7 @@ with_part_so_far-other_pair parts own q p other =
     ap (λ (b : Bool). (p, parts_with parts p ++ cond b (length parts ∷ []) []))
     (is_listed-push_other own q p other)
 
-in-get_or : (xs : List (ℕ × ℕ)) (k : ℕ) (d : ℕ × ℕ) → k < length xs → In (get_or xs k d) xs
+pub in-get_or : (xs : List (ℕ × ℕ)) (k : ℕ) (d : ℕ × ℕ) → k < length xs → In (get_or xs k d) xs
 in-get_or [] k d lt = absurd (omega (arith, lt))
 in-get_or (x ∷ xs) zero d lt = inl refl
 in-get_or (x ∷ xs) (suc k) d lt = inr (in-get_or xs k d (omega (arith, lt)))
@@ -218,7 +218,24 @@ index-from_in q (p ∷ ps) (inr h) =
     let later = index-from_in q ps h in
     (suc later.0, (omega (arith, later.1.0), later.1.1))
 
--- a pair for which the binary search finds only a place between others
+-- a pair for which the binary search finds only a place between others isn't among them
+pub not_in-from_search : (ps seen : List (ℕ × ℕ)) (i : ℕ) (q : ℕ × ℕ) → seen ≡ ps
+    → IsStrictlySortedBy key_cmp ps → i ≤ length seen
+    → (IsNonDecreasingBy (λ p. ordering_index (key_cmp p q)) seen
+    → IsPartitionPoint (λ p. key_cmp p q ≡ Less) (λ p. key_cmp p q ≡ Greater) seen i)
+    → In q ps → ⊥
+not_in-from_search ps seen i q same up le found there =
+    let at = index-from_in q ps there in
+    let equal : key_cmp (get_or ps at.0 q) q ≡ Equal =
+    ap (λ (x : ℕ × ℕ). key_cmp x q) at.1.1 ∙ tied_itself key_cmp-total q in
+    let whole : insert ps i q ≡ ps =
+    sym (put_pair-at_search_place q ps seen i same up le found) ∙ put_pair-member q q ps at.0 up at.1.0
+    equal in
+    let size = ap length whole in
+    let grown = length-insert ps i q (subst (λ (l : List (ℕ × ℕ)). i ≤ length l) same le) in
+    absurd (omega (arith, size, grown))
+
+-- so it changes nothing
 pub with_part_so_far-absent : (parts : List (List (ℕ × ℕ))) (own ps seen : List (ℕ × ℕ)) (i : ℕ) (q : ℕ × ℕ)
     → seen ≡ ps → IsStrictlySortedBy key_cmp ps → i ≤ length seen
     → (IsNonDecreasingBy (λ p. ordering_index (key_cmp p q)) seen
@@ -227,15 +244,7 @@ pub with_part_so_far-absent : (parts : List (List (ℕ × ℕ))) (own ps seen : 
 with_part_so_far-absent parts own ps seen i q same up le found =
     map-equal_on_list (with_part_so_far parts own) (with_part_so_far parts (own ++ q ∷ [])) ps (λ p h.
     with_part_so_far-other_pair parts own q p (λ e.
-    let at = index-from_in q ps (subst (λ (x : ℕ × ℕ). In x ps) e h) in
-    let equal : key_cmp (get_or ps at.0 q) q ≡ Equal =
-    ap (λ (x : ℕ × ℕ). key_cmp x q) at.1.1 ∙ tied_itself key_cmp-total q in
-    let whole : insert ps i q ≡ ps =
-    sym (put_pair-at_search_place q ps seen i same up le found) ∙ put_pair-member q q ps at.0 up at.1.0
-    equal in
-    let size = ap length whole in
-    let grown = length-insert ps i q (subst (λ (l : List (ℕ × ℕ)). i ≤ length l) same le) in
-    absurd (omega (arith, size, grown))))
+    not_in-from_search ps seen i q same up le found (subst (λ (x : ℕ × ℕ). In x ps) e h)))
 
 -- ---- how many
 

@@ -1,11 +1,11 @@
 -- What a router has for each of several wants, row by row.
-use Rattle.std.specs.Prelude.{◌≡◌, ℕ, ◌==◌, ◌&&◌, Bool, List, [], ◌∷◌, length, map}
+use Rattle.std.specs.Prelude.{ℕ, Bool, List, [], ◌∷◌, map, if◌then◌else◌}
+use Rattle.std.specs.Coded.{Coded, coded_ℕ}
+use Rattle.std.specs.FinMap as fin
 use Rattle.std.specs.FinMap.{FinMap}
-use Rattle.std.specs.List.{AllByRecursion}
-use Rattle.std.specs.List.Sorted.{IsStrictlyIncreasing, IsStrictlySortedBy}
-use Rattle.std.specs.Ordering.{nat_cmp}
+use Rattle.std.specs.Ordering.{is_eq, nat_cmp}
 use Rattle.mc_tables.specs.CacheTable.{EntryValue, RowValue, key_cmp}
-use Rattle.mc_tables.specs.VifTable.{VifValue}
+use Rattle.mc_tables.specs.VifTable.{VifValue, vif_code}
 use Rattle.mc_asked.specs.declared.forwarding.RouterState.{RouterState}
 use Rattle.mc_asked.specs.declared.forwarding.RouterState.TheVariants.{Nothing}
 use Rattle.mc_asked.specs.Forwarding.{greater, router_state, row_of}
@@ -22,6 +22,10 @@ pub record WantStatesValue : Type 0 where
   pub vifs : FinMap nat_cmp VifValue
   pub wants : List StatedWantValue
 
+-- vifs are stored as their fields
+abbrev pub vifs_code : Coded (FinMap nat_cmp VifValue)
+vifs_code = fin.code coded_ℕ vif_code
+
 -- one more resolved row
 abbrev pub state_with_row : FinMap nat_cmp VifValue → (key : ℕ × ℕ) → EntryValue → StatedWantValue
     → RouterState
@@ -36,6 +40,19 @@ want_with_row vifs key entry w =
 abbrev pub states_with_row : WantStatesValue → ℕ × ℕ → EntryValue → WantStatesValue
 states_with_row s key entry =
     record { vifs = s.vifs; wants = map (want_with_row s.vifs key entry) s.wants }
+
+-- one that only counts for the want of a key
+abbrev pub is_key : (key other : ℕ × ℕ) → Bool
+is_key key other = is_eq (key_cmp key other)
+
+abbrev pub want_with_row_at : (want : Want) → FinMap nat_cmp VifValue → (key : ℕ × ℕ) → EntryValue
+    → StatedWantValue → StatedWantValue
+want_with_row_at want vifs key entry w =
+    if is_key want w.want then want_with_row vifs key entry w else w
+
+abbrev pub states_with_row_at : (want : Want) → WantStatesValue → ℕ × ℕ → EntryValue → WantStatesValue
+states_with_row_at want s key entry =
+    record { vifs = s.vifs; wants = map (want_with_row_at want s.vifs key entry) s.wants }
 
 -- the wants before the first row
 abbrev pub unstated : Want × List ℕ → StatedWantValue

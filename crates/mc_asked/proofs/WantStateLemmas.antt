@@ -1,11 +1,12 @@
 -- What a router has for several wants, by one more row.
 use Rattle.std.proofs.Common.{◌≡◌, ℕ, ◌==◌, Bool, true, false, cond, not, List, [], ◌∷◌, map, refl, sym, ap, ◌∙◌}
-use Rattle.std.proofs.Common.{ap₂, inl, inr}
+use Rattle.std.proofs.Common.{ap₂, inl, inr, Option, Some, None, ◌++◌, append-nil, append_assoc}
 use Rattle.std.specs.Prelude.{◌&&◌}
 use Rattle.std.specs.FinMap.{FinMap}
 use Rattle.std.specs.Ordering.{nat_cmp}
 use Rattle.std.proofs.lemmas.Bool.{cases_Bool, eqb-true, false≢true}
-use Rattle.mc_tables.specs.CacheTable.{EntryValue}
+use Rattle.mc_tables.specs.CacheTable.{EntryValue, RowValue}
+use Rattle.mc_tables.specs.EachRow.{with_entry, with_rows}
 use Rattle.mc_tables.specs.VifTable.{VifValue}
 use Rattle.mc_asked.specs.declared.forwarding.RouterState.{RouterState}
 use Rattle.mc_asked.specs.declared.forwarding.RouterState.TheVariants.{Nothing, EverySource, NoneOut}
@@ -13,7 +14,9 @@ use Rattle.mc_asked.specs.declared.forwarding.RouterState.TheVariants.{Forwards}
 use Rattle.mc_asked.specs.Forwarding.{greater, is_counted, is_counted_source, router_state, row_of}
 use Rattle.mc_filter.specs.SourceFilter.{has}
 use Rattle.mc_asked.specs.ListWants.{Want}
-use Rattle.mc_asked.specs.WantStates.{StatedWantValue, is_key, want_with_row, want_with_row_at}
+use Rattle.mc_asked.specs.WantStates.{StatedWantValue, is_key, stated_by, states_by, states_start, unstated}
+use Rattle.mc_asked.specs.WantStates.{states_with_row, want_with_row, want_with_row_at}
+use Rattle.mc_asked.proofs.ForwardingLemmas.{router_state-append}
 use Rattle.mc_asked.proofs.OneKeyLemmas.{equal-from_is_key, is_key-itself}
 
 greater-nothing : (state : RouterState) → greater state Nothing ≡ state
@@ -110,3 +113,70 @@ rows-at_both vifs key entry [] source = refl
 rows-at_both vifs key entry (w ∷ ws) source =
     ap₂ (λ (x : StatedWantValue) (xs : List StatedWantValue). x ∷ xs) (row-at_both vifs key entry w source)
     (rows-at_both vifs key entry ws source)
+
+-- ---- row by row
+
+-- a row that isn't resolved has nothing for a want
+state-unresolved : (vifs : FinMap nat_cmp VifValue) (unadmitted : List ℕ) (want : Want) (row : RowValue)
+    → row.entry ≡ None → router_state vifs unadmitted want (row ∷ []) ≡ Nothing
+state-unresolved vifs unadmitted want row none = rw none refl
+
+-- one row more
+stated-one_more : (vifs : FinMap nat_cmp VifValue) (earlier : List RowValue) (row : RowValue)
+    (w : Want × List ℕ)
+    → greater (router_state vifs w.1 w.0 earlier) (router_state vifs w.1 w.0 (row ∷ []))
+    ≡ router_state vifs w.1 w.0 (earlier ++ row ∷ [])
+stated-one_more vifs earlier row w = router_state-append vifs w.1 w.0 earlier (row ∷ [])
+
+stated-resolved : (vifs : FinMap nat_cmp VifValue) (earlier : List RowValue) (row : RowValue)
+    (entry : EntryValue) (ws : List (Want × List ℕ)) → row.entry ≡ Some entry
+    → map (want_with_row vifs (row.origin, row.group) entry) (map (stated_by vifs earlier) ws)
+    ≡ map (stated_by vifs (earlier ++ row ∷ [])) ws
+stated-resolved vifs earlier row entry [] is = refl
+stated-resolved vifs earlier row entry (w ∷ ws) is =
+    let whole : row_of (row.origin, row.group) entry ≡ row =
+    ap (λ e. record { group = row.group; origin = row.origin; entry = e }) (sym is) in
+    ap₂ (λ (x : StatedWantValue) (xs : List StatedWantValue). x ∷ xs)
+    (ap (λ state. record { want = w.0; unadmitted = w.1; state = state })
+    (ap (λ r. greater (router_state vifs w.1 w.0 earlier) (router_state vifs w.1 w.0 (r ∷ []))) whole
+    ∙ stated-one_more vifs earlier row w))
+    (stated-resolved vifs earlier row entry ws is)
+
+stated-unresolved : (vifs : FinMap nat_cmp VifValue) (earlier : List RowValue) (row : RowValue)
+    (ws : List (Want × List ℕ)) → row.entry ≡ None
+    → map (stated_by vifs earlier) ws ≡ map (stated_by vifs (earlier ++ row ∷ [])) ws
+stated-unresolved vifs earlier row [] none = refl
+stated-unresolved vifs earlier row (w ∷ ws) none =
+    ap₂ (λ (x : StatedWantValue) (xs : List StatedWantValue). x ∷ xs)
+    (ap (λ state. record { want = w.0; unadmitted = w.1; state = state })
+    (sym (ap (greater (router_state vifs w.1 w.0 earlier)) (state-unresolved vifs w.1 w.0 row none)
+    ∙ greater-nothing (router_state vifs w.1 w.0 earlier)) ∙ stated-one_more vifs earlier row w))
+    (stated-unresolved vifs earlier row ws none)
+
+states-one_more : (vifs : FinMap nat_cmp VifValue) (ws : List (Want × List ℕ)) (earlier : List RowValue)
+    (row : RowValue) (entry : Option EntryValue) → row.entry ≡ entry
+    → with_entry states_with_row (states_by vifs ws earlier) (row.origin, row.group) entry
+    ≡ states_by vifs ws (earlier ++ row ∷ [])
+states-one_more vifs ws earlier row None is =
+    ap (λ l. record { vifs = vifs; wants = l }) (stated-unresolved vifs earlier row ws is)
+states-one_more vifs ws earlier row (Some entry) is =
+    ap (λ l. record { vifs = vifs; wants = l }) (stated-resolved vifs earlier row entry ws is)
+
+states-more : (vifs : FinMap nat_cmp VifValue) (ws : List (Want × List ℕ)) (earlier rows : List RowValue)
+    → with_rows states_with_row (states_by vifs ws earlier) rows ≡ states_by vifs ws (earlier ++ rows)
+states-more vifs ws earlier [] = ap (states_by vifs ws) (sym (append-nil earlier))
+states-more vifs ws earlier (row ∷ rows) =
+    ap (λ s. with_rows states_with_row s rows) (states-one_more vifs ws earlier row row.entry refl)
+    ∙ states-more vifs ws (earlier ++ row ∷ []) rows
+    ∙ ap (states_by vifs ws) (append_assoc earlier (row ∷ []) rows)
+
+-- all rows of a router
+pub states-of_rows : (vifs : FinMap nat_cmp VifValue) (ws : List (Want × List ℕ)) (rows : List RowValue)
+    → with_rows states_with_row (states_start vifs ws) rows ≡ states_by vifs ws rows
+states-of_rows vifs ws rows = states-more vifs ws [] rows
+
+-- the wants before the first row are these wants
+pub wants-of_unstated : (ws : List (Want × List ℕ))
+    → map (λ (w : StatedWantValue). w.want) (map unstated ws) ≡ map (λ (w : Want × List ℕ). w.0) ws
+wants-of_unstated [] = refl
+wants-of_unstated (w ∷ ws) = ap (λ l. w.0 ∷ l) (wants-of_unstated ws)

@@ -58,7 +58,13 @@ states_with_row_at want s key entry =
 abbrev pub unstated : Want × List ℕ → StatedWantValue
 unstated w = record { want = w.0; unadmitted = w.1; state = Nothing }
 
+abbrev pub states_start : FinMap nat_cmp VifValue → List (Want × List ℕ) → WantStatesValue
+states_start vifs wants = record { vifs = vifs; wants = map unstated wants }
+
 -- what the rows of a router have for each want
 abbrev pub stated_by : FinMap nat_cmp VifValue → List RowValue → Want × List ℕ → StatedWantValue
 stated_by vifs rows w =
     record { want = w.0; unadmitted = w.1; state = router_state vifs w.1 w.0 rows }
+
+abbrev pub states_by : FinMap nat_cmp VifValue → List (Want × List ℕ) → List RowValue → WantStatesValue
+states_by vifs wants rows = record { vifs = vifs; wants = map (stated_by vifs rows) wants }

@@ -13,6 +13,12 @@ ghost use Rattle.mc_asked.specs.AskedLines.{lan_wants_from};
 ghost use Rattle.mc_asked.specs.LanWants.{lan_wants};
 ghost use Rattle.mc_asked.specs.ListWants.{Want, any_source, wants_in};
 ghost use Rattle.mc_asked.specs.declared.want_class.WantClass.TheVariants.{Service};
+ghost use Rattle.std.specs.FinMap.{FinMap};
+ghost use Rattle.std.specs.Ordering.{nat_cmp};
+ghost use Rattle.mc_tables.specs.CacheTable.{RowValue};
+ghost use Rattle.mc_tables.specs.EachRow.{with_rows};
+ghost use Rattle.mc_tables.specs.VifTable.{VifValue};
+ghost use Rattle.mc_asked.specs.WantStates.{states_by, states_start, states_with_row};
 ghost use Rattle.mc_asked.specs.PairParts.{shared_pairs, shown_of_parts};
 
 /// A list asks for a group of any source where its merged filter is EXCLUDE, and else of each source that
@@ -40,4 +46,10 @@ pub fn each_unanswered_want_is_shown_or_counted()
     ensures further { (all : Bool) (a : AnswersValue) (lists : List (List Record)) →
         further_wants all (lan_wants_from all a 0 lists)
         ≡ sum_by (count_others (shown_of_parts all (asked_from a 0 lists))) (asked_from a 0 lists) }
+{}
+
+/// What is made of the rows of a router, one after another, is what all of its rows have for each want.
+pub fn rows_have_something_for_each_want()
+    ensures { (vifs : FinMap nat_cmp VifValue) (wants : List (Want × List ℕ)) (rows : List RowValue) →
+        with_rows states_with_row (states_start vifs wants) rows ≡ states_by vifs wants rows }
 {}

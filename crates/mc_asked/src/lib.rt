@@ -21,4 +21,4 @@ pub use lan_wants::LanWants;
 pub use services::service_name;
 pub use shared_pairs::SharedPair;
 pub use want_class::WantClass;
-pub use want_states::{StatedWant, WantStates};
+pub use want_states::{AskedWant, StatedWant, WantStates};

@@ -1,14 +1,57 @@
 //! What a router has for each of several wants, row by row.
 
-ghost use Rattle.std.specs.Prelude.{◌≡◌, map};
-ghost use Rattle.mc_tables.specs.CacheTable.{EntryValue};
-ghost use Rattle.mc_asked.specs.WantStates.{states_with_row, states_with_row_at, want_with_row};
+ghost use Rattle.std.specs.Prelude.{◌≡◌, IfOk, map};
+ghost use Rattle.std.specs.List.Sorted.{IsStrictlyIncreasing, IsStrictlySortedBy};
+ghost use Rattle.mc_tables.specs.CacheTable.{EntryValue, key_cmp};
+ghost use Rattle.mc_asked.specs.WantStates.{states_start, states_with_row, states_with_row_at};
+ghost use Rattle.mc_asked.specs.WantStates.{unstated, want_with_row};
 
 use crate::forwarding::{RouterState, state_with_row};
 use mc_tables::{Entry, RowFold, VifTable};
-use mc_text::Addr;
-use std::alloc::AllocError;
+use mc_text::{Addr, Memory};
+use std::alloc::{AllocError, Global};
 use std::marker::Model;
+
+/// A want, a group and a source, and the sources that the filter of none of its LANs admits, ascending. Its
+/// value in contracts is the pair of both.
+#[derive(Debug, Drop)]
+pub struct AskedWant {
+    want: (Addr, Addr),
+    unadmitted: Vec<Addr>,
+}
+
+impl Model for AskedWant {
+    ghost use Rattle.std.specs.Prelude.{ℕ, List};
+    ghost use Rattle.std.specs.List.Sorted.{IsStrictlyIncreasing};
+    ghost use Rattle.mc_asked.specs.ListWants.{Want};
+
+    ghost Value = { Want × List ℕ };
+
+    ghost view = { λ w. (w.want, w.unadmitted.items) };
+
+    ghost invariant = { λ w. IsStrictlyIncreasing w.unadmitted.items };
+}
+
+impl AskedWant {
+    /// A want with ascending sources.
+    pub fn new(want: (Addr, Addr), unadmitted: Vec<Addr>) -> AskedWant
+        requires ascending { IsStrictlyIncreasing unadmitted.items }
+        ensures { result ≡ (want, unadmitted.items) }
+    {
+        AskedWant { want, unadmitted }
+    }
+
+    /// Before the first row of a router.
+    fn unstated(&self) -> Result<StatedWant, AllocError>
+        ensures { IfOk result (λ stated. stated ≡ unstated self.now) }
+    {
+        Ok(StatedWant {
+            want: self.want,
+            unadmitted: self.unadmitted.clone()?,
+            state: RouterState::Nothing,
+        })
+    }
+}
 
 /// A want, and what a router has for it by the rows so far.
 #[derive(Debug, Drop)]
@@ -49,7 +92,8 @@ pub struct WantStates<'v> {
 }
 
 impl<'v> Model for WantStates<'v> {
-    ghost use Rattle.std.specs.Prelude.{◌≡◌, map};
+    ghost use Rattle.std.specs.Prelude.{◌≡◌, IfOk, map};
+ghost use Rattle.std.specs.List.Sorted.{IsStrictlyIncreasing, IsStrictlySortedBy};
     ghost use Rattle.std.specs.List.Sorted.{IsStrictlySortedBy};
     ghost use Rattle.mc_tables.specs.CacheTable.{key_cmp};
     ghost use Rattle.std.specs.Coded.{codes};
@@ -66,6 +110,39 @@ impl<'v> Model for WantStates<'v> {
 }
 
 impl<'v> WantStates<'v> {
+    /// Before the first row of a router with these vifs. The wants ascend, and each is there once.
+    ///
+    /// # Errors
+    ///
+    /// `Memory` if an allocation is refused.
+    pub fn new(
+        alloc: Global,
+        vifs: &'v VifTable,
+        wants: &[AskedWant],
+    ) -> Result<WantStates<'v>, Memory>
+        requires sorted { IsStrictlySortedBy key_cmp (map (λ w. w.0) wants.now) }
+        ensures { IfOk result (λ states. states ≡ states_start vifs.now wants.now) }
+    {
+        let keys = keys_of(alloc, wants)?;
+        let wants = unstated_wants(alloc, wants)?;
+        Ok(WantStates { vifs, keys, wants })
+    }
+
+    /// What the router has for each of the wants, in their order.
+    ///
+    /// # Errors
+    ///
+    /// `Memory` if an allocation is refused.
+    pub fn states(&self, alloc: Global) -> Result<Vec<RouterState>, Memory>
+        ensures { IfOk result (λ states. states.items ≡ map (λ w. w.state) self.now.wants) }
+    {
+        let mut states = Vec::with_capacity(alloc, self.wants.len())?;
+        for want in &self.wants {
+            states.push(want.state)?;
+        }
+        Ok(states)
+    }
+
     /// Takes one more resolved row for one of the wants, if it is there.
     fn add_at(&mut self, want: &(Addr, Addr), key: &(Addr, Addr), entry: &Entry<'_>)
         ensures { self.new ≡ states_with_row_at want.now self.old key.now entry.now }
@@ -105,4 +182,26 @@ impl<'v> RowFold for WantStates<'v> {
         }
         Ok(())
     }
+}
+
+/// The wants themselves.
+fn keys_of(alloc: Global, wants: &[AskedWant]) -> Result<Vec<(Addr, Addr)>, Memory>
+    ensures { IfOk result (λ keys. keys.items ≡ map (λ w. w.0) wants.now) }
+{
+    let mut keys = Vec::with_capacity(alloc, wants.len())?;
+    for want in wants {
+        keys.push(want.want)?;
+    }
+    Ok(keys)
+}
+
+/// The wants before the first row.
+fn unstated_wants(alloc: Global, wants: &[AskedWant]) -> Result<Vec<StatedWant>, Memory>
+    ensures { IfOk result (λ stated. stated.items ≡ map unstated wants.now) }
+{
+    let mut stated = Vec::with_capacity(alloc, wants.len())?;
+    for want in wants {
+        stated.push(want.unstated()?)?;
+    }
+    Ok(stated)
 }

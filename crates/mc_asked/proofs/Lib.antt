@@ -4,6 +4,7 @@ pub mod ForwardingLemmas
 pub mod LowestOfParts
 pub mod MergeLemmas
 pub mod PartLemmas
+pub mod UnadmittedLemmas
 pub mod OneKeyLemmas
 pub mod WantStateLemmas
 pub mod SharedPairLemmas

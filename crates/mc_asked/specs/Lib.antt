@@ -1,4 +1,5 @@
 pub mod ListWants
+pub mod Unadmitted
 pub mod Services
 pub mod Answers
 pub mod LanWants

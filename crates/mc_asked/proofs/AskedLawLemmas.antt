@@ -296,3 +296,19 @@ in-services all a lan records want h is =
     in-dedup want.0 (map (λ (w : Want). w.0) (filter test (wants_in records)))
     (in-map (λ (w : Want). w.0) want (filter test (wants_in records))
     (in-filter test want (wants_in records) h (ap is_service_class is)))
+
+-- ---- LAN by LAN
+
+-- what is kept of one more list
+pub lan_wants_from-push : (all : Bool) (a : AnswersValue) (k : ℕ) (lists : List (List Record))
+    (records : List Record)
+    → lan_wants_from all a k (lists ++ records ∷ [])
+    ≡ lan_wants_from all a k lists ++ lan_wants all a (k + length lists) records ∷ []
+lan_wants_from-push all a k [] records =
+    let same : k ≡ k + 0 = omega arith in
+    ap (λ (n : ℕ). lan_wants all a n records ∷ []) same
+lan_wants_from-push all a k (own ∷ lists) records =
+    let same : suc k + length lists ≡ k + suc (length lists) = omega arith in
+    ap (λ (l : List LanWantsValue). lan_wants all a k own ∷ l)
+    (lan_wants_from-push all a (suc k) lists records
+    ∙ ap (λ (n : ℕ). lan_wants_from all a (suc k) lists ++ lan_wants all a n records ∷ []) same)

@@ -22,6 +22,7 @@ use crate::piece_reader::PieceReader;
 use crate::slot_part::{check_names_to_end, open_slot};
 use crate::slots::Slots;
 use crate::source_fault::SourceFault;
+use crate::list_keeper::NoLists;
 use crate::walk::{Contents, read_contents};
 use mc_files::slot_count;
 use mc_text::{Input, PartName, Parts};
@@ -163,7 +164,7 @@ pub(crate) fn read_bundle_contents<R: Input>(
         ≡ failures_after is_read result slots.old.parts.failed }
 {
     let mut listed = listed_pairs(alloc, topology)?;
-    let kept = read_contents(alloc, slots, buffer, topology, &mut listed)?;
+    let kept = read_contents(alloc, slots, buffer, topology, &mut listed, &mut NoLists)?;
     let certified = slots.certified;
     let certificate = read_certificate_and_end(
         alloc,

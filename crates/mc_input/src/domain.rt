@@ -28,6 +28,7 @@ use crate::bundle_slots::{BundleSlots, read_bundle_contents};
 use crate::cache_keeper::SummaryKeeper;
 use crate::excluded::check_names;
 use crate::file_slots::{FileSlots, topology_in as topology_of_files};
+use crate::list_keeper::NoLists;
 use crate::part_result::summary_pairs;
 use crate::source_fault::SourceFault;
 use crate::walk::read_contents;
@@ -186,7 +187,7 @@ fn read_rest_of_slots<F: PieceSource>(
         all,
         summary: Vec::new(alloc),
     };
-    let kept = read_contents(alloc, slots, buffer, &topology, &mut keeper)?;
+    let kept = read_contents(alloc, slots, buffer, &topology, &mut keeper, &mut NoLists)?;
     let domain = Domain::from_wants(alloc, topology, kept.tables, kept.wants)?;
     Ok(FolderDomain {
         domain,

@@ -13,6 +13,7 @@ mod fed_file;
 mod fed_part;
 mod file_slots;
 pub mod laws;
+mod list_keeper;
 mod part_reader;
 mod part_result;
 mod piece_reader;

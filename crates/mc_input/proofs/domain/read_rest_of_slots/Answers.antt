@@ -34,7 +34,7 @@ returns-clause-domain g c = λ contents is.
     (g.F.FileSource.contents c.read_contents.new.slots.files) x.0 (c.in_ok-kept.ensures.advances.1 ∙ is) x.2 in (
       input_of_contents t x.1,
       read_tables_and_reports-from_contents (seen contents) t x.1 rest.0
-          (x.5 ∙ ap (value_and_rest x.1) rest.1),
+          (x.6 ∙ ap (value_and_rest x.1) rest.1),
       subst (λ (d : DomainValue). IsDomainOf d (input_of_contents t x.1)) (sym c.in_ok-domain.ensures.domain) x.3,
     )
 
@@ -49,6 +49,6 @@ returns-clause-summary g c = λ contents is.
     subst (λ (own : TopologyValue). AreSummariesOf c.args.all (seen contents) own c.read_contents.new.keeper.summary.items)
     (sym (ap (λ (d : DomainValue). d.topology) c.in_ok-domain.ensures.domain))
     (AreSummariesOf-from_contents (seen contents) c.args.all t x.1 rest.0 c.read_contents.new.keeper.summary.items
-    (x.5 ∙ ap (value_and_rest x.1) rest.1)
+    (x.6 ∙ ap (value_and_rest x.1) rest.1)
     (subst (λ (all : Bool). Pairwise (IsSummaryOfRead all (flow_pairs t.flows)) x.1.0
     c.read_contents.new.keeper.summary.items) (ap (λ (p : List (ℕ × ℕ) × Bool). p.1) c.in_ok-kept.ensures.settings) x.4))

@@ -12,12 +12,15 @@ invariant-loop-lan g l = record {
   room : 0 < length l.buffer;
   end : l.lan-end ≡ length l.fn.topology.lans;
   count : length l.wants.items ≡ l.lan;
+  ready : g.L.ListKeeper.is_ready l.keeper l.fn.topology.flows;
   flows : (lan : ℕ) (wanted : List Bool) → slice_get l.wants.items lan ≡ Some wanted
       → length wanted ≡ length l.fn.topology.flows;
   taken : (stream : Stream) → g.S.Slots.gives l.fn.slots l.fn.topology (first_lan_number l.fn.topology) ≡ Some stream →
       (later : Stream) × (reports : List (List Record))
       × (g.S.Slots.gives l.slots l.fn.topology (first_lan_number l.fn.topology + l.lan) ≡ Some later)
       × AreWantedBy l.fn.topology reports l.wants.items
+      × g.L.ListKeeper.has_kept l.keeper reports
+      × (length reports ≡ l.lan)
       × (read_stream (read_lans l.fn.topology.lans) stream
       ≡ read_stream (read_each_after (λ lan. read_lan) reports (drop l.lan l.fn.topology.lans)) later);
 }

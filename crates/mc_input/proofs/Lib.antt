@@ -29,4 +29,5 @@ mod SourceOfPartsLemmas
 mod CollectedPartLemmas
 mod FinishLemmas
 mod FolderLemmas
+mod ListsOfFilesLemmas
 pub mod WithCertificate

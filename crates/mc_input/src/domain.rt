@@ -18,6 +18,7 @@ ghost use Rattle.mc_input.specs.ExcludedRouters.{input_of_files_without, input_o
 ghost use Rattle.mc_input.specs.ExcludedRouters.{is_possible_for_files_without, is_read_without, names_of};
 ghost use Rattle.mc_input.specs.Meaning.{FilesMeanDomain, MeansDomain};
 ghost use Rattle.mc_input.specs.ReadAsMeant.{AreFilesReadAsMeant, IsBundleReadAsMeant};
+ghost use Rattle.mc_input.specs.ListsOfFiles.{AreWantsOf};
 ghost use Rattle.mc_input.specs.SummariesOfFiles.{AreSummariesOf};
 ghost use Rattle.mc_input.specs.PartsOneByOne.{ReadsDomain, IsFaultOf, read_all_parts};
 ghost use Rattle.mc_input.specs.SourceFault.{IsReadOrMemory, is_possible_for_files, is_read};
@@ -28,15 +29,16 @@ use crate::bundle_slots::{BundleSlots, read_bundle_contents};
 use crate::cache_keeper::SummaryKeeper;
 use crate::excluded::check_names;
 use crate::file_slots::{FileSlots, topology_in as topology_of_files};
-use crate::list_keeper::NoLists;
+use crate::list_keeper::{NoLists, WantKeeper};
 use crate::part_result::summary_pairs;
 use crate::source_fault::SourceFault;
 use crate::walk::read_contents;
 use crate::without_fault::WithoutFault;
+use mc_asked::{LanWants, WantAnswers};
 use mc_files::PieceSource;
-use mc_forward::Domain;
+use mc_forward::{Domain, source_group_pairs};
 use mc_tables::CacheSummary;
-use mc_text::{Input, Parts};
+use mc_text::{GroupRange, Input, Parts};
 use mc_topology::Topology;
 use std::alloc::Global;
 
@@ -149,13 +151,24 @@ pub fn read_bundle_domain<R: Input>(
     read_with_buffer(alloc, input, &mut buffer, certified)
 }
 
-/// A domain, and a summary of each router's cache.
+/// A domain, a summary of each router's cache, and what hosts ask for that nothing answers.
 #[derive(Drop)]
 pub struct FolderDomain {
     /// The domain.
     pub domain: Domain,
     /// The summary of each router's cache, in the order of the topology.
     pub summary: Vec<CacheSummary>,
+    /// What is kept of the wants of each LAN's list, in the order of the topology.
+    pub wants: Vec<LanWants>,
+}
+
+/// What a folder is read for.
+#[derive(Debug, Drop)]
+pub struct FolderOptions {
+    /// Whether all sources and groups that no flow has are kept, and all wants that nothing answers.
+    pub all: bool,
+    /// The ranges of groups whose wants are left aside.
+    pub ignored: Vec<GroupRange>,
 }
 
 /// Reads the slots after the topology's, in pieces through the buffer, as the domain of this topology, and
@@ -165,7 +178,7 @@ fn read_rest_of_slots<F: PieceSource>(
     slots: &mut FileSlots<'_, F>,
     buffer: &mut [u8],
     topology: Topology,
-    all: bool,
+    options: FolderOptions,
 ) -> Result<FolderDomain, SourceFault>
     requires room { 0 < length buffer.old }
     requires reads { F.failed slots.old.files < u64.MAX }
@@ -176,22 +189,33 @@ fn read_rest_of_slots<F: PieceSource>(
     ensures topology { IfOk result (λ read. read.domain.topology ≡ topology) }
     ensures rules { IfOk result (λ read. IsDomain read.domain) }
     ensures summary { (contents : List FileText) → F.contents slots.old.files ≡ Some contents →
-        IfOk result (λ read. AreSummariesOf all (files_without slots.old.without.now contents)
+        IfOk result (λ read. AreSummariesOf options.all (files_without slots.old.without.now contents)
         read.domain.topology read.summary.items) }
+    ensures wants { (contents : List FileText) → F.contents slots.old.files ≡ Some contents →
+        IfOk result (λ read. AreWantsOf options.all options.ignored.items
+        (files_without slots.old.without.now contents) read.domain.topology read.wants.items) }
     ensures faults { IfErr result (λ fault. is_possible_for_files fault ≡ true) }
     ensures failures { F.failed slots.new.files
         ≡ failures_after is_read result (F.failed slots.old.files) }
 {
+    let FolderOptions { all, ignored } = options;
     let mut keeper = SummaryKeeper {
         listed: summary_pairs(alloc, &topology)?,
         all,
         summary: Vec::new(alloc),
     };
-    let kept = read_contents(alloc, slots, buffer, &topology, &mut keeper, &mut NoLists)?;
+    let flows = source_group_pairs(alloc, &topology)?;
+    let mut list_keeper = WantKeeper {
+        answers: WantAnswers::of(alloc, &topology, flows, ignored)?,
+        all,
+        wants: Vec::new(alloc),
+    };
+    let kept = read_contents(alloc, slots, buffer, &topology, &mut keeper, &mut list_keeper)?;
     let domain = Domain::from_wants(alloc, topology, kept.tables, kept.wants)?;
     Ok(FolderDomain {
         domain,
         summary: keeper.summary,
+        wants: list_keeper.wants,
     })
 }
 
@@ -202,7 +226,7 @@ fn read_rest_with_buffer<F: PieceSource>(
     buffer: &mut [u8],
     topology: Topology,
     without: &[&str],
-    all: bool,
+    options: FolderOptions,
 ) -> Result<FolderDomain, SourceFault>
     requires room { 0 < length buffer.old }
     requires reads { F.failed files.old < u64.MAX }
@@ -213,12 +237,16 @@ fn read_rest_with_buffer<F: PieceSource>(
     ensures topology { IfOk result (λ read. read.domain.topology ≡ topology) }
     ensures rules { IfOk result (λ read. IsDomain read.domain) }
     ensures summary { (contents : List FileText) → F.contents files.old ≡ Some contents → IfOk result (λ read.
-        AreSummariesOf all (files_without without.now contents) read.domain.topology read.summary.items) }
+        AreSummariesOf options.all (files_without without.now contents)
+        read.domain.topology read.summary.items) }
+    ensures wants { (contents : List FileText) → F.contents files.old ≡ Some contents → IfOk result (λ read.
+        AreWantsOf options.all options.ignored.items (files_without without.now contents)
+        read.domain.topology read.wants.items) }
     ensures faults { IfErr result (λ fault. is_possible_for_files fault ≡ true) }
     ensures failures { F.failed files.new ≡ failures_after is_read result (F.failed files.old) }
 {
     let mut slots = FileSlots { files, without };
-    let read = read_rest_of_slots(alloc, &mut slots, buffer, topology, all);
+    let read = read_rest_of_slots(alloc, &mut slots, buffer, topology, options);
     let _files = slots.into_files();
     read
 }
@@ -229,7 +257,7 @@ fn read_files_with_buffer<F: PieceSource>(
     files: &mut F,
     buffer: &mut [u8],
     without: &[&str],
-    all: bool,
+    options: FolderOptions,
 ) -> Result<FolderDomain, WithoutFault>
     requires room { 0 < length buffer.old }
     requires reads { F.failed files.old < u64.MAX }
@@ -240,7 +268,11 @@ fn read_files_with_buffer<F: PieceSource>(
     ensures routers { IfOk result (λ read. AreRouterNames read.domain.topology (names_of without.now)) }
     ensures rules { IfOk result (λ read. IsDomain read.domain) }
     ensures summary { (contents : List FileText) → F.contents files.old ≡ Some contents → IfOk result (λ read.
-        AreSummariesOf all (files_without without.now contents) read.domain.topology read.summary.items) }
+        AreSummariesOf options.all (files_without without.now contents)
+        read.domain.topology read.summary.items) }
+    ensures wants { (contents : List FileText) → F.contents files.old ≡ Some contents → IfOk result (λ read.
+        AreWantsOf options.all options.ignored.items (files_without without.now contents)
+        read.domain.topology read.wants.items) }
     ensures fault { (contents : List FileText) → F.contents files.old ≡ Some contents → IfErr result (λ fault.
         ¬ IsReadOrMemoryWithout fault →
         input_of_files_without (names_of without.now) contents ≡ Err fault) }
@@ -249,7 +281,7 @@ fn read_files_with_buffer<F: PieceSource>(
 {
     let topology = topology_of_files(alloc, files)?;
     check_names(&topology, without)?;
-    Ok(read_rest_with_buffer(alloc, files, buffer, topology, without, all)?)
+    Ok(read_rest_with_buffer(alloc, files, buffer, topology, without, options)?)
 }
 
 /// Reads the domain that a folder's files mean with the routers of these names excluded: `topology`,
@@ -258,7 +290,8 @@ fn read_files_with_buffer<F: PieceSource>(
 /// Each file may have up to 16,777,216 bytes, and is parsed before the next one is opened. Tables and
 /// report lists are read in pieces. Of a cache the rows of listed flows are kept, with a summary of
 /// all its rows: of the sources and groups that no flow has, the summary holds all or the lowest
-/// ones. The source's count of failures has to be below `u64::MAX`.
+/// ones. So it is with the wants of each LAN's list that no flow answers. The source's count of failures
+/// has to be below `u64::MAX`.
 ///
 /// # Errors
 ///
@@ -270,7 +303,7 @@ pub fn read_folder_domain<F: PieceSource>(
     alloc: Global,
     files: &mut F,
     without: &[&str],
-    all: bool,
+    options: FolderOptions,
 ) -> Result<FolderDomain, WithoutFault>
     requires failures { F.failed files.old < u64.MAX }
     ensures same { F.borrows files.new ≡ F.borrows files.old }
@@ -287,7 +320,12 @@ pub fn read_folder_domain<F: PieceSource>(
         (λ read. read.domain) result }
     // Each router's summary is that of the rows in its file, or of no row if it is excluded.
     ensures summary { IfOk result (λ read. IfSome (F.contents files.old) (λ contents.
-        AreSummariesOf all (files_without without.now contents) read.domain.topology read.summary.items)) }
+        AreSummariesOf options.all (files_without without.now contents)
+        read.domain.topology read.summary.items)) }
+    // What is kept of each LAN's wants is that of the list in its file.
+    ensures wants { IfOk result (λ read. IfSome (F.contents files.old) (λ contents.
+        AreWantsOf options.all options.ignored.items (files_without without.now contents)
+        read.domain.topology read.wants.items)) }
     // The fault is the one of the definition, unless the source fails or memory runs out.
     ensures fault { IfErr result (λ fault. IfSome (F.contents files.old) (λ contents.
         ¬ IsReadOrMemoryWithout fault →
@@ -298,5 +336,5 @@ pub fn read_folder_domain<F: PieceSource>(
     ensures failures { F.failed files.new ≡ failures_after is_read_without result (F.failed files.old) }
 {
     let mut buffer = Vec::from_elem(alloc, 0u8, PIECE)?;
-    read_files_with_buffer(alloc, files, &mut buffer, without, all)
+    read_files_with_buffer(alloc, files, &mut buffer, without, options)
 }

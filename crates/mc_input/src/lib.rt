@@ -23,7 +23,7 @@ mod source_fault;
 mod walk;
 mod without_fault;
 
-pub use domain::{BundleDomain, FolderDomain, PIECE, read_bundle_domain, read_folder_domain};
+pub use domain::{BundleDomain, FolderDomain, FolderOptions, PIECE, read_bundle_domain, read_folder_domain};
 pub use each_file::{Refusal, RefusedFile, refused_files};
 pub use excluded::is_excluded;
 pub use fault::InputFault;

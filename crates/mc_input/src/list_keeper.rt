@@ -1,10 +1,11 @@
 //! What is kept of the LANs' lists of reports beside which flows each LAN wants: nothing, or what hosts ask for.
 
-ghost use Rattle.std.specs.Prelude.{◌≡◌, ◌++◌, ◌∷◌, [], List, OnOk, length};
+ghost use Rattle.std.specs.Prelude.{◌≡◌, ◌++◌, ◌∷◌, [], Bool, List, OnOk, length};
 ghost use Rattle.mc_igmp.specs.declared.record.Record.{Record};
 ghost use Rattle.mc_topology.specs.declared.flow.Flow.{Flow};
 ghost use Rattle.mc_forward.specs.Assembling.{AreChannelsWanted};
 ghost use Rattle.mc_forward.specs.ListedTables.{flow_pairs};
+ghost use Rattle.mc_asked.specs.Answers.{AnswersValue};
 
 use mc_asked::{LanWants, WantAnswers};
 use mc_igmp::ReportList;
@@ -16,6 +17,9 @@ use std::alloc::Global;
 pub(crate) trait ListKeeper {
     // it is made for a topology with these flows
     ghost is_ready: { Self → List Flow → Type 0 };
+
+    // whether it keeps all wants, and what answers them
+    ghost settings: { Self → Bool × AnswersValue };
 
     // it has kept something of these lists
     ghost has_kept: { Self → List (List Record) → Type 0 };
@@ -32,6 +36,7 @@ pub(crate) trait ListKeeper {
         requires ready { is_ready self.old topology.now.flows }
         requires wanted { AreChannelsWanted (flow_pairs topology.now.flows) list.now wanted.now }
         ensures ready { is_ready self.new topology.now.flows }
+        ensures settings { settings self.new ≡ settings self.old }
         ensures kept { (lists : List (List Record)) → OnOk result (length lists ≡ lan →
             has_kept self.old lists → has_kept self.new (lists ++ list.now ∷ [])) };
 }
@@ -41,9 +46,11 @@ pub(crate) trait ListKeeper {
 pub(crate) struct NoLists;
 
 impl ListKeeper for NoLists {
-    ghost use Rattle.std.specs.Prelude.{⊤};
+    ghost use Rattle.std.specs.Prelude.{⊤, [], false};
 
     ghost is_ready = { λ _ _. ⊤ };
+
+    ghost settings = { λ _. (false, record { flows = []; sources = []; ignored = [] }) };
 
     ghost has_kept = { λ _ _. ⊤ };
 
@@ -75,6 +82,8 @@ impl ListKeeper for WantKeeper {
     ghost use Rattle.mc_forward.specs.ListedTables.{flow_pairs};
 
     ghost is_ready = { λ s flows. s.answers.flows ≡ flow_pairs flows };
+
+    ghost settings = { λ s. (s.all, s.answers) };
 
     ghost has_kept = { λ s lists. s.wants.items ≡ lan_wants_from s.all s.answers 0 lists };
 

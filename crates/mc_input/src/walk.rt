@@ -144,6 +144,7 @@ fn read_wants<S: Slots, L: ListKeeper>(
         × L.has_kept keeper.new reports
         × (read_stream (read_lans topology.now.lans) stream ≡ value_and_rest reports later)) }
     ensures answers { IfOk result (λ wants. AreAnswers topology.now wants.items) }
+    ensures settings { L.settings keeper.new ≡ L.settings keeper.old }
     ensures fault { IfErr result
         (IsFaultOfStream (S.gives slots.old topology.now (first_lan_number topology.now))
         (read_lans topology.now.lans)) }
@@ -198,6 +199,7 @@ pub(crate) fn read_contents<S: Slots, K: CacheKeeper, L: ListKeeper>(
     ensures counts { IfOk result (λ kept. AreTablesFor topology.now kept.tables) }
     ensures answers { IfOk result (λ kept. AreAnswers topology.now kept.wants.items) }
     ensures settings { K.settings keeper.new ≡ K.settings keeper.old }
+    ensures list_settings { L.settings list_keeper.new ≡ L.settings list_keeper.old }
     ensures fault { IfErr result (IsFaultOfStream (S.gives slots.old topology.now 1)
         (read_contents topology.now)) }
     ensures faults { IfErr result (λ fault. S.is_possible fault ≡ true) }

@@ -114,6 +114,7 @@ loop-lan-preserved g c =
         c.loop-lan.invariant.count,
       );
       ready = c.keep_list.ensures.ready;
+      settings = c.keep_list.ensures.settings ∙ c.loop-lan.invariant.settings;
       flows = rw items (length-answers_push (length t.flows) c.loop-lan.wants.items own
           c.loop-lan.invariant.flows
           (c.in_ok-wanted.ensures.count ∙ length-flow_pairs t.flows c.in_ok-channels.channels are));

@@ -13,6 +13,7 @@ invariant-loop-lan g l = record {
   end : l.lan-end ≡ length l.fn.topology.lans;
   count : length l.wants.items ≡ l.lan;
   ready : g.L.ListKeeper.is_ready l.keeper l.fn.topology.flows;
+  settings : g.L.ListKeeper.settings l.keeper ≡ g.L.ListKeeper.settings l.fn.keeper;
   flows : (lan : ℕ) (wanted : List Bool) → slice_get l.wants.items lan ≡ Some wanted
       → length wanted ≡ length l.fn.topology.flows;
   taken : (stream : Stream) → g.S.Slots.gives l.fn.slots l.fn.topology (first_lan_number l.fn.topology) ≡ Some stream →

@@ -30,4 +30,5 @@ mod CollectedPartLemmas
 mod FinishLemmas
 mod FolderLemmas
 mod ListsOfFilesLemmas
+mod FileAgainLemmas
 pub mod WithCertificate

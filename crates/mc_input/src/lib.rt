@@ -11,6 +11,7 @@ mod excluded;
 mod fault;
 mod fed_file;
 mod fed_part;
+mod file_again;
 mod file_slots;
 pub mod laws;
 mod list_keeper;

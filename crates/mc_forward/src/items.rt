@@ -20,6 +20,13 @@ impl<T> Model for Items<T> {
 }
 
 impl<T: Drop> Items<T> {
+    /// These items.
+    pub fn of(items: Vec<T>) -> Items<T>
+        ensures { result ≡ items.items }
+    {
+        Items { items }
+    }
+
     /// Adds an item behind the others.
     pub(crate) fn push(&mut self, item: T) -> Result<(), Memory>
         ensures { OnOk result (self.new ≡ self.old ++ item ∷ []) }

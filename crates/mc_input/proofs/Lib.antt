@@ -31,4 +31,5 @@ mod FinishLemmas
 mod FolderLemmas
 mod ListsOfFilesLemmas
 mod FileAgainLemmas
+mod StateLemmas
 pub mod WithCertificate

@@ -13,6 +13,7 @@ pub mod FilesReading
 pub mod ExcludedRouters
 pub mod SummariesOfFiles
 pub mod ListsOfFiles
+pub mod StatesOfFiles
 pub mod Meaning
 pub mod ReadAsMeant
 pub use Rattle.mc_text.specs.Bundle

@@ -21,6 +21,7 @@ mod piece_reader;
 mod slot_part;
 mod slots;
 mod source_fault;
+mod states;
 mod walk;
 mod without_fault;
 
@@ -29,4 +30,5 @@ pub use each_file::{Refusal, RefusedFile, refused_files};
 pub use excluded::is_excluded;
 pub use fault::InputFault;
 pub use source_fault::SourceFault;
+pub use states::read_states;
 pub use without_fault::WithoutFault;

@@ -92,8 +92,7 @@ pub struct WantStates<'v> {
 }
 
 impl<'v> Model for WantStates<'v> {
-    ghost use Rattle.std.specs.Prelude.{◌≡◌, IfOk, map};
-ghost use Rattle.std.specs.List.Sorted.{IsStrictlyIncreasing, IsStrictlySortedBy};
+    ghost use Rattle.std.specs.Prelude.{◌≡◌, map};
     ghost use Rattle.std.specs.List.Sorted.{IsStrictlySortedBy};
     ghost use Rattle.mc_tables.specs.CacheTable.{key_cmp};
     ghost use Rattle.std.specs.Coded.{codes};

@@ -205,8 +205,9 @@ fn read_rest_of_slots<F: PieceSource>(
         summary: Vec::new(alloc),
     };
     let flows = source_group_pairs(alloc, &topology)?;
+    let answers = WantAnswers::of(alloc, &topology, flows, ignored)?;
     let mut list_keeper = WantKeeper {
-        answers: WantAnswers::of(alloc, &topology, flows, ignored)?,
+        answers,
         all,
         wants: Vec::new(alloc),
     };

@@ -1,4 +1,4 @@
-use Rattle.std.proofs.Common.{◌∙◌, ℕ, Bool, List, ap, option_map, subst, sym}
+use Rattle.std.proofs.Common.{◌≡◌, ◌∙◌, ℕ, Bool, List, ap, inr, option_map, refl, subst, sym}
 use Rattle.std.proofs.lemmas.Result.{err_from_is_err_and}
 use Rattle.mc_topology.specs.Topology.{TopologyValue}
 use Rattle.mc_files.specs.Files.{FileText}
@@ -66,8 +66,8 @@ returns-clause-wants g c = λ contents is.
     (ap (option_map (λ (files : List FileText). files_give t 1 (seen files))) is) in
     let rest = files_give-Ok t (certificate_number t) (files_without c.read_contents.new.slots.without.now) contents
     (g.F.FileSource.contents c.read_contents.new.slots.files) x.0 (c.in_ok-kept.ensures.advances.1 ∙ is) x.2 in
-    let answers : c.in_ok-of.of ≡ answers_of t ignored =
-        c.in_ok-of.ensures
+    let answers : c.in_ok-answers.answers ≡ answers_of t ignored =
+        c.in_ok-answers.ensures
         ∙ ap (λ (flows : List (ℕ × ℕ)). let a : AnswersValue = record {
           flows = flows;
           sources = source_pairs t.sources;
@@ -84,3 +84,8 @@ returns-clause-wants g c = λ contents is.
       of = AreListsOf-from_contents (seen contents) t x.1 rest.0 (x.6 ∙ ap (value_and_rest x.1) rest.1);
       kept = x.5 ∙ ap (λ (s : Bool × AnswersValue). lan_wants_from s.0 s.1 0 x.1.1) settings;
     }
+
+pub returns-in_err-domain-clause-domain : goal.returns-in_err-domain-clause-domain
+returns-in_err-domain-clause-domain g c = λ contents is.
+    let p = err_from_is_err_and c.from_residual-in_err-domain.result c.from_residual-in_err-domain.ensures.1 in
+    rw (p.1, p.2) (λ loud. absurd (loud (inr refl)))

@@ -34,6 +34,7 @@ loop-lan-init g c =
       advances = g.met.S.Slots.stays c.args.slots.now;
       failures = refl;
       room = c.requires.room;
+      settings = refl;
       end = c.lans-lan-end.ensures.count;
       count = ap length items;
       ready = c.requires.ready;

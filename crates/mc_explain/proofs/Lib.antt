@@ -21,8 +21,6 @@ pub mod VisitedLemmas
 pub mod ReachLemmas
 pub mod ShownNameLemmas
 pub mod ShownLineLemmas
-pub mod UnlistedLemmas
-pub mod MergeLemmas
 pub mod LowestPairLemmas
 pub mod UnlistedPairLemmas
 pub mod ExcludedLemmas

@@ -1,71 +1,32 @@
 -- Unlisted pairs with their routers, router by router.
-use Rattle.std.proofs.Common.{◌≡◌, ℕ, zero, suc, ◌+◌, ◌-◌, ◌<◌, ◌≤◌, inl, inr, Bool, true, false, cond}
-use Rattle.std.proofs.Common.{List, [], ◌∷◌, ◌++◌, flat_map, map, filter, length, set, get_or, Option, Some}
-use Rattle.std.proofs.Common.{refl, sym, ap, ap₂, subst, ◌∙◌, arith, append-nil, length-append, sum_by}
+use Rattle.std.proofs.Common.{◌≡◌, ℕ, ◌+◌, ◌<◌, ◌≤◌, Bool, cond, List, [], ◌∷◌, ◌++◌, flat_map, map, filter}
+use Rattle.std.proofs.Common.{length, set, get_or, Some, refl, sym, ap, subst, ◌∙◌, arith, append-nil}
 use Rattle.std.specs.Prelude.{◌≢◌, slice_get}
-use Rattle.std.specs.List.{fold, insert}
+use Rattle.std.specs.List.{insert}
 use Rattle.std.specs.List.Sorted.{IsStrictlySortedBy, IsNonDecreasingBy, IsPartitionPoint}
 use Rattle.std.specs.Cmp.{tied_itself}
 use Rattle.std.specs.Ordering.{ordering_index}
 use Rattle.std.specs.declared.cmp.Ordering.TheVariants.{Less, Equal, Greater}
-use Rattle.std.proofs.lemmas.Bool.{ne_eqb, eq-eqb}
 use Rattle.std.proofs.lemmas.List.Edits.{length-insert}
 use Rattle.std.proofs.lemmas.List.Elements.{filter-append}
 use Rattle.mc_tables.specs.CacheTable.{key_cmp}
 use Rattle.mc_tables.specs.ListedRows.{is_listed}
-use Rattle.mc_tables.specs.Summary.{SummaryValue, in_order, shown_pairs}
+use Rattle.mc_tables.specs.Summary.{SummaryValue}
 use Rattle.mc_tables.proofs.CacheLemmas.{key_cmp-total}
 use Rattle.mc_tables.proofs.LowestLemmas.{put_pair-member, put_pair-at_search_place}
 use Rattle.mc_topology.specs.Topology.{TopologyValue}
 use Rattle.mc_theory.specs.Lists.{In, below}
-use Rattle.mc_theory.proofs.ListLemmas.{in-append_cases, in-append_left, in-below_cases, in-filter_cases}
-use Rattle.mc_theory.proofs.ListLemmas.{in-push}
-use Rattle.mc_explain.specs.UnlistedPairs.{is_last, push_unless_last, with_routers_below, with_routers}
+use Rattle.mc_theory.proofs.ListLemmas.{in-below_cases, in-filter_cases, in-push}
+use Rattle.mc_asked.specs.PairParts.{push_unless_last}
+use Rattle.mc_asked.proofs.PartLemmas.{is_listed-from_in}
+use Rattle.mc_asked.proofs.SharedPairLemmas.{index-from_in, is_listed-push_other, map-equal_on_list}
+use Rattle.mc_asked.proofs.SharedPairLemmas.{push_unless_last-cond, set-map_sorted}
+use Rattle.mc_explain.specs.UnlistedPairs.{with_routers_below, with_routers}
 use Rattle.mc_explain.specs.UnlistedText.{has_pair, unlisted_pair_text, unlisted_pair_lines, pairs_in}
 use Rattle.mc_explain.specs.UnlistedText.{routers_below}
 use Rattle.mc_forward.proofs.BelowLemmas.{below-more}
-use Rattle.mc_explain.proofs.MergeLemmas.{is_strictly_sorted_by-in_order}
-use Rattle.mc_explain.proofs.LowestPairLemmas.{key_cmp-from_are_above, is_listed-from_in, in-from_is_listed}
-use Rattle.mc_explain.proofs.LowestPairLemmas.{key_cmp-not_less_itself, equal_bools-from_both}
-use Rattle.mc_explain.proofs.UnlistedLemmas.{is_strictly_sorted_by-lowest}
-
--- the shown pairs ascend
-pub is_strictly_sorted_by-shown_pairs : (all : Bool) (ps : List (ℕ × ℕ))
-    → IsStrictlySortedBy key_cmp (shown_pairs all (in_order ps))
-is_strictly_sorted_by-shown_pairs true ps = is_strictly_sorted_by-in_order ps
-is_strictly_sorted_by-shown_pairs false ps = is_strictly_sorted_by-lowest ps
 
 -- ---- a router after others
-
-slice_get-push : (xs : List ℕ) (x : ℕ) → slice_get (xs ++ x ∷ []) (length xs) ≡ Some x
-slice_get-push [] x = refl
-slice_get-push (y ∷ xs) x = slice_get-push xs x
-
--- the last router isn't added again
-push_unless_last-same : (xs : List ℕ) (r : ℕ) → push_unless_last r (xs ++ r ∷ []) ≡ xs ++ r ∷ []
-push_unless_last-same xs r =
-    let place : length (xs ++ r ∷ []) - 1 ≡ length xs = omega (arith, length-append xs (r ∷ [])) in
-    let last : slice_get (xs ++ r ∷ []) (length (xs ++ r ∷ []) - 1) ≡ Some r =
-    ap (slice_get (xs ++ r ∷ [])) place ∙ slice_get-push xs r in
-    ap (λ (o : Option ℕ). cond (is_last r o) (xs ++ r ∷ []) ((xs ++ r ∷ []) ++ r ∷ [])) last
-    ∙ ap (λ (b : Bool). cond b (xs ++ r ∷ []) ((xs ++ r ∷ []) ++ r ∷ [])) (eq-eqb r r refl)
-
--- a router above all others isn't the last one yet
-is_last-above : (xs : List ℕ) (r k : ℕ) → ((x : ℕ) → In x xs → x < r) → is_last r (slice_get xs k) ≡ false
-is_last-above [] r k less = refl
-is_last-above (x ∷ xs) r zero less = ne_eqb x r (λ e. absurd (omega (arith, less x (inl refl), e)))
-is_last-above (x ∷ xs) r (suc k) less = is_last-above xs r k (λ y h. less y (inr h))
-
-push_unless_last-above : (xs : List ℕ) (r : ℕ) → ((x : ℕ) → In x xs → x < r) → push_unless_last r xs ≡ xs
-    ++ r ∷ []
-push_unless_last-above xs r less =
-    ap (λ (b : Bool). cond b xs (xs ++ r ∷ [])) (is_last-above xs r (length xs - 1) less)
-
-push_unless_last-cond : (b : Bool) (xs : List ℕ) (r : ℕ) → ((x : ℕ) → In x xs → x < r)
-    → push_unless_last r (xs ++ cond b (r ∷ []) []) ≡ xs ++ r ∷ []
-push_unless_last-cond true xs r less = push_unless_last-same xs r
-push_unless_last-cond false xs r less = ap (push_unless_last r) (append-nil xs) ∙ push_unless_last-above xs
-    r less
 
 routers_below-less : (summary : List SummaryValue) (r : ℕ) (pair : ℕ × ℕ) (x : ℕ)
     → In x (routers_below summary r pair) → x < r
@@ -78,13 +39,6 @@ routers_below-less summary r pair x h =
 abbrev pub with_routers_so_far : List SummaryValue → (router : ℕ) → List (ℕ × ℕ) → ℕ × ℕ → (ℕ × ℕ) × List ℕ
 with_routers_so_far summary router own pair =
     (pair, routers_below summary router pair ++ cond (is_listed (Some own) pair) (router ∷ []) [])
-
-map-equal_on_list : {A : Type 0} (f g : ℕ × ℕ → A) (ps : List (ℕ × ℕ)) → ((p : ℕ × ℕ) → In p ps → f p ≡ g p)
-    → map f ps ≡ map g ps
-map-equal_on_list f g [] same = refl
-map-equal_on_list {A} f g (p ∷ ps) same =
-    ap₂ (λ (x : A) (xs : List A). x ∷ xs) (same p (inl refl)) (map-equal_on_list f g ps
-    (λ q h. same q (inr h)))
 
 -- with none of the router's pairs
 pub with_routers_so_far-none : (summary : List SummaryValue) (router : ℕ) (ps : List (ℕ × ℕ))
@@ -112,20 +66,6 @@ with_routers_so_far-all summary router ps =
 
 -- ---- one pair more
 
-is_listed-push_other : (own : List (ℕ × ℕ)) (q p : ℕ × ℕ) → p ≢ q
-    → is_listed (Some own) p ≡ is_listed (Some (own ++ q ∷ [])) p
-is_listed-push_other own q p other =
-    equal_bools-from_both (is_listed (Some own) p) (is_listed (Some (own ++ q ∷ [])) p)
-    (λ e. is_listed-from_in p (own ++ q ∷ []) (in-append_left p own (q ∷ []) (in-from_is_listed p own e)))
-    (λ e. is_listed-from_in p own (elim (in-append_cases p own (q ∷ []) (in-from_is_listed p (own ++ q ∷ [])
-    e)) [
-      | inl h ↦ h
-      | inr h ↦ elim h [
-        | inl e ↦ absurd (other (sym e))
-        | inr none ↦ absurd none
-      ]
-    ]))
-
 -- another pair has the same routers
 with_routers_so_far-other_pair : (summary : List SummaryValue) (router : ℕ) (own : List (ℕ × ℕ)) (q p : ℕ
     × ℕ) → p ≢ q
@@ -133,35 +73,6 @@ with_routers_so_far-other_pair : (summary : List SummaryValue) (router : ℕ) (o
 with_routers_so_far-other_pair summary router own q p other =
     ap (λ (b : Bool). (p, routers_below summary router p ++ cond b (router ∷ []) []))
     (is_listed-push_other own q p other)
-
-in-get_or : (xs : List (ℕ × ℕ)) (k : ℕ) (d : ℕ × ℕ) → k < length xs → In (get_or xs k d) xs
-in-get_or [] k d lt = absurd (omega (arith, lt))
-in-get_or (x ∷ xs) zero d lt = inl refl
-in-get_or (x ∷ xs) (suc k) d lt = inr (in-get_or xs k d (omega (arith, lt)))
-
--- one element is changed, at the place of one of ascending pairs
-set-map_sorted : {A : Type 0} (f g : ℕ × ℕ → A) (ps : List (ℕ × ℕ)) (i : ℕ) (q : ℕ × ℕ)
-    → IsStrictlySortedBy key_cmp ps → i < length ps → get_or ps i q ≡ q
-    → ((p : ℕ × ℕ) → p ≢ q → f p ≡ g p) → set (map f ps) i (g q) ≡ map g ps
-unfolding IsStrictlySortedBy
-set-map_sorted f g [] i q up lt at other = absurd (omega (arith, lt))
-set-map_sorted {A} f g (p ∷ ps) zero q up lt at other =
-    ap₂ (λ (x : A) (xs : List A). x ∷ xs) (ap g (sym at))
-    (map-equal_on_list f g ps (λ x h. other x (λ e. key_cmp-not_less_itself p x (at ∙ sym e)
-    (key_cmp-from_are_above p x ps up.0 h))))
-set-map_sorted {A} f g (p ∷ ps) (suc i) q up lt at other =
-    let lower : i < length ps = omega (arith, lt) in
-    let behind : In q ps = subst (λ (x : ℕ × ℕ). In x ps) at (in-get_or ps i q lower) in
-    ap₂ (λ (x : A) (xs : List A). x ∷ xs)
-    (other p (λ e. key_cmp-not_less_itself p q e (key_cmp-from_are_above p q ps up.0 behind)))
-    (set-map_sorted f g ps i q up.1 lower at other)
-
--- the element at the pair's place
-pub get_or-map : {A : Type 0} (f : ℕ × ℕ → A) (ps : List (ℕ × ℕ)) (i : ℕ) (q : ℕ × ℕ) (old : A)
-    → i < length ps → get_or ps i q ≡ q → old ≡ get_or (map f ps) i old → old ≡ f q
-get_or-map f [] i q old lt at read = absurd (omega (arith, lt))
-get_or-map f (p ∷ ps) zero q old lt at read = read ∙ ap f at
-get_or-map f (p ∷ ps) (suc i) q old lt at read = get_or-map f ps i q old (omega (arith, lt)) at read
 
 -- a pair of the router that is shown
 pub with_routers_so_far-more : (summary : List SummaryValue) (router : ℕ) (own ps : List (ℕ × ℕ)) (i : ℕ)
@@ -186,13 +97,6 @@ with_routers_so_far-more summary router own ps i q old new up lt at was is =
 
 -- ---- a pair that isn't shown
 
-index-from_in : (q : ℕ × ℕ) (ps : List (ℕ × ℕ)) → In q ps → (k : ℕ) × ((k < length ps) × (get_or ps k q ≡ q))
-index-from_in q [] h = absurd h
-index-from_in q (p ∷ ps) (inl e) = (0, (omega arith, e))
-index-from_in q (p ∷ ps) (inr h) =
-    let later = index-from_in q ps h in
-    (suc later.0, (omega (arith, later.1.0), later.1.1))
-
 -- a pair for which the binary search finds only a place between others
 pub with_routers_so_far-absent : (summary : List SummaryValue) (router : ℕ) (own ps seen : List (ℕ × ℕ))
     (i : ℕ) (q : ℕ × ℕ)
@@ -214,19 +118,6 @@ with_routers_so_far-absent summary router own ps seen i q same up le found =
     let size = ap length whole in
     let grown = length-insert ps i q (subst (λ (l : List (ℕ × ℕ)). i ≤ length l) same le) in
     absurd (omega (arith, size, grown))))
-
--- ---- rows
-
-fold-map_lengths : (f : ℕ × ℕ → (ℕ × ℕ) × List ℕ) (n : ℕ) (ps : List (ℕ × ℕ))
-    → fold (λ a (s : (ℕ × ℕ) × List ℕ). a + length s.1) n (map f ps)
-    ≡ fold (λ a p. a + length (f p).1) n ps
-fold-map_lengths f n [] = refl
-fold-map_lengths f n (p ∷ ps) = fold-map_lengths f (n + length (f p).1) ps
-
-pub sum_by-map_lengths : (f : ℕ × ℕ → (ℕ × ℕ) × List ℕ) (ps : List (ℕ × ℕ))
-    → sum_by (λ (s : (ℕ × ℕ) × List ℕ). length s.1) (map f ps)
-    ≡ sum_by (λ (p : ℕ × ℕ). length (f p).1) ps
-sum_by-map_lengths f ps = fold-map_lengths f 0 ps
 
 -- ---- lines
 

@@ -1,20 +1,9 @@
 -- The shown pairs of those that are no flow's, with their routers, and how many further rows there are.
-use Rattle.std.specs.Prelude.{◌≡◌, ◌==◌, ◌≤◌, ◌*◌, ◌-◌, ℕ, Bool, false, List, [], ◌∷◌, ◌++◌, length, map}
-use Rattle.std.specs.Prelude.{Option, Some, None, if◌then◌else◌, slice_get}
+use Rattle.std.specs.Prelude.{◌≡◌, ◌≤◌, ◌*◌, ℕ, Bool, List, length, map}
 use Rattle.mc_tables.specs.Summary.{SummaryValue}
 use Rattle.mc_topology.specs.Topology.{TopologyValue}
 use Rattle.mc_explain.specs.UnlistedText.{further_rows, shown_unlisted_pairs, routers_below, routers_with}
 use Rattle.mc_explain.specs.declared.unlisted.unlisted_pairs.UnlistedPairs.{UnlistedPairs}
-
--- whether the router is the last one
-abbrev pub is_last : (router : ℕ) → Option ℕ → Bool
-is_last router None = false
-is_last router (Some last) = last == router
-
-abbrev pub push_unless_last : (router : ℕ) → List ℕ → List ℕ
-push_unless_last router routers =
-    if is_last router (slice_get routers (length routers - 1)) then routers
-    else routers ++ router ∷ []
 
 -- a pair of a group and a source, with the routers that have it: those below a number, or all
 abbrev pub with_routers_below : List SummaryValue → (number : ℕ) → ℕ × ℕ → (ℕ × ℕ) × List ℕ

@@ -14,5 +14,7 @@ pub use cache::{CacheReader, CacheTable, Entry, FlatOifs, Oif};
 pub use fault::{TableFault, TableFaultKind};
 pub use lines::{TableReader, TableRows};
 pub use listed::ListedPairs;
-pub use summary::{CacheSummary, SummarizedCache, SummaryPairs, SummaryReader};
+pub use summary::{
+    CacheSummary, SummarizedCache, SummaryPairs, SummaryReader, sorted_without_repeats,
+};
 pub use vifs::{Vif, VifReader, VifTable};

@@ -12,6 +12,7 @@ pub(crate) mod summary_so_far;
 pub(crate) mod unlisted_rows;
 
 pub use cache_summary::CacheSummary;
+pub use shown_pairs::sorted_without_repeats;
 pub use summarized_cache::SummarizedCache;
 pub use summary_pairs::SummaryPairs;
 pub use summary_reader::SummaryReader;

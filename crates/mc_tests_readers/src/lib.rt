@@ -1,8 +1,10 @@
 //! Tests of the crates that read texts: of devices and bundles, IGMP messages, source filters,
-//! forwarding tables, topologies and certificates, a module for each crate. They are in a crate of
+//! what hosts ask for, forwarding tables, topologies and certificates, a module for each crate. They are in a crate of
 //! their own, since a crate with tests is proved twice.
 #![tactic(auto)]
 
+#[cfg(test)]
+mod asked;
 #[cfg(test)]
 mod cert;
 #[cfg(test)]

@@ -14,9 +14,10 @@ use Rattle.std.proofs.lemmas.List.{length-append, take-append-drop, drop_more, t
 use Rattle.std.proofs.lemmas.List.{get_or-take, take_min}
 use Rattle.std.proofs.lemmas.List.Sums.{AllPass-from_list_all, list_all-from_AllPass}
 use Rattle.mc_text.specs.Bundle.{is_name_byte, IsPartName, part_line, max_line}
-use Rattle.mc_text.specs.BundleReading.{is_part_name, is_length, cut_words, parse_name_and_length}
+use Rattle.mc_text.specs.BundleReading.{is_part_name, cut_words, parse_name_and_length}
 use Rattle.mc_text.specs.BundleReading.{parse_part_line}
 use Rattle.mc_text.specs.BundleReading.{cut_line, line_at}
+use Rattle.mc_text.specs.Number.{is_plain_decimal}
 use Rattle.mc_text.proofs.NumberReading.{decimal_numerals}
 pub use Rattle.mc_text.specs.Lines.{HasNoByte}
 use Rattle.std.proofs.Math.Seq.{take-append-add, drop-append-add}
@@ -80,15 +81,15 @@ HasNoByte-name c fails name h = HasNoByte-from_list_all is_name_byte c fails nam
 -- ---- lengths
 
 -- the number of a length is written as its word
-pub decimal-of_digits_value : (word : List ℕ) → is_length word ≡ true → digits_value 10 word < 2 ^ 64
+pub decimal-of_digits_value : (word : List ℕ) → is_plain_decimal word ≡ true → digits_value 10 word < 2 ^ 64
     → decimal (digits_value 10 word) ≡ word
 decimal-of_digits_value word h small =
     grind (arith, nat_tests, decimal-digits_value decimal_numerals word)
 
 -- a number in decimal is a length's word
-pub is_length-decimal : (n : ℕ) → n < 2 ^ 64 → is_length (decimal n) ≡ true
-is_length-decimal zero small = rw (decimal_digit 0 (omega arith)) refl
-is_length-decimal (suc n) small =
+pub is_plain_decimal-decimal : (n : ℕ) → n < 2 ^ 64 → is_plain_decimal (decimal n) ≡ true
+is_plain_decimal-decimal zero small = rw (decimal_digit 0 (omega arith)) refl
+is_plain_decimal-decimal (suc n) small =
     let digits = digits_decimal decimal_numerals (suc n) small in
     let some = (decimal_is_IsNumeral (suc n) small).0.0 in
     let first = first_decimal (suc n) (omega arith) small in
@@ -133,7 +134,7 @@ parse_part_line-complete name size h small =
     let back = drop-append-add name (32 ∷ decimal size) 1 in
     let value = (decimal_is_IsNumeral size small).1 in
     let named = is_part_name-complete name h in
-    grind (arith, at, front, back, value, named, is_length-decimal size small)
+    grind (arith, at, front, back, value, named, is_plain_decimal-decimal size small)
 
 -- ---- the ends of lines
 

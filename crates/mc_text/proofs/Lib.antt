@@ -22,3 +22,4 @@ pub mod PartsMeaning
 pub mod PartsLimitLemmas
 pub mod RestOfBundleLemmas
 mod FindByte
+pub mod GroupRangeLemmas

@@ -1,5 +1,5 @@
 -- Reading a bundle from the front, up to its first fault.
-use Rattle.std.specs.Prelude.{ℕ, zero, suc, ◌+◌, ◌-◌, ◌==◌, ◌&&◌, ◌||◌, nat_lt, nat_le, not}
+use Rattle.std.specs.Prelude.{ℕ, zero, suc, ◌+◌, ◌-◌, ◌==◌, ◌&&◌, ◌||◌, nat_lt, nat_le}
 use Rattle.std.specs.Prelude.{Bool, List, [], ◌∷◌, length, take, drop, slice_index, position, codes}
 use Rattle.std.specs.Prelude.{Option, Some, None, Result, Ok, Err, if◌then◌else◌}
 use Rattle.std.specs.List.{list_all}
@@ -7,7 +7,7 @@ use Rattle.std.specs.Str.{bytes_eq}
 use Rattle.std.specs.Str.Parse.{digits_value}
 use Rattle.mc_text.specs.declared.bundle.bundle_fault.BundleFault.{BundleFault}
 use Rattle.mc_text.specs.declared.bundle.bundle_fault.BundleFault.TheVariants as faults
-use Rattle.mc_text.specs.Number.{is_decimal}
+use Rattle.mc_text.specs.Number.{is_plain_decimal}
 use Rattle.mc_text.specs.Steps as Steps
 use Rattle.mc_text.specs.Steps.{◌>>=◌}
 use Rattle.mc_text.specs.Bundle.{PartText, is_name_byte, max_name, max_line, max_part, max_bundle}
@@ -40,15 +40,10 @@ abbrev pub is_part_name : List ℕ → Bool
 is_part_name name =
     nat_le 1 (length name) && nat_le (length name) max_name && list_all is_name_byte name
 
--- one digit or more, without a leading zero but for the number 0
-abbrev pub is_length : List ℕ → Bool
-is_length word =
-    is_decimal word && ((length word == 1) || not (slice_index word 0 == 48))
-
--- the name and the length that two words are, if the first is a name and the second a length
+-- the name and the length that two words are, if the first is a name and the second a plain number
 abbrev pub name_and_length : List ℕ → List ℕ → Option (List ℕ × ℕ)
 name_and_length name word =
-    if is_part_name name && is_length word then Some (name, digits_value 10 word) else None
+    if is_part_name name && is_plain_decimal word then Some (name, digits_value 10 word) else None
 
 -- the same of the words before and after the space at a place
 abbrev pub cut_words : List ℕ → Option ℕ → Option (List ℕ × ℕ)

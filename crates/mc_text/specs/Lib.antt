@@ -7,6 +7,7 @@ pub mod BundleReading
 pub mod Device
 pub mod DeviceName
 pub mod DigitPairs
+pub mod GroupRange
 pub mod Index
 pub mod Lines
 pub mod LineView

@@ -1,6 +1,6 @@
 -- Numbers in decimal.
-use Rattle.std.specs.Prelude.{◌≡◌, ℕ, ◌&&◌, nat_le, Bool, List, length, Option, Some, None}
-use Rattle.std.specs.Prelude.{if◌then◌else◌}
+use Rattle.std.specs.Prelude.{◌≡◌, ℕ, ◌==◌, ◌&&◌, ◌||◌, not, nat_le, Bool, List, length}
+use Rattle.std.specs.Prelude.{Option, Some, None, if◌then◌else◌, slice_index}
 use Rattle.std.specs.Char.{is_ascii_digit}
 use Rattle.std.specs.List.{list_all}
 use Rattle.std.specs.Str.Parse.{IsNumeral, digits_value}
@@ -12,6 +12,11 @@ IsDecimal word n = IsNumeral 10 word × (digits_value 10 word ≡ n)
 -- whether the word is one decimal digit or more, and nothing else
 abbrev pub is_decimal : List ℕ → Bool
 is_decimal word = nat_le 1 (length word) && list_all is_ascii_digit word
+
+-- the same without a leading zero, but for the number 0
+abbrev pub is_plain_decimal : List ℕ → Bool
+is_plain_decimal word =
+    is_decimal word && ((length word == 1) || not (slice_index word 0 == 48))
 
 -- the number that the word writes in decimal, if it is at most max
 unfoldable pub number_up_to : ℕ → List ℕ → Option ℕ

@@ -1,4 +1,4 @@
-//! Texts as operators and kernels write them: addresses, lines, words and numbers. Beside them it has
+//! Texts as operators and kernels write them: addresses, ranges of groups, lines, words and numbers. Beside them it has
 //! inputs and outputs of bytes, names of network devices, the bundle (one stream of named parts) and
 //! an index of numbers. Of multicast it knows only two ranges of addresses: the groups that routers
 //! forward and the sources that hosts may send from. Nothing here depends on a domain.
@@ -23,6 +23,6 @@ pub use io::{
 pub use memory::Memory;
 pub use pair::{pair_number, pair_numbers};
 pub use text::{
-    Addr, Line, Lines, MAX_TEXT, Order, Words, are_hex_digits, bytes_of_hex_digits, decimal,
-    find_byte, hex_digit, is_device_name,
+    Addr, GroupRange, Line, Lines, MAX_TEXT, Order, Words, are_hex_digits, bytes_of_hex_digits,
+    decimal, find_byte, hex_digit, is_device_name,
 };

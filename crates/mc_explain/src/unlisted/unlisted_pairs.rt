@@ -5,11 +5,12 @@ ghost use Rattle.std.specs.Prelude.{sum_by};
 ghost use Rattle.std.specs.List.Sorted.{IsStrictlySortedBy};
 ghost use Rattle.mc_tables.specs.CacheTable.{key_cmp};
 ghost use Rattle.mc_tables.specs.Summary.{in_order, shown_pairs};
-ghost use Rattle.mc_explain.specs.UnlistedPairs.{AreUnlistedPairs, push_unless_last, with_routers};
+ghost use Rattle.mc_asked.specs.PairParts.{push_unless_last};
+ghost use Rattle.mc_explain.specs.UnlistedPairs.{AreUnlistedPairs, with_routers};
 ghost use Rattle.mc_explain.specs.UnlistedPairs.{with_routers_below};
 ghost use Rattle.mc_explain.specs.UnlistedText.{shown_unlisted_pairs, pairs_in, count_unlisted_rows};
 
-use mc_tables::CacheSummary;
+use mc_tables::{CacheSummary, sorted_without_repeats};
 use mc_text::{Addr, Memory};
 use mc_topology::{RouterNo, Topology};
 use std::alloc::Global;
@@ -82,14 +83,14 @@ pub struct UnlistedPairs {
 }
 
 /// These pairs in ascending order, each once: all, or the lowest 20.
-fn shown_pairs(mut pairs: Vec<(Addr, Addr)>, all: bool) -> Vec<(Addr, Addr)>
+fn shown_pairs(pairs: Vec<(Addr, Addr)>, all: bool) -> Vec<(Addr, Addr)>
     ensures { result.items ≡ shown_pairs all (in_order pairs.items) }
 {
-    pairs.sort_unstable();
-    pairs.dedup();
-    if !all {
-        pairs.truncate(MAX_SHOWN_PAIRS);
+    let mut pairs = sorted_without_repeats(pairs);
+    if all {
+        return pairs;
     }
+    pairs.truncate(MAX_SHOWN_PAIRS);
     pairs
 }
 

@@ -69,7 +69,7 @@ impl ShownPairs {
 }
 
 /// The pairs in ascending order, each once.
-fn sorted_without_repeats(mut pairs: Vec<(Addr, Addr)>) -> Vec<(Addr, Addr)>
+pub fn sorted_without_repeats(mut pairs: Vec<(Addr, Addr)>) -> Vec<(Addr, Addr)>
     ensures { result.items ≡ in_order pairs.items }
 {
     pairs.sort_unstable();

@@ -1,6 +1,8 @@
 //! Tests of addresses, lines, words and numbers.
 
 use mc_text::*;
+use std::alloc::{AllocError, Global};
+use std::test::Fail;
 
 /// Whether two dotted addresses are read, and three words of a kernel's tables that denote the second.
 fn addresses_are_read() -> bool {
@@ -22,6 +24,33 @@ fn addresses_are_read() -> bool {
 #[test]
 fn addresses(rt: HostRuntime) {
     assert!(rt; addresses_are_read());
+}
+
+/// Whether a range is read that has a group, and is written as it was read, and whether others are refused.
+fn ranges_are_read(alloc: Global) -> Result<bool, AllocError> {
+    let Some(range) = GroupRange::parse(b"239.16.0.0/12") else {
+        return Ok(false);
+    };
+    let refused: &[&[u8]] = &[
+        b"239.16.0.0/11",
+        b"239.16.0.0/012",
+        b"239.16.0.0/33",
+        b"224.0.0.0/3",
+        b"192.0.0.0/4",
+        b"239.16.0.0",
+    ];
+    Ok(
+        range.contains(Addr::from_octets([239, 31, 255, 255]))
+            && !range.contains(Addr::from_octets([239, 32, 0, 0]))
+            && format!(in alloc; "{range}")?.as_str() == "239.16.0.0/12"
+            && refused.iter().all(|text| GroupRange::parse(text).is_none()),
+    )
+}
+
+#[test]
+fn ranges(rt: HostRuntime) -> Result<(), Fail> {
+    assert!(rt; ranges_are_read(rt.alloc())?);
+    Ok(())
 }
 
 /// Whether a line has this number and these bytes, and whether a line feed ends it.

@@ -1,17 +1,15 @@
 //! The lines of a bundle: `end`, and `part` with a name and a length.
 
 ghost use Rattle.std.specs.Prelude.{◌≡◌, min, true, option_map};
-ghost use Rattle.std.specs.Char.{is_ascii_digit};
-ghost use Rattle.std.specs.List.{list_all};
 ghost use Rattle.std.specs.Str.Parse.{digits_value};
 ghost use Rattle.mc_text.specs.BundleReading.{Gives, line_at as line_of};
-ghost use Rattle.mc_text.specs.BundleReading.{is_length as is_length_word, parse_part_line as part_line_of};
+ghost use Rattle.mc_text.specs.BundleReading.{parse_part_line as part_line_of};
 ghost use Rattle.mc_text.specs.BundleReading.{parse_name_and_length as name_and_length_of};
 ghost use Rattle.mc_text.specs.Number.{is_decimal};
 
 use crate::bundle::bundle_fault::BundleFault;
 use crate::bundle::part_name::PartName;
-use crate::text::{decimal, find_byte};
+use crate::text::{decimal, find_byte, is_plain_decimal};
 
 /// The greatest length of a line with its line feed, in bytes.
 const MAX_LINE: usize = 96;
@@ -46,26 +44,10 @@ fn parse_name_and_length(words: &[u8]) -> Option<(PartName, u64)>
     let space = find_byte(b' ', words)?;
     let name = PartName::new(&words[..space])?;
     let number = &words[space + 1..];
-    if !is_length(number) {
+    if !is_plain_decimal(number) {
         return None;
     }
     Some((name, length_or_max(number)))
-}
-
-/// Whether the word is decimal digits without a needless leading zero.
-fn is_length(word: &[u8]) -> bool
-    ensures { result ≡ is_length_word word.now }
-{
-    if word.is_empty() || word.len() > 1 && word[0] == b'0' {
-        return false;
-    }
-    are_digits(word)
-}
-
-fn are_digits(word: &[u8]) -> bool
-    ensures { result ≡ list_all is_ascii_digit word.now }
-{
-    word.iter().all(|byte| byte.is_ascii_digit())
 }
 
 /// The number that the digits write, or `u64::MAX` if it doesn't fit in 64 bits.

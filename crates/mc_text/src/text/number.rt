@@ -3,7 +3,9 @@
 ghost use Rattle.std.specs.Prelude.{◌≡◌, ℕ, ◌+◌, ◌*◌, ◌^◌, ◌<◌, ◌≤◌, IsTrue, IfSome, Some};
 ghost use Rattle.std.specs.Option.{SomeIff};
 ghost use Rattle.std.specs.Char.{digit_value, is_ascii_digit};
-ghost use Rattle.mc_text.specs.Number.{IsDecimal, number_up_to};
+ghost use Rattle.std.specs.Fmt.{decimal as decimal_text};
+ghost use Rattle.std.specs.List.{list_all};
+ghost use Rattle.mc_text.specs.Number.{IsDecimal, is_plain_decimal, number_up_to};
 
 /// Reads a word of one or more decimal digits, and nothing else, whose number is at most `max`. Any
 /// number of leading zeros is allowed.
@@ -14,6 +16,35 @@ pub fn decimal(word: &[u8], max: u64) -> Option<u64>
     ensures value { result ≡ number_up_to max word.now }
 {
     parse_decimal(word, max)
+}
+
+/// Reads a decimal number without a needless leading zero, if it is at most `max`.
+pub(crate) fn plain_decimal(word: &[u8], max: u64) -> Option<u64>
+    ensures found { IfSome result (λ n. word.now ≡ decimal_text n) }
+    ensures bound { IfSome result (λ n. n ≤ max) }
+    ensures only { (n : ℕ) → n ≤ max → word.now ≡ decimal_text n → result ≡ Some n }
+{
+    if is_plain_decimal(word) {
+        decimal(word, max)
+    } else {
+        None
+    }
+}
+
+/// Whether the word is decimal digits without a needless leading zero.
+pub(crate) fn is_plain_decimal(word: &[u8]) -> bool
+    ensures { result ≡ is_plain_decimal word.now }
+{
+    if word.is_empty() || word.len() > 1 && word[0] == b'0' {
+        return false;
+    }
+    are_digits(word)
+}
+
+fn are_digits(word: &[u8]) -> bool
+    ensures { result ≡ list_all is_ascii_digit word.now }
+{
+    word.iter().all(|byte| byte.is_ascii_digit())
 }
 
 /// The number that decimal digits write, if it is at most `max`.

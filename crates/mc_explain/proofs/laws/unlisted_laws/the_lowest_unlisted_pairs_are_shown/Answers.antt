@@ -1,7 +1,7 @@
 use Rattle.std.proofs.Common.{refl}
 use Rattle.mc_tables.specs.Summary.{SummaryValue, summary_of}
 use Rattle.mc_explain.specs.UnlistedText.{unlisted_pairs}
-use Rattle.mc_explain.proofs.MergeLemmas.{shown_pairs-of_parts}
+use Rattle.mc_asked.proofs.MergeLemmas.{shown_pairs-of_parts}
 use Rattle.mc_explain.proofs.LowestPairLemmas.{routers_with-filter_rows}
 use Rattle.mc_explain.proofs.laws.unlisted_laws.the_lowest_unlisted_pairs_are_shown.Goals as goal
 

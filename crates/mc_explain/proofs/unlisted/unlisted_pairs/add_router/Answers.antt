@@ -4,10 +4,10 @@ use Rattle.std.proofs.Common.{sym, ap}
 use Rattle.std.proofs.Common.{◌∙◌}
 use Rattle.std.proofs.lemmas.List.{take_more, take_all}
 use Rattle.mc_tables.proofs.CacheMapLemmas.{key_cmp-antisymmetric}
+use Rattle.mc_asked.proofs.SharedPairLemmas.{get_or-map}
 use Rattle.mc_explain.specs.declared.unlisted.unlisted_pairs.UnlistedPair.{UnlistedPair}
 use Rattle.mc_explain.proofs.UnlistedPairLemmas.{with_routers_so_far-absent, with_routers_so_far-all}
 use Rattle.mc_explain.proofs.UnlistedPairLemmas.{with_routers_so_far-more, with_routers_so_far-none}
-use Rattle.mc_explain.proofs.UnlistedPairLemmas.{get_or-map}
 use Rattle.mc_explain.proofs.UnlistedPairLemmas.{with_routers_so_far}
 use Rattle.mc_explain.proofs.unlisted.unlisted_pairs.add_router.Goals as goal
 use Rattle.mc_explain.proofs.unlisted.unlisted_pairs.add_router.Goals.{in-Ok+in_ok-add, in_default}

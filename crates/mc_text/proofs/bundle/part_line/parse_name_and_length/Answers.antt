@@ -15,18 +15,18 @@ returns-in_err-name c =
     let refused = is_part_name-false _ c.in_err-name.ensures.only in
     rw (c.from_residual-in_err-name.ensures, ← c.in_ok-space.ensures, refused) refl
 
-pub returns-then-not-is_length : goal.returns-then-not-is_length
+pub returns-then-not-is_plain_decimal : goal.returns-then-not-is_plain_decimal
 unfolding parse_name_and_length
-returns-then-not-is_length c =
+returns-then-not-is_plain_decimal c =
     let number = take_rest c.args.words.now (c.in_ok-space.space + 1) in
-    let refused = rw number at c.if-not-is_length.ensures in
+    let refused = rw number at c.if-not-is_plain_decimal.ensures in
     rw (← c.in_ok-space.ensures, and_right _ _ (sym refused)) refl
 
 pub returns : goal.returns
 unfolding parse_name_and_length
 returns c =
     let number = take_rest c.args.words.now (c.in_ok-space.space + 1) in
-    let long = rw number at c.if-not-is_length.ensures in
+    let long = rw number at c.if-not-is_plain_decimal.ensures in
     let name = c.in_ok-name.ensures.found in
     let named = rw name at (is_part_name-complete c.in_ok-name.name c.in_ok-name.ensures.is_name) in
     rw (c.length_or_max.ensures.value, number, ← c.in_ok-space.ensures, and_from _ _ named (sym long), name)

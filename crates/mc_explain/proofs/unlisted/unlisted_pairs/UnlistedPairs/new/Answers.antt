@@ -5,7 +5,7 @@ use Rattle.mc_tables.specs.CacheTable.{key_cmp}
 use Rattle.mc_tables.specs.Summary.{SummaryValue}
 use Rattle.mc_explain.specs.UnlistedPairs.{with_routers}
 use Rattle.mc_explain.specs.UnlistedText.{shown_unlisted_pairs, count_rows_of_pairs}
-use Rattle.mc_explain.proofs.UnlistedPairLemmas.{sum_by-map_lengths, is_strictly_sorted_by-shown_pairs}
+use Rattle.mc_asked.proofs.SharedPairLemmas.{is_strictly_sorted_by-shown_pairs, sum_by-map_lengths}
 use Rattle.mc_explain.proofs.unlisted.unlisted_pairs.UnlistedPairs.new.Goals as goal
 
 pub with_routers-requires : goal.with_routers-requires

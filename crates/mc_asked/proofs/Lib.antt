@@ -1,0 +1,9 @@
+pub mod IndexLemmas
+pub mod WantLemmas
+pub mod ForwardingLemmas
+pub mod LowestOfParts
+pub mod MergeLemmas
+pub mod PartLemmas
+pub mod SharedPairLemmas
+pub mod LawLemmas
+pub mod AskedLawLemmas

@@ -1,0 +1,10 @@
+use Rattle.std.proofs.Common.{◌≡◌, ◌≤◌, ◌*◌, take}
+use Rattle.mc_asked.specs.AskedLines.{count_shown}
+use Rattle.mc_asked.proofs.asked_lines.count_shown.Given as goal
+
+-- those so far
+abbrev pub invariant-loop-line : goal.invariant-loop-line
+invariant-loop-line l = record {
+  so_far : l.count ≡ count_shown (take l.line-index l.lines);
+  few : l.count ≤ l.line-index * 18446744073709551616;
+}

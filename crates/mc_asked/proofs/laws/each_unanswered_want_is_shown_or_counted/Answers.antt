@@ -1,0 +1,11 @@
+use Rattle.mc_asked.proofs.AskedLawLemmas.{asked_lines-from, further_wants-from, in-services}
+use Rattle.mc_asked.proofs.laws.each_unanswered_want_is_shown_or_counted.Goals as goal
+
+pub returns-clause-lines : goal.returns-clause-lines
+returns-clause-lines c = λ all a lists. asked_lines-from all a 0 lists
+
+pub returns-clause-further : goal.returns-clause-further
+returns-clause-further c = λ all a lists. further_wants-from all a lists
+
+pub returns-clause-services : goal.returns-clause-services
+returns-clause-services c = λ all a lan records want h is. in-services all a lan records want h is

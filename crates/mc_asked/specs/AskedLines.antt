@@ -1,0 +1,68 @@
+-- The wants of all LANs that nothing answers, each with its LANs, and the services.
+use Rattle.std.specs.Prelude.{◌≡◌, ℕ, ◌-◌, Bool, List, filter, length, map, sum_by, Some}
+use Rattle.std.specs.Prelude.{true, not, suc, [], ◌∷◌}
+use Rattle.mc_igmp.specs.declared.record.Record.{Record}
+use Rattle.mc_tables.specs.ListedRows.{is_listed}
+use Rattle.mc_asked.specs.Answers.{AnswersValue}
+use Rattle.mc_asked.specs.declared.asked_lines.AskedLines.{AskedLines}
+use Rattle.mc_asked.specs.LanWants.{LanWantsValue, asked_wants, lan_wants}
+use Rattle.mc_asked.specs.ListWants.{Want, any_source}
+use Rattle.mc_asked.specs.PairParts.{shared_pairs}
+
+-- ---- wants
+
+-- the wants that are kept of each LAN's list
+abbrev pub wants_of_lans : List LanWantsValue → List (List Want)
+wants_of_lans lans = map (λ own. own.lowest) lans
+
+-- the wants that are shown, all or the 20 lowest, each with the LANs whose want it is
+abbrev pub asked_lines : (all : Bool) → List LanWantsValue → List (Want × List ℕ)
+asked_lines all lans = shared_pairs all (wants_of_lans lans)
+
+-- how many wants there are, where a LAN and a want count one
+abbrev pub count_wants : List LanWantsValue → ℕ
+count_wants lans = sum_by (λ own. own.count) lans
+
+abbrev pub count_shown : List (Want × List ℕ) → ℕ
+count_shown lines = sum_by (λ line. length line.1) lines
+
+-- how many more there are than those that are shown
+abbrev pub further_wants : (all : Bool) → List LanWantsValue → ℕ
+further_wants all lans = count_wants lans - count_shown (asked_lines all lans)
+
+-- ---- services
+
+-- the services of a LAN as wants of any source
+abbrev pub service_pairs : LanWantsValue → List Want
+service_pairs own = map (λ group. (group, any_source)) own.services
+
+abbrev pub services_of_lans : List LanWantsValue → List (List Want)
+services_of_lans lans = map service_pairs lans
+
+-- the groups of services for which a LAN asks, by group, each with the LANs that do
+abbrev pub service_lines : List LanWantsValue → List (Want × List ℕ)
+service_lines lans = shared_pairs true (services_of_lans lans)
+
+-- ---- what is made of them
+
+-- the lines and how many more there are
+pub record AreAskedLines (all : Bool) (lans : List LanWantsValue) (a : AskedLines) : Type 0 where
+  pub lines : a.lines.items ≡ asked_lines all lans
+  pub further : a.further ≡ further_wants all lans
+
+-- ---- by the lists of all LANs
+
+-- the wants of each list that nothing answers, of LANs from a number on
+abbrev pub asked_from : AnswersValue → (lan : ℕ) → List (List Record) → List (List Want)
+asked_from a lan [] = []
+asked_from a lan (records ∷ lists) = asked_wants a lan records ∷ asked_from a (suc lan) lists
+
+-- what is kept of each
+abbrev pub lan_wants_from : (all : Bool) → AnswersValue → (lan : ℕ) → List (List Record) → List LanWantsValue
+lan_wants_from all a lan [] = []
+lan_wants_from all a lan (records ∷ lists) = lan_wants all a lan records ∷ lan_wants_from all a (suc
+    lan) lists
+
+-- how many of a LAN's wants are none of those that are shown
+abbrev pub count_others : (shown : List Want) → List Want → ℕ
+count_others shown wants = length (filter (λ want. not (is_listed (Some shown) want)) wants)

@@ -1,0 +1,57 @@
+-- What the indexes hold by which wants are looked up, and wants by their classes. Contracts of private
+-- functions use them, and `AreFlowsWanted` a public one.
+use Rattle.std.specs.Prelude.{◌≡◌, ◌↔◌, ℕ, ◌==◌, ◌&&◌, Bool, not, IsTrue, List, Contains, Some}
+use Rattle.std.specs.Prelude.{slice_get, map, filter}
+use Rattle.std.specs.List.{list_any}
+use Rattle.mc_igmp.specs.declared.record.Record.{Record}
+use Rattle.mc_text.specs.Pair.{pair_number, pair_of}
+use Rattle.mc_text.specs.Addr.{is_forwarded_group}
+use Rattle.mc_filter.specs.SourceFilter.{has}
+use Rattle.mc_asked.specs.declared.lan_wants.ClassifiedWants.{ClassifiedWants}
+use Rattle.mc_asked.specs.Answers.{AnswersValue, class_of}
+use Rattle.mc_asked.specs.LanWants.{is_asked_class, is_service_class}
+use Rattle.mc_asked.specs.ListWants.{Want, any_source}
+use Rattle.mc_filter.specs.ChannelPlaces.{IsWantedAnswer}
+use Rattle.mc_filter.specs.FilterBuilding.{has_exclude, wanted}
+
+-- the index has the groups for which a record is an EXCLUDE record
+abbrev pub IsIndexOfExcludes : List Record → List ℕ → Type 0
+IsIndexOfExcludes records index = (group : ℕ) → Contains index group ↔ IsTrue (has_exclude records group)
+
+-- the merged filter of the want's group asks for it, by the groups of EXCLUDE records
+abbrev pub is_of_merged_filter_by : (excluded : List ℕ) → Want → Bool
+is_of_merged_filter_by excluded want =
+    is_forwarded_group want.0 && not (not (want.1 == any_source) && has excluded want.0)
+
+-- the answers say of each flow, a source and a group, whether the records want it
+abbrev pub AreFlowsWanted : (flows : List (ℕ × ℕ)) → List Record → List Bool → Type 0
+AreFlowsWanted flows records answers =
+    (i : ℕ) (flow : ℕ × ℕ) (is_wanted : Bool) → slice_get flows i ≡ Some flow →
+    slice_get answers i ≡ Some is_wanted → IsWantedAnswer records flow is_wanted
+
+-- the index has the groups of the flows, each a source and a group, that the records want
+abbrev pub is_wanted_group : (flows : List (ℕ × ℕ)) → List Record → ℕ → Bool
+is_wanted_group flows records group =
+    list_any (λ flow. (flow.1 == group) && wanted records group flow.0) flows
+
+abbrev pub IsIndexOfWantedGroups : (flows : List (ℕ × ℕ)) → List Record → List ℕ → Type 0
+IsIndexOfWantedGroups flows records index =
+    (group : ℕ) → Contains index group ↔ IsTrue (is_wanted_group flows records group)
+
+-- the index has the pairs, as numbers
+abbrev pub IsIndexOfPairs : List (ℕ × ℕ) → List ℕ → Type 0
+IsIndexOfPairs pairs index = (pair : ℕ × ℕ) → pair_of (pair_number pair) ≡ pair →
+    Contains index (pair_number pair)
+    ↔ IsTrue (list_any (λ p. (p.0 == pair.0) && (p.1 == pair.1)) pairs)
+
+-- the index has the second parts of the pairs
+abbrev pub IsIndexOfGroups : List (ℕ × ℕ) → List ℕ → Type 0
+IsIndexOfGroups pairs index = (group : ℕ) →
+    Contains index group ↔ IsTrue (list_any (λ p. p.1 == group) pairs)
+
+-- the wants that nothing answers, and the groups of those that are a service's
+pub record IsClassified (a : AnswersValue) (lan : ℕ) (records : List Record) (wants : List Want)
+    (c : ClassifiedWants) : Type 0 where
+  pub asked : c.asked.items ≡ filter (λ want. is_asked_class (class_of a lan records want)) wants
+  pub services : c.services.items
+      ≡ map (λ want. want.0) (filter (λ want. is_service_class (class_of a lan records want)) wants)

@@ -1,0 +1,50 @@
+-- What is kept of the wants of a LAN's list.
+use Rattle.std.specs.Prelude.{ℕ, Bool, true, false, List, map, filter, length}
+use Rattle.std.specs.List.{dedup}
+use Rattle.std.specs.Prelude.{nat_eq}
+use Rattle.mc_igmp.specs.declared.record.Record.{Record}
+use Rattle.mc_tables.specs.Summary.{shown_pairs}
+use Rattle.mc_asked.specs.declared.want_class.WantClass.{WantClass}
+use Rattle.mc_asked.specs.declared.want_class.WantClass.TheVariants.{Answered, OnLan, Ignored, Service, Asked}
+use Rattle.mc_asked.specs.Answers.{AnswersValue, class_of}
+use Rattle.mc_asked.specs.ListWants.{Want, wants_in}
+
+abbrev pub is_asked_class : WantClass → Bool
+is_asked_class Answered = false
+is_asked_class OnLan = false
+is_asked_class Ignored = false
+is_asked_class Service = false
+is_asked_class Asked = true
+
+abbrev pub is_service_class : WantClass → Bool
+is_service_class Answered = false
+is_service_class OnLan = false
+is_service_class Ignored = false
+is_service_class Service = true
+is_service_class Asked = false
+
+-- the wants that nothing answers, and that are neither left aside nor a service's
+abbrev pub asked_wants : AnswersValue → (lan : ℕ) → List Record → List Want
+asked_wants a lan records = filter (λ want. is_asked_class (class_of a lan records want)) (wants_in records)
+
+-- the group of each want that is a service's
+abbrev pub service_groups : AnswersValue → (lan : ℕ) → List Record → List ℕ
+service_groups a lan records =
+    map (λ want. want.0) (filter (λ want. is_service_class (class_of a lan records want)) (wants_in records))
+
+-- the wants that nothing answers, all or the 20 lowest, how many there are, and the groups of services
+pub record LanWantsValue : Type 0 where
+  pub lowest : List Want
+  pub count : ℕ
+  pub services : List ℕ
+
+abbrev pub kept_wants : (all : Bool) → (asked : List Want) → (groups : List ℕ) → LanWantsValue
+kept_wants all asked groups = record {
+  lowest = shown_pairs all asked;
+  count = length asked;
+  services = dedup nat_eq groups;
+}
+
+abbrev pub lan_wants : (all : Bool) → AnswersValue → (lan : ℕ) → List Record → LanWantsValue
+lan_wants all a lan records =
+    kept_wants all (asked_wants a lan records) (service_groups a lan records)

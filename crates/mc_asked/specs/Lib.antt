@@ -1,0 +1,16 @@
+pub mod ListWants
+pub mod Unadmitted
+pub mod Services
+pub mod Answers
+pub mod LanWants
+pub mod Indexes
+pub mod AskedLines
+pub mod PairParts
+pub mod Forwarding
+pub use Rattle.mc_text.specs.Addr
+pub use Rattle.mc_text.specs.GroupRange
+pub use Rattle.mc_text.specs.Pair
+pub use Rattle.mc_igmp.specs.Wants
+pub use Rattle.mc_filter.specs.FilterBuilding
+pub use Rattle.mc_filter.specs.Merged
+pub use Rattle.mc_tables.specs.Summary

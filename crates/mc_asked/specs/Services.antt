@@ -1,0 +1,23 @@
+-- Groups that hosts ask for by themselves, by the names of their services (IANA, IPv4 Multicast Address
+-- Space Registry).
+use Rattle.std.specs.Prelude.{ℕ, ◌+◌, ◌*◌, ◌==◌, List, [], ◌∷◌, Option, option_map, codes, find}
+
+-- the address with four octets
+abbrev address : ℕ → ℕ → ℕ → ℕ → ℕ
+address a b c d = ((a * 256 + b) * 256 + c) * 256 + d
+
+-- the groups and their names, by group
+abbrev pub services : List (ℕ × List ℕ)
+services =
+    (address 224 0 1 1, codes "NTP") ∷ (address 224 0 1 22, codes "SLP")
+    ∷ (address 224 0 1 24, codes "WINS") ∷ (address 224 0 1 35, codes "SLP")
+    ∷ (address 224 0 1 39, codes "Auto-RP") ∷ (address 224 0 1 40, codes "Auto-RP")
+    ∷ (address 224 0 1 60, codes "HP") ∷ (address 224 0 1 75, codes "SIP")
+    ∷ (address 224 0 1 187, codes "CoAP") ∷ (address 224 0 23 12, codes "KNX")
+    ∷ (address 224 2 127 254, codes "SAP") ∷ (address 239 195 255 255, codes "SAP")
+    ∷ (address 239 255 255 250, codes "SSDP") ∷ (address 239 255 255 253, codes "SLP")
+    ∷ (address 239 255 255 255, codes "SAP") ∷ []
+
+-- the name of the service of a group
+abbrev pub service_name : ℕ → Option (List ℕ)
+service_name group = option_map (λ s. s.1) (find (λ s. s.0 == group) services)

@@ -1,0 +1,196 @@
+//! The wants of a LAN's list, reduced to what is said of them.
+
+ghost use Rattle.std.specs.Prelude.{◌≡◌, ◌∷◌, ◌++◌, [], List, IfOk, OnOk, length, nat_eq};
+ghost use Rattle.mc_igmp.specs.declared.record.Record.{Record};
+ghost use Rattle.mc_asked.specs.Indexes.{AreFlowsWanted, IsClassified, IsIndexOfWantedGroups};
+ghost use Rattle.mc_tables.specs.Summary.{shown_pairs};
+ghost use Rattle.std.specs.Prelude.{if◌then◌else◌};
+ghost use Rattle.std.specs.List.{dedup};
+ghost use Rattle.mc_asked.specs.LanWants.{is_asked_class, is_service_class, kept_wants, lan_wants};
+
+use crate::answers::WantAnswers;
+use crate::want_class::WantClass;
+use crate::wants::{group_number, wants_in};
+use mc_igmp::ReportList;
+use mc_text::{Addr, Index, Memory};
+use mc_topology::LanNo;
+use std::alloc::{AllocError, Global};
+use std::marker::Model;
+
+/// The greatest number of wants that are kept, unless all are.
+const MAX_WANTS: usize = 20;
+
+/// What is kept of the wants of a LAN's list. Its value in contracts is the record of its fields.
+#[derive(Debug, Drop)]
+pub struct LanWants {
+    /// The group and the source of each want that nothing answers, ascending: all, or the 20 lowest.
+    lowest: Vec<(Addr, Addr)>,
+    /// How many such wants there are.
+    count: u64,
+    /// The groups of the wants that are a service's, ascending.
+    services: Vec<Addr>,
+}
+
+impl Model for LanWants {
+    ghost use Rattle.mc_asked.specs.LanWants.{LanWantsValue};
+
+    ghost Value = { LanWantsValue };
+
+    ghost view = { λ s. record {
+      lowest = s.lowest.items;
+      count = s.count;
+      services = s.services.items;
+    } };
+}
+
+impl LanWants {
+    /// The wants that nothing answers, all or the 20 lowest, each a group and a source, which is 0.0.0.0
+    /// for any.
+    pub fn lowest(&self) -> &[(Addr, Addr)]
+        ensures { result.now ≡ self.now.lowest }
+    {
+        &self.lowest
+    }
+
+    /// How many wants nothing answers.
+    pub fn count(&self) -> u64
+        ensures { result ≡ self.now.count }
+    {
+        self.count
+    }
+
+    /// The groups of the wants that are a service's.
+    pub fn services(&self) -> &[Addr]
+        ensures { result.now ≡ self.now.services }
+    {
+        &self.services
+    }
+}
+
+/// The groups of the flows, each a source and a group, that are wanted.
+fn index_of_wanted_groups(
+    alloc: Global,
+    flows: &[(Addr, Addr)],
+    wanted: &[bool],
+) -> Result<Index, Memory>
+    requires { length wanted.now ≡ length flows.now }
+    ensures { IfOk result (λ index. (records : List Record) →
+        AreFlowsWanted flows.now records wanted.now → IsIndexOfWantedGroups flows.now records index) }
+{
+    let mut numbers = Vec::new(alloc);
+    for flow in 0..flows.len() {
+        if wanted[flow] {
+            numbers.push(group_number(flows[flow].1))?;
+        }
+    }
+    Index::of(alloc, numbers)
+}
+
+/// Wants by their classes.
+#[derive(Debug, Drop)]
+struct ClassifiedWants {
+    /// Those that nothing answers.
+    asked: Vec<(Addr, Addr)>,
+    /// The group of each that is a service's.
+    services: Vec<Addr>,
+}
+
+/// These wants of a LAN's list by their classes.
+fn classify(
+    alloc: Global,
+    answers: &WantAnswers,
+    lan: LanNo,
+    wanted_groups: &Index,
+    wants: &[(Addr, Addr)],
+) -> Result<ClassifiedWants, AllocError>
+    ensures { IfOk result (λ classified. (records : List Record) →
+        IsIndexOfWantedGroups answers.now.flows records wanted_groups.now →
+        IsClassified answers.now lan records wants.now classified) }
+{
+    let mut classified = ClassifiedWants {
+        asked: Vec::new(alloc),
+        services: Vec::new(alloc),
+    };
+    for want in wants {
+        let class = answers.class_of(lan, wanted_groups, want);
+        classified.add(class, want)?;
+    }
+    Ok(classified)
+}
+
+/// All of the wants, or the first. Nothing is kept of the others.
+pub(crate) fn shown_wants(mut wants: Vec<(Addr, Addr)>, all: bool) -> Vec<(Addr, Addr)>
+    ensures { result.items ≡ shown_pairs all wants.items }
+{
+    if all {
+        return wants;
+    }
+    wants.truncate(MAX_WANTS);
+    wants.shrink_to_fit();
+    wants
+}
+
+/// Groups without those that repeat the one before.
+fn without_repeats(mut groups: Vec<Addr>) -> Vec<Addr>
+    ensures { result.items ≡ dedup nat_eq groups.items }
+{
+    groups.dedup();
+    groups.shrink_to_fit();
+    groups
+}
+
+impl ClassifiedWants {
+    /// Adds a want of this class.
+    fn add(&mut self, class: WantClass, want: &(Addr, Addr)) -> Result<(), AllocError>
+        ensures asked { OnOk result (self.new.asked.items
+            ≡ self.old.asked.items ++ (if is_asked_class class then want.now ∷ [] else [])) }
+        ensures services { OnOk result (self.new.services.items
+            ≡ self.old.services.items ++ (if is_service_class class then want.now.0 ∷ [] else [])) }
+    {
+        match class {
+            WantClass::Asked => self.asked.push(*want)?,
+            WantClass::Service => self.services.push(want.0)?,
+            WantClass::Answered | WantClass::OnLan | WantClass::Ignored => {}
+        }
+        Ok(())
+    }
+
+    /// What is kept of them: all, or the first.
+    fn into_kept(self, all: bool) -> LanWants
+        ensures { result ≡ kept_wants all self.asked.items self.services.items }
+    {
+        let ClassifiedWants { asked, services } = self;
+        let count = asked.len() as u64;
+        LanWants {
+            lowest: shown_wants(asked, all),
+            count,
+            services: without_repeats(services),
+        }
+    }
+}
+
+impl WantAnswers {
+    /// What is kept of the wants of a LAN's list, all or the lowest. `wanted` says of each flow whether
+    /// the list wants it. The time is in proportion to n log n for n records and sources.
+    ///
+    /// # Errors
+    ///
+    /// `Memory` if an allocation is refused.
+    pub fn lan_wants(
+        &self,
+        alloc: Global,
+        lan: LanNo,
+        list: &ReportList,
+        wanted: &[bool],
+        all: bool,
+    ) -> Result<LanWants, Memory>
+        requires count { length wanted.now ≡ length self.now.flows }
+        requires each { AreFlowsWanted self.now.flows list.now wanted.now }
+        ensures { IfOk result (λ kept. kept ≡ lan_wants all self.now lan list.now) }
+    {
+        let wanted_groups = index_of_wanted_groups(alloc, self.flows(), wanted)?;
+        let wants = wants_in(alloc, list)?;
+        let classified = classify(alloc, self, lan, &wanted_groups, &wants)?;
+        Ok(classified.into_kept(all))
+    }
+}

@@ -1,0 +1,43 @@
+//! Laws of what hosts ask for.
+
+ghost use Rattle.std.specs.Prelude.{◌≡◌, ◌↔◌, ℕ, Bool, List, Contains, true, sum_by};
+ghost use Rattle.mc_igmp.specs.declared.record.Record.{Record};
+ghost use Rattle.mc_text.specs.Addr.{is_forwarded_group, is_source};
+ghost use Rattle.mc_filter.specs.Merged.{IsMergedValue};
+ghost use Rattle.mc_filter.specs.SourceFilter.{SourceFilter};
+ghost use Rattle.mc_filter.specs.declared.filter.Mode.TheVariants.{Exclude, Include};
+ghost use Rattle.mc_theory.specs.Lists.{In};
+ghost use Rattle.mc_asked.specs.Answers.{AnswersValue, class_of};
+ghost use Rattle.mc_asked.specs.AskedLines.{asked_from, asked_lines, count_others, further_wants};
+ghost use Rattle.mc_asked.specs.AskedLines.{lan_wants_from};
+ghost use Rattle.mc_asked.specs.LanWants.{lan_wants};
+ghost use Rattle.mc_asked.specs.ListWants.{Want, any_source, wants_in};
+ghost use Rattle.mc_asked.specs.declared.want_class.WantClass.TheVariants.{Service};
+ghost use Rattle.mc_asked.specs.PairParts.{shared_pairs, shown_of_parts};
+
+/// A list asks for a group of any source where its merged filter is EXCLUDE, and else of each source that
+/// the filter lists and from which a host may send (RFC 3376, section 3.2).
+pub fn wants_are_those_of_merged_filters()
+    ensures any { (records : List Record) (group : ℕ) (filter : SourceFilter) →
+        IsMergedValue records group filter → is_forwarded_group group ≡ true →
+        In (group, any_source) (wants_in records) ↔ (filter.mode ≡ Exclude) }
+    ensures single { (records : List Record) (group : ℕ) (source : ℕ) (filter : SourceFilter) →
+        IsMergedValue records group filter → is_forwarded_group group ≡ true → is_source source ≡ true →
+        In (group, source) (wants_in records)
+        ↔ ((filter.mode ≡ Include) × Contains filter.sources source) }
+{}
+
+/// Each want of a LAN's list is of one class, the first that holds. Where it is a service's, its group is
+/// among those that are kept. Where nothing answers it, it is in a line or counted: the lines are those of
+/// all such wants, or of the 20 lowest of all, each with all LANs whose want it is, though of each list only
+/// the lowest are kept, and the count has one for each LAN and each want of its list that is in no line.
+pub fn each_unanswered_want_is_shown_or_counted()
+    ensures services { (all : Bool) (a : AnswersValue) (lan : ℕ) (records : List Record) (want : Want) →
+        In want (wants_in records) → class_of a lan records want ≡ Service →
+        In want.0 (lan_wants all a lan records).services }
+    ensures lines { (all : Bool) (a : AnswersValue) (lists : List (List Record)) →
+        asked_lines all (lan_wants_from all a 0 lists) ≡ shared_pairs all (asked_from a 0 lists) }
+    ensures further { (all : Bool) (a : AnswersValue) (lists : List (List Record)) →
+        further_wants all (lan_wants_from all a 0 lists)
+        ≡ sum_by (count_others (shown_of_parts all (asked_from a 0 lists))) (asked_from a 0 lists) }
+{}

@@ -1,0 +1,24 @@
+//! What hosts ask for and no flow answers: the wants of each LAN's list of reports, which of them a listed
+//! flow or the LAN itself answers, which are left aside or a service's, and what a router has for the
+//! others. Nothing here decides a verdict.
+#![tactic(auto)]
+
+mod answers;
+mod asked_lines;
+mod forwarding;
+mod lan_wants;
+pub mod laws;
+mod services;
+mod unadmitted;
+mod shared_pairs;
+mod want_class;
+mod wants;
+
+pub use answers::WantAnswers;
+pub use asked_lines::{AskedLines, count_wants, service_lines};
+pub use forwarding::{RouterState, state_with_row};
+pub use lan_wants::LanWants;
+pub use services::service_name;
+pub use unadmitted::{retain_unadmitted, unadmitted_in};
+pub use shared_pairs::SharedPair;
+pub use want_class::WantClass;

@@ -1,0 +1,105 @@
+//! What a list of reports asks for.
+
+ghost use Rattle.std.specs.Prelude.{◌≡◌, ◌↔◌, ◌++◌, Contains, IfOk, IsTrue, OnOk, flat_map};
+ghost use Rattle.mc_filter.specs.SourceFilter.{has};
+ghost use Rattle.mc_filter.specs.FilterBuilding.{is_exclude};
+ghost use Rattle.mc_asked.specs.Indexes.{IsIndexOfExcludes, is_of_merged_filter_by};
+ghost use Rattle.mc_asked.specs.ListWants.{asked_by, included_in, wants_in};
+
+use mc_igmp::{Kind, Record, ReportList};
+use mc_tables::sorted_without_repeats;
+use mc_text::{Addr, Index, Memory};
+use std::alloc::{AllocError, Global};
+
+/// The number of a group in an index.
+pub(crate) fn group_number(group: Addr) -> u64
+    ensures { result ≡ group }
+{
+    u64::from(group.to_bits())
+}
+
+/// Whether the index has the number.
+pub(crate) fn has_number(index: &Index, number: u64) -> bool
+    ensures means { IsTrue result ↔ Contains index.now number }
+    ensures value { result ≡ has index.now number }
+{
+    index.place_of(number).is_some()
+}
+
+fn is_exclude(kind: Kind) -> bool
+    ensures { result ≡ is_exclude kind }
+{
+    matches!(kind, Kind::Exclude)
+}
+
+/// The groups for which the list has an EXCLUDE record.
+fn excluded_groups(alloc: Global, list: &ReportList) -> Result<Index, Memory>
+    ensures { IfOk result (IsIndexOfExcludes list.now) }
+{
+    let mut numbers = Vec::new(alloc);
+    for group_record in list.records() {
+        if is_exclude(group_record.kind) {
+            numbers.push(group_number(group_record.group))?;
+        }
+    }
+    Index::of(alloc, numbers)
+}
+
+/// Adds what an INCLUDE record with these sources asks for.
+fn add_included(wants: &mut Vec<(Addr, Addr)>, group_record: &Record<'_>) -> Result<(), AllocError>
+    ensures { OnOk result (wants.new.items ≡
+        wants.old.items ++ included_in group_record.now.group group_record.now.sources) }
+{
+    for source in group_record.sources.iter() {
+        if source.is_source() {
+            wants.push((group_record.group, source))?;
+        }
+    }
+    Ok(())
+}
+
+/// Adds what a record asks for.
+fn add_asked(wants: &mut Vec<(Addr, Addr)>, group_record: &Record<'_>) -> Result<(), AllocError>
+    ensures { OnOk result (wants.new.items ≡ wants.old.items ++ asked_by group_record.now) }
+{
+    match group_record.kind {
+        Kind::Exclude => {
+            let any_source = Addr::from_octets([0, 0, 0, 0]);
+            wants.push((group_record.group, any_source))?;
+            Ok(())
+        }
+        Kind::Include => add_included(wants, group_record),
+        Kind::Change(_) | Kind::Unknown(_) => Ok(()),
+    }
+}
+
+/// What the records of a list ask for, one by one.
+fn asked_in(alloc: Global, list: &ReportList) -> Result<Vec<(Addr, Addr)>, AllocError>
+    ensures { IfOk result (λ wants. wants.items ≡ flat_map asked_by list.now) }
+{
+    let mut wants = Vec::new(alloc);
+    for group_record in list.records() {
+        add_asked(&mut wants, &group_record)?;
+    }
+    Ok(wants)
+}
+
+/// Whether the merged filter of the want's group asks for it, by the groups that have an EXCLUDE record.
+fn is_of_merged_filter(excluded: &Index, want: &(Addr, Addr)) -> bool
+    ensures { result ≡ is_of_merged_filter_by excluded.now want.now }
+{
+    let (group, source) = *want;
+    group.is_forwarded_group()
+        && (source.is_unspecified() || !has_number(excluded, group_number(group)))
+}
+
+/// The wants of a list, by group and then by source, each once. The time is in proportion to n log n for
+/// n records and sources.
+pub(crate) fn wants_in(alloc: Global, list: &ReportList) -> Result<Vec<(Addr, Addr)>, Memory>
+    ensures { IfOk result (λ wants. wants.items ≡ wants_in list.now) }
+{
+    let excluded = excluded_groups(alloc, list)?;
+    let mut wants = sorted_without_repeats(asked_in(alloc, list)?);
+    wants.retain(|want| is_of_merged_filter(&excluded, want));
+    Ok(wants)
+}

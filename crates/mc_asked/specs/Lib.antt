@@ -1,5 +1,4 @@
 pub mod ListWants
-pub mod Unadmitted
 pub mod Services
 pub mod Answers
 pub mod LanWants

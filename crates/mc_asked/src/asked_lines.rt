@@ -112,7 +112,7 @@ impl AskedLines {
 fn service_pairs(alloc: Global, own: &LanWants) -> Result<Vec<(Addr, Addr)>, Memory>
     ensures { IfOk result (λ pairs. pairs.items ≡ service_pairs own.now) }
 {
-    let any_source = Addr::from_octets([0, 0, 0, 0]);
+    let any_source = Addr::unspecified();
     let mut pairs = Vec::with_capacity(alloc, own.services().len())?;
     for group in own.services() {
         pairs.push((*group, any_source))?;

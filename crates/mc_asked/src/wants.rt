@@ -64,7 +64,7 @@ fn add_asked(wants: &mut Vec<(Addr, Addr)>, group_record: &Record<'_>) -> Result
 {
     match group_record.kind {
         Kind::Exclude => {
-            let any_source = Addr::from_octets([0, 0, 0, 0]);
+            let any_source = Addr::unspecified();
             wants.push((group_record.group, any_source))?;
             Ok(())
         }

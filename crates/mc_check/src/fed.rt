@@ -1,6 +1,7 @@
 //! Checks that each entry's forwarder sends onto its LAN.
 
 ghost use Rattle.std.specs.Prelude.{◌≡◌, Some};
+ghost use Rattle.mc_theory.specs.Certificates.{is_live};
 ghost use Rattle.mc_theory.specs.Reasons.{feeds_from, first_of, is_fed, row_feeds, unless};
 ghost use Rattle.mc_theory.specs.Reasons.Reason.{Unfed};
 ghost use Rattle.mc_tables.specs.CacheTable.{IsValidEntry};
@@ -12,8 +13,15 @@ use crate::entries_by_lan::EntriesByLan;
 use crate::verdict::Reason;
 use mc_cert::Reached;
 use mc_forward::{FlowView, RowFor, outgoing_from};
-use mc_tables::Entry;
+use mc_tables::{Entry, Oif};
 use mc_topology::RouterNo;
+
+/// Whether a packet sent with TTL 255 is above an oif's threshold where it reached `base`'s LAN.
+pub(crate) fn is_live(base: &Reached, oif: &Oif) -> bool
+    ensures { result ≡ is_live base.now.rank oif.now.threshold }
+{
+    u16::from(base.rank) + u16::from(oif.threshold) < 255
+}
 
 /// Whether a table entry forwards copies from `base`'s LAN out of a vif.
 fn feeds(base: &Reached, vif: u8, entry: &Entry<'_>) -> bool
@@ -21,7 +29,7 @@ fn feeds(base: &Reached, vif: u8, entry: &Entry<'_>) -> bool
     ensures value { result ≡ feeds_from vif (oif_pairs entry.now.oifs) (Some base.now) }
 {
     for oif in outgoing_from(entry, vif) {
-        if oif.vif == vif && u16::from(base.rank) + u16::from(oif.threshold) < 255 {
+        if oif.vif == vif && is_live(base, oif) {
             return true;
         }
     }

@@ -9,6 +9,7 @@ ghost use Rattle.mc_forward.specs.FlightsInDomain.{net_in};
 ghost use Rattle.mc_check.specs.Reasons.{optional_reason_value};
 
 use crate::entries_by_lan::EntriesByLan;
+use crate::fed::is_live;
 use crate::verdict::Reason;
 use mc_cert::Reached;
 use mc_forward::{FlowView, RowFor};
@@ -59,7 +60,7 @@ fn pair_reason(
     ensures { optional_reason_value result ≡ pair_reason (net_in view.now) by_lan.now base.now router
         (oif.now.vif, oif.now.threshold) }
 {
-    if u16::from(base.rank) + u16::from(oif.threshold) >= 255 {
+    if !is_live(base, oif) {
         return None;
     }
     match view.placed(router, oif.vif) {

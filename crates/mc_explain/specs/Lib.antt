@@ -15,7 +15,6 @@ pub mod SearchNames
 pub mod ShownNames
 pub mod ExpectingRouters
 pub mod ShownLines
-pub mod AskedText
 pub mod UnlistedText
 pub mod UnlistedLines
 pub mod UnlistedPairs

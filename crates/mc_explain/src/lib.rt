@@ -10,7 +10,7 @@ mod unlisted;
 mod wanted;
 
 pub use causes::{Cause, Certainty, Explanation, explain, shown_from};
-pub use excluded::{list_excluded_routers, push_excluded, push_excluded_lines};
+pub use excluded::{list_excluded_routers, push_verdict_reason, push_excluded_routers};
 pub use searches::{
     ExpectingRouters, InterfacesOfLans, LanSearch, Reach, SearchLine, ShownLine, ShownLines,
     search, vif_of_device,

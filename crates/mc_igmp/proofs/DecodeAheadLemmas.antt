@@ -14,8 +14,8 @@ use Rattle.mc_text.specs.DigitPairs.{bytes_of_pairs}
 use Rattle.mc_igmp.specs.ListSoFar.{IsDecodedAhead}
 
 -- a hexadecimal digit is no line feed
-hex_digit-no_line_feed : (b : ℕ) → is_hex_digit b ≡ true → eqb b 10 ≡ false
-hex_digit-no_line_feed b digit = elim (eqb b 10) as (λ (t : Bool). eqb b 10 ≡ t → t ≡ false) [
+hex_value_or_16-no_line_feed : (b : ℕ) → is_hex_digit b ≡ true → eqb b 10 ≡ false
+hex_value_or_16-no_line_feed b digit = elim (eqb b 10) as (λ (t : Bool). eqb b 10 ≡ t → t ≡ false) [
   | true ↦ λ is. absurd (let feed = eqb-true b 10 is in
       cc (sym digit, ap is_hex_digit feed))
   | false ↦ λ _. refl
@@ -26,7 +26,7 @@ get_or-no_line_feed : (k : ℕ) (text : List ℕ) → list_all is_hex_digit (tak
     → (j : ℕ) → j < k → j < length text → eqb (get_or text j 0) 10 ≡ false
 get_or-no_line_feed k text digits j less within =
     let passes = AllPass-from_list_all is_hex_digit (take k text) digits in
-    hex_digit-no_line_feed (get_or text j 0) (ap is_hex_digit (sym (get_or-take k text j 0 less))
+    hex_value_or_16-no_line_feed (get_or text j 0) (ap is_hex_digit (sym (get_or-take k text j 0 less))
     ∙ passes j 0 (omega (arith, length-take k text)))
 
 -- a line feed with none before it is the first

@@ -5,7 +5,7 @@ ghost use Rattle.std.specs.Prelude.{take, true, false, Ok};
 ghost use Rattle.hex.specs.Hex.{decode_of};
 ghost use Rattle.mc_text.specs.DigitPairs.{AreDecoded};
 
-use mc_text::{are_hex_digits, bytes_of_hex_digits, hex_digit};
+use mc_text::{are_hex_digits, bytes_of_hex_digits, hex_value_or_16};
 use std::simd::prelude::*;
 
 /// The number of bytes that are decoded at a time, from twice as many digits.
@@ -44,8 +44,8 @@ fn decode_by_table(digits: &[u8], bytes: &mut [u8]) -> bool
 {
     let mut values = 0u8;
     for i in 0..bytes.len() {
-        let high = hex_digit(digits[2 * i]);
-        let low = hex_digit(digits[2 * i + 1]);
+        let high = hex_value_or_16(digits[2 * i]);
+        let low = hex_value_or_16(digits[2 * i + 1]);
         values |= high | low;
         bytes[i] = byte_of(high, low);
     }

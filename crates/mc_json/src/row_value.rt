@@ -25,7 +25,7 @@ use std::alloc::{AllocError, Global};
 fn address_text(alloc: Global, address: Addr) -> Result<String, AllocError>
     ensures { IfOk result (λ text. string_bytes text ≡ address_text address) }
 {
-    if address == Addr::from_octets([0, 0, 0, 0]) {
+    if address.is_unspecified() {
         String::from_str(alloc, "*")
     } else {
         format!(in alloc; "{address}")
@@ -152,7 +152,7 @@ pub(crate) fn every_source_value(
             let (every, entry) = row;
             let key = RowKey {
                 router,
-                source: Addr::from_octets([0, 0, 0, 0]),
+                source: Addr::unspecified(),
                 group: every,
             };
             entry_value(alloc, view, key, entry.iif, entry.oifs)

@@ -75,6 +75,10 @@ first_word-with_tens line long printed other few =
       found.2 ∙ ap (λ (v : ℕ). Ok (v, get_or line 4 0 - 48)) vif,
     )
 
+-- the bytes behind a printed outgoing vif
+pub bytes_behind_oif : (line : List ℕ) → take (length line - 7) (drop 7 line) ≡ drop 7 line
+bytes_behind_oif line = take_rest line 7
+
 -- what is printed is read
 pub first_word-printed_oif : (line : List ℕ) → 7 ≤ length line → StartsWithPrintedOif line
     → printed_vif (get_or line 1 0) (get_or line 2 0) ≤ 31

@@ -24,5 +24,5 @@ pub use memory::Memory;
 pub use pair::{pair_number, pair_numbers};
 pub use text::{
     Addr, GroupRange, Line, Lines, MAX_TEXT, Order, Words, are_hex_digits, bytes_of_hex_digits,
-    decimal, find_byte, hex_digit, is_device_name,
+    decimal, find_byte, hex_value_or_16, is_device_name,
 };

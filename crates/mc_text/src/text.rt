@@ -12,7 +12,7 @@ mod number;
 mod words;
 
 pub use addr::{Addr, Order};
-pub use address_digits::hex_digit;
+pub use address_digits::hex_value_or_16;
 pub use byte_search::find_byte;
 pub use device_name::is_device_name;
 pub use digit_lanes::{are_hex_digits, bytes_of_hex_digits};

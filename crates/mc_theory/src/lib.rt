@@ -53,5 +53,5 @@ pub use travel_laws::{
     a_clean_travel_makes_a_tree, a_travel_ends, clean_travels_certify,
     each_copy_was_sent_on_from_an_earlier_one, event_counts_what_its_step_did,
     finding_is_what_the_flight_shows, needs_decide_the_second_travel,
-    non_clean_finding_is_not_right, the_walk_back_ends, travel_so_far_is_bounded,
+    non_clean_finding_means_a_wrong_flow, the_walk_back_ends, travel_so_far_is_bounded,
 };

@@ -14,7 +14,7 @@ ghost use Rattle.mc_theory.specs.CopyOrigins.{AreInSendingOrder};
 
 /// A travel at a TTL from the flow's to 255 that finds something else than `Clean` shows that the
 /// flow isn't right.
-pub fn non_clean_finding_is_not_right()
+pub fn non_clean_finding_means_a_wrong_flow()
     ensures { (n : Net) (count t : ℕ) (x : Finding) → IsNet n → WantsBelow n count →
         n.ttl ≤ t → t ≤ 255 → x ≢ Clean → OnFinding n count t x (λ f. ¬ IsRight n) }
 {}

@@ -13,7 +13,7 @@ use mc_topology::{RouterNo, Topology};
 /// # Errors
 ///
 /// `Memory` if an allocation fails.
-pub fn push_excluded_lines(
+pub fn push_excluded_routers(
     text: &mut String,
     topology: &Topology,
     routers: &[RouterNo],
@@ -34,7 +34,7 @@ pub fn push_excluded_lines(
 /// # Errors
 ///
 /// `Memory` if an allocation fails.
-pub fn push_excluded(
+pub fn push_verdict_reason(
     text: &mut String,
     topology: &Topology,
     routers: &[RouterNo],

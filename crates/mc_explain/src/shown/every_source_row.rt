@@ -40,7 +40,7 @@ impl<'v> fmt::Display for ShownEverySource<'v> {
                 let row = ShownEntry {
                     view,
                     router,
-                    source: Addr::from_octets([0, 0, 0, 0]),
+                    source: Addr::unspecified(),
                     group,
                     incoming: entry.iif,
                     oifs: entry.oifs,

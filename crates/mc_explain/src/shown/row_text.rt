@@ -80,7 +80,7 @@ impl fmt::Display for ShownAddress {
 
     fn fmt<W: fmt::Write>(&self, f: &mut fmt::Formatter<W>) -> fmt::Result {
         let address = self.address;
-        if address == Addr::from_octets([0, 0, 0, 0]) {
+        if address.is_unspecified() {
             f.write_str("*")
         } else {
             write!(f, "{address}")

@@ -75,7 +75,7 @@ pub fn finding_shows_that_a_flow_is_wrong()
         OnFlowFinding d flow t x (λ f. ¬ IsRight (net_of d flow)) }
 {
     domains_are_nets();
-    mc_theory::non_clean_finding_is_not_right();
+    mc_theory::non_clean_finding_means_a_wrong_flow();
 }
 
 /// A travel has at most as many events as there are placed interfaces.

@@ -14,7 +14,7 @@ use crate::shown::verdict_text::push_overall_verdict;
 use mc_cli::{
     AuditOptions, FAULTS_WORD, JSON_WORD, STRICT_WORD, TRAVEL_WORD, UNLISTED_WORD, WITHOUT_WORD,
 };
-use mc_explain::{list_excluded_routers, push_excluded, push_excluded_lines, push_unlisted};
+use mc_explain::{list_excluded_routers, push_verdict_reason, push_excluded_routers, push_unlisted};
 use mc_forward::Domain;
 use mc_json::{
     push_domain_line, push_summary_line, push_unlisted_lines, push_verdict_line, push_without_line,
@@ -163,9 +163,9 @@ fn push_end_text(
     let topology = audited.domain.topology();
     let routers = list_excluded_routers(alloc, topology, audited.excluded)?;
     push_unlisted(alloc, text, topology, audited.summary, options.unlisted)?;
-    push_excluded_lines(text, topology, &routers)?;
+    push_excluded_routers(text, topology, &routers)?;
     push_summary(text, topology.flows(), flow_counts)?;
-    push_excluded(text, topology, &routers)?;
+    push_verdict_reason(text, topology, &routers)?;
     push_strict(text, options.strict, all, flow_counts.unwanted)
 }
 

@@ -71,7 +71,7 @@ impl CacheRowReader {
         ensures { result ≡ rows_start order (listed_set (Some listed)) }
     {
         // Overwritten by the first row.
-        let none = Addr::from_octets([0, 0, 0, 0]);
+        let none = Addr::unspecified();
         let row = CacheRow {
             group: none,
             origin: none,

@@ -234,7 +234,7 @@ impl CacheRows {
         ensures value { result ≡
             (set.contains self.now.table.wildcards group || set.contains self.now.table.wildcards 0) }
     {
-        self.has_group(group) || self.has_group(Addr::from_octets([0, 0, 0, 0]))
+        self.has_group(group) || self.has_group(Addr::unspecified())
     }
 
     fn has_group(&self, group: Addr) -> bool

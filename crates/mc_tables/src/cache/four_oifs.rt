@@ -1,7 +1,7 @@
-//! Reads outgoing vifs as kernels print them, four at a time: each takes seven bytes, if its
+//! Reads outgoing vifs as kernels print them, four at a time or one: each takes seven bytes, if its
 //! threshold has one digit.
 
-ghost use Rattle.std.specs.Prelude.{◌≡◌, ℕ, List, ◌∷◌, ◌+◌, ◌≤◌, IfNone, IfOk, IfSome, Ok};
+ghost use Rattle.std.specs.Prelude.{◌≡◌, ℕ, List, ◌∷◌, ◌+◌, ◌<◌, ◌≤◌, IfNone, IfOk, IfSome, Ok};
 ghost use Rattle.std.specs.Prelude.{drop, length, true};
 ghost use Rattle.mc_text.specs.Lines.{words_of};
 ghost use Rattle.mc_tables.specs.CacheReading.{oif_in};
@@ -55,6 +55,37 @@ fn printed_oif(line: &[u8], at: usize) -> Oif
     let vif = line[at + 1] % 16 * 10 + (line[at + 2] - b'0');
     let threshold = line[at + 4] - b'0';
     Oif { vif, threshold }
+}
+
+/// Whether a line begins with a printed outgoing vif.
+#[inline(always)]
+fn starts_with_printed_oif(line: &[u8]) -> bool
+    requires long { 7 ≤ length line.now }
+    ensures value { result ≡ true → StartsWithPrintedOif line.now }
+{
+    let tens = line[1] == b' ' || (b'1'..=b'3').contains(&line[1]);
+    let vif = line[0] == b' ' && tens && line[2].is_ascii_digit() && line[3] == b':';
+    vif && (b'1'..=b'9').contains(&line[4]) && line[5] == b' ' && line[6] == b' '
+}
+
+/// The outgoing vif that a line begins with, if it is printed in seven bytes, and what follows it.
+#[inline(always)]
+#[tactic(auto, using(crate::proofs::FourOifLemmas::bytes_behind_oif))]
+pub fn printed_oif_at_front(line: &[u8]) -> Option<(Oif, &[u8])>
+    ensures word { IfSome result (λ found. (word : List ℕ)
+        × (words_of line.now ≡ word ∷ words_of found.1.now)
+        × (oif_in word ≡ Ok (found.0.vif, found.0.threshold))) }
+    ensures vif { IfSome result (λ found. found.0.vif ≤ MAX_VIF) }
+    ensures shorter { IfSome result (λ found. length found.1.now < length line.now) }
+{
+    if line.len() < 7 || !starts_with_printed_oif(line) {
+        return None;
+    }
+    let oif = printed_oif(line, 0);
+    if oif.vif > MAX_VIF {
+        return None;
+    }
+    Some((oif, &line[7..]))
 }
 
 /// Adds the four outgoing vifs that a line begins with, if they are printed so and ascend from `next`

@@ -1,7 +1,7 @@
 //! Reads a row as kernels print it in one pass. Any other line is read word by word, by
 //! `cache_line`.
 
-ghost use Rattle.std.specs.Prelude.{◌≡◌, ℕ, [], ◌∷◌, ◌++◌, ◌==◌, ◌&&◌, nat_le, not, List, IfOk};
+ghost use Rattle.std.specs.Prelude.{◌≡◌, ℕ, [], ◌∷◌, ◌++◌, ◌==◌, not, List, IfOk};
 ghost use Rattle.std.specs.Prelude.{IfSome, Ok, Some, take};
 ghost use Rattle.std.specs.Prelude.{drop, length, ◌<◌, ◌≤◌};
 ghost use Rattle.std.specs.Prelude.{position, true};
@@ -15,7 +15,7 @@ ghost use Rattle.mc_tables.specs.Counters.{HasCounters};
 
 use crate::cache::cache_row::CacheRow;
 use crate::cache::entry::Oif;
-use crate::cache::four_oifs::{FOUR_LEN, add_four_oifs};
+use crate::cache::four_oifs::{FOUR_LEN, add_four_oifs, printed_oif_at_front};
 use crate::cache::outgoing::MAX_THRESHOLD;
 use crate::lines::address_words::{addresses_at_front, after_addresses};
 use crate::lines::marked_line::MarkedLine;
@@ -62,15 +62,6 @@ fn digits_before(line: &[u8], stop: u8) -> Option<(&[u8], &[u8])>
     Some((&line[..end], &line[end + 1..]))
 }
 
-/// The decimal digits that are a line's first word, and what follows them.
-#[tactic(auto, using(crate::proofs::PlainRowLemmas::digits_are_first_word))]
-fn digits_at_front(line: &[u8]) -> Option<(&[u8], &[u8])>
-    ensures words { IfSome result (λ parts. words_of line.now ≡ parts.0.now ∷ words_of parts.1.now) }
-    ensures digits { IfSome result (λ parts. is_decimal_word parts.0.now ≡ true) }
-{
-    digits_before(without_spaces(line), b' ')
-}
-
 /// The incoming vif of one digit, printed in three bytes, that a line begins with, and what follows
 /// it.
 #[inline(always)]
@@ -105,7 +96,7 @@ fn two_digit_iif_at_front(line: &[u8]) -> Option<(u8, &[u8])>
     Some((iif, &line[3..]))
 }
 
-/// The incoming vif that is a line's first word, and what follows it.
+/// The incoming vif that a line begins with, printed in three bytes, and what follows it.
 fn iif_at_front(line: &[u8]) -> Option<(u8, &[u8])>
     ensures { IfSome result (λ found. (word : List ℕ)
         × (words_of line.now ≡ word ∷ words_of found.1.now) × (is_decimal_word word ≡ true)
@@ -114,12 +105,7 @@ fn iif_at_front(line: &[u8]) -> Option<(u8, &[u8])>
     if let Some(found) = one_digit_iif_at_front(line) {
         return Some(found);
     }
-    if let Some(found) = two_digit_iif_at_front(line) {
-        return Some(found);
-    }
-    let (iif, rest) = digits_at_front(line)?;
-    let iif = number(iif, 0, MAX_VIF)?;
-    Some((iif, rest))
+    two_digit_iif_at_front(line)
 }
 
 /// What follows the digits of the counter that a line begins with, its space first.
@@ -180,63 +166,7 @@ pub fn row_at_front(line: &[u8], order: Order) -> Option<(CacheRow, &[u8])>
     Some((row, rest))
 }
 
-/// Whether a byte is a decimal digit other than 0.
-#[inline(always)]
-fn is_from_1_to_9(byte: u8) -> bool
-    ensures { result ≡ (nat_le 49 byte && nat_le byte 57) }
-{
-    (b'1'..=b'9').contains(&byte)
-}
-
-/// The outgoing vif of one digit, with a threshold of one digit, that a line begins with, and what
-/// follows it.
-#[inline(always)]
-#[tactic(auto, using(crate::proofs::PlainRowLemmas::one_digit_oif_is_first_word))]
-fn one_digit_oif_at_front(line: &[u8]) -> Option<(Oif, &[u8])>
-    ensures word { IfSome result (λ found. (word : List ℕ)
-        × (words_of line.now ≡ word ∷ words_of found.1.now)
-        × (oif_in word ≡ Ok (found.0.vif, found.0.threshold))) }
-    ensures vif { IfSome result (λ found. found.0.vif ≤ 31) }
-    ensures shorter { IfSome result (λ found. length found.1.now < length line.now) }
-{
-    if line.len() < 7 || line[0] != b' ' || line[1] != b' ' || !line[2].is_ascii_digit() {
-        return None;
-    }
-    if line[3] != b':' || !is_from_1_to_9(line[4]) || line[5] != b' ' || line[6] != b' ' {
-        return None;
-    }
-    let vif = line[2] - b'0';
-    let threshold = line[4] - b'0';
-    Some((Oif { vif, threshold }, &line[7..]))
-}
-
-/// The outgoing vif of two digits, with a threshold of one digit, that a line begins with, and what
-/// follows it.
-#[inline(always)]
-#[tactic(auto, using(crate::proofs::PlainRowLemmas::two_digit_oif_is_first_word))]
-fn two_digit_oif_at_front(line: &[u8]) -> Option<(Oif, &[u8])>
-    ensures word { IfSome result (λ found. (word : List ℕ)
-        × (words_of line.now ≡ word ∷ words_of found.1.now)
-        × (oif_in word ≡ Ok (found.0.vif, found.0.threshold))) }
-    ensures vif { IfSome result (λ found. found.0.vif ≤ 31) }
-    ensures shorter { IfSome result (λ found. length found.1.now < length line.now) }
-{
-    if line.len() < 7 || line[0] != b' ' || !line[1].is_ascii_digit() || !line[2].is_ascii_digit() {
-        return None;
-    }
-    let vif = (line[1] - b'0') * 10 + (line[2] - b'0');
-    if vif > MAX_VIF || line[3] != b':' || !is_from_1_to_9(line[4]) {
-        return None;
-    }
-    if line[5] != b' ' || line[6] != b' ' {
-        return None;
-    }
-    let threshold = line[4] - b'0';
-    Some((Oif { vif, threshold }, &line[7..]))
-}
-
-/// The outgoing vif that a line begins with, and what follows it. Most have one or two digits, and a
-/// threshold of one digit.
+/// The outgoing vif that a line begins with, and what follows it. Most are printed in seven bytes.
 #[tactic(auto, using(crate::proofs::PlainRowLemmas::vif_in_range))]
 fn oif_at_front(line: &[u8]) -> Option<(Oif, &[u8])>
     ensures word { IfSome result (λ found. (word : List ℕ)
@@ -245,10 +175,7 @@ fn oif_at_front(line: &[u8]) -> Option<(Oif, &[u8])>
     ensures vif { IfSome result (λ found. found.0.vif ≤ 31) }
     ensures shorter { IfSome result (λ found. length found.1.now < length line.now) }
 {
-    if let Some(found) = one_digit_oif_at_front(line) {
-        return Some(found);
-    }
-    if let Some(found) = two_digit_oif_at_front(line) {
+    if let Some(found) = printed_oif_at_front(line) {
         return Some(found);
     }
     let (vif, rest) = digits_before(without_spaces(line), b':')?;

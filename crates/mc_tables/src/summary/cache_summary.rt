@@ -77,7 +77,7 @@ impl CacheSummary {
         if let Some(entry) = first_for_every_source(&self.first, group) {
             return Some((group, entry));
         }
-        let every_group = Addr::from_octets([0, 0, 0, 0]);
+        let every_group = Addr::unspecified();
         match first_for_every_source(&self.first, every_group) {
             Some(entry) => Some((every_group, entry)),
             None => None,
@@ -105,7 +105,7 @@ impl CacheSummary {
 fn first_for_every_source(first: &CacheRows, group: Addr) -> Option<Entry<'_>>
     ensures { result ≡ map.get first.now.table.entries (0, group) }
 {
-    let every_source = Addr::from_octets([0, 0, 0, 0]);
+    let every_source = Addr::unspecified();
     match first.number_with_hint(every_source, group, &mut 0) {
         Some(number) => Some(first.entry_at(number)),
         None => None,

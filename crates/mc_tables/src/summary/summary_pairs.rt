@@ -91,7 +91,7 @@ fn pairs_for_every_source(
 ) -> Result<Vec<(Addr, Addr)>, Memory>
     ensures { IfOk result (λ keys. keys.items ≡ keys_for_every_source pairs.now) }
 {
-    let unspecified = Addr::from_octets([0, 0, 0, 0]);
+    let unspecified = Addr::unspecified();
     let mut keys = Vec::with_capacity(alloc, pairs.len())?;
     keys.push((unspecified, unspecified))?;
     for pair in pairs {

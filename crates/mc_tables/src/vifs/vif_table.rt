@@ -74,13 +74,6 @@ impl VifTable {
         VifReader::new(alloc).read_whole(text)
     }
 
-    /// The table without a vif.
-    pub fn empty(alloc: Global) -> VifTable
-        ensures { result ≡ map.from_entries [] }
-    {
-        VifTable::from_rows(VifRows::new(alloc))
-    }
-
     /// The table of rows that were read.
     pub(crate) fn from_rows(rows: VifRows) -> VifTable
         requires valid { AreValidVifRows rows }

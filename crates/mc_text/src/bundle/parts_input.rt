@@ -19,6 +19,15 @@ use crate::bundle::part_name::PartName;
 use crate::bundle::stage::OpenPart;
 use crate::io::Input;
 
+/// The length of the first line, with its line feed.
+const MAGIC_LEN: usize = 17;
+
+/// A part's line has fewer bytes, without its line feed.
+const MAX_LINE: usize = 96;
+
+/// The length of the line `end`, with its line feed.
+const END_LEN: usize = 4;
+
 /// Reads until the buffer is full or the input ends, and returns how many bytes were read.
 pub(crate) fn fill_buffer<R: Input>(input: &mut R, buffer: &mut [u8]) -> Result<usize, BundleFault>
     requires failures { R.failed input.old < u64.MAX }
@@ -47,11 +56,11 @@ pub(crate) fn read_magic<R: Input>(input: &mut R) -> Result<(), BundleFault>
     requires failures { R.failed input.old < u64.MAX }
     ensures same { R.borrows input.new ≡ R.borrows input.old }
     ensures reads { ReadsAs (λ x. x) (R.remaining input.old) (R.remaining input.new) result magic_of }
-    ensures consumed { ConsumesUpTo 17 (R.remaining input.old) (R.remaining input.new) }
+    ensures consumed { ConsumesUpTo MAGIC_LEN (R.remaining input.old) (R.remaining input.new) }
     ensures faults { IfErr result IsInputFault }
     ensures failures { R.failed input.new ≡ failures_after is_read result (R.failed input.old) }
 {
-    let mut line = [0u8; 17];
+    let mut line = [0u8; MAGIC_LEN];
     let count = fill_buffer(input, &mut line)?;
     if &line[..count] != MAGIC {
         return Err(BundleFault::NoMagic);
@@ -80,20 +89,20 @@ fn next_byte<R: Input>(input: &mut R) -> Result<Option<u8>, BundleFault>
 }
 
 /// Reads a line without its line feed to the front of the buffer, and returns its length.
-fn read_line<R: Input>(input: &mut R, line: &mut [u8; 96]) -> Result<usize, BundleFault>
+fn read_line<R: Input>(input: &mut R, line: &mut [u8; MAX_LINE]) -> Result<usize, BundleFault>
     requires failures { R.failed input.old < u64.MAX }
     ensures same { R.borrows input.new ≡ R.borrows input.old }
-    ensures bound { IfOk result (λ n. n < 96) }
+    ensures bound { IfOk result (λ n. n < MAX_LINE) }
     ensures reads { ReadsAs (λ n. take n line.new) (R.remaining input.old) (R.remaining input.new) result
         line_of }
-    ensures consumed { ConsumesUpTo 96 (R.remaining input.old) (R.remaining input.new) }
+    ensures consumed { ConsumesUpTo MAX_LINE (R.remaining input.old) (R.remaining input.new) }
     ensures taken { IfOk result
         (λ n. ConsumesUpTo (n + 1) (R.remaining input.old) (R.remaining input.new)) }
     ensures faults { IfErr result IsInputFault }
     ensures failures { R.failed input.new ≡ failures_after is_read result (R.failed input.old) }
 {
     let mut count = 0;
-    'bytes: while count < 96 {
+    'bytes: while count < MAX_LINE {
         match next_byte(input)? {
             None => return Err(BundleFault::NoEnd),
             Some(b'\n') => return Ok(count),
@@ -142,7 +151,7 @@ fn read_end<R: Input>(input: &mut R, room: usize) -> Result<(), BundleFault>
     ensures faults { IfErr result IsInputFault }
     ensures failures { R.failed input.new ≡ failures_after is_read result (R.failed input.old) }
 {
-    if room < 4 {
+    if room < END_LEN {
         return Err(BundleFault::TooLarge);
     }
     match next_byte(input)? {
@@ -158,7 +167,7 @@ fn open_part(
     line: &[u8],
     header: Option<(PartName, u64)>,
 ) -> Result<OpenPart, BundleFault>
-    requires bounded { length line.now < 96 }
+    requires bounded { length line.now < MAX_LINE }
     ensures opened { (exact : Option (List ℕ × ℕ)) →
         header ≡ option_map (λ s. (s.0, min s.1 u64.MAX)) exact →
         result ≡ opened_part parts room line.now exact }
@@ -166,7 +175,7 @@ fn open_part(
     ensures bound { IfOk result (λ part. part.size ≤ MAX_PART) }
     ensures fewer { IfOk result (λ part. part.parts < parts) }
     ensures room { IfOk result
-        (λ part. length line.now + 1 + max_to_come_in part ≡ room + 96) }
+        (λ part. length line.now + 1 + max_to_come_in part ≡ room + MAX_LINE) }
 {
     let Some((name, size)) = header else {
         return Err(BundleFault::BadPartLine);
@@ -200,11 +209,11 @@ pub(crate) fn open_next<R: Input>(
     ensures bound { IfOk result (λ found. IfSome found (λ part. part.size ≤ MAX_PART)) }
     ensures fewer { IfOk result (λ found. IfSome found (λ part. part.parts < parts)) }
     ensures consumed { ConsumesWithin
-        (room + 96) (max_to_come_after result) (R.remaining input.old) (R.remaining input.new) }
+        (room + MAX_LINE) (max_to_come_after result) (R.remaining input.old) (R.remaining input.new) }
     ensures faults { IfErr result IsInputFault }
     ensures failures { R.failed input.new ≡ failures_after is_read result (R.failed input.old) }
 {
-    let mut buffer = [0u8; 96];
+    let mut buffer = [0u8; MAX_LINE];
     let count = read_line(input, &mut buffer)?;
     let line = &buffer[..count];
     if line == b"end".as_slice() {
@@ -229,8 +238,8 @@ pub(crate) fn read_next<R: Input>(
         (opened_next start left parts room) }
     ensures bound { IfOk result (λ found. IfSome found (λ part. part.size ≤ MAX_PART)) }
     ensures fewer { IfOk result (λ found. IfSome found (λ part. part.parts < parts)) }
-    ensures consumed { ConsumesWithin (bytes_before_line start left + (room + 96)) (max_to_come_after result)
-        (R.remaining input.old) (R.remaining input.new) }
+    ensures consumed { ConsumesWithin (bytes_before_line start left + (room + MAX_LINE))
+        (max_to_come_after result) (R.remaining input.old) (R.remaining input.new) }
     ensures faults { IfErr result IsInputFault }
     ensures failures { R.failed input.new ≡ failures_after is_read result (R.failed input.old) }
 {

@@ -136,6 +136,13 @@ impl Addr {
         (1..=223).contains(&first) && first != 127
     }
 
+    /// The unspecified address, 0.0.0.0 (RFC 6890, table 1: "This host on this network").
+    pub fn unspecified() -> Addr
+        ensures { result ≡ 0 }
+    {
+        Addr { bits: 0 }
+    }
+
     /// Whether it is 0.0.0.0, the unspecified address.
     pub fn is_unspecified(self) -> bool
         ensures { result ≡ (self == 0) }

@@ -29,7 +29,7 @@ fn value_in_table(byte: u8, values: &[u8; 256]) -> u8
 
 /// The value of a hexadecimal digit of either case, or 16.
 #[tactic(auto, using(crate::proofs::AddressDigitLemmas::hex_value_of_table))]
-pub fn hex_digit(byte: u8) -> u8
+pub fn hex_value_or_16(byte: u8) -> u8
     ensures { result ≡ hex_value_or_16 byte }
 {
     value_in_table(byte, VALUES)
@@ -40,8 +40,8 @@ fn octet(high: u8, low: u8) -> Option<u8>
     ensures found { IfSome result (λ octet. (i : ℕ) → pair_value high low i ≡ Ok octet) }
     ensures only { IfNone result ((is_hex_digit high && is_hex_digit low) ≡ false) }
 {
-    let high = hex_digit(high);
-    let low = hex_digit(low);
+    let high = hex_value_or_16(high);
+    let low = hex_value_or_16(low);
     if high < 16 && low < 16 {
         Some(high * 16 + low)
     } else {

@@ -9,11 +9,11 @@ pub loop-i-preserved : goal.loop-i-preserved
 loop-i-preserved c =
     let at = c.loop-i in
     record {
-      digits = decode_pairs_more c.args.digits.now at.bytes at.i at.values c.hex_digit-high.result
-          c.hex_digit-low.result c.byte_of.result (omega arith) (omega arith)
-          c.hex_digit-high.ensures c.hex_digit-low.ensures c.byte_of.ensures at.invariant.digits;
-      others = decode_pairs_refused_more c.args.digits.now at.i at.values c.hex_digit-high.result
-          c.hex_digit-low.result (omega arith) c.hex_digit-high.ensures c.hex_digit-low.ensures
+      digits = decode_pairs_more c.args.digits.now at.bytes at.i at.values c.hex_value_or_16-high.result
+          c.hex_value_or_16-low.result c.byte_of.result (omega arith) (omega arith)
+          c.hex_value_or_16-high.ensures c.hex_value_or_16-low.ensures c.byte_of.ensures at.invariant.digits;
+      others = decode_pairs_refused_more c.args.digits.now at.i at.values c.hex_value_or_16-high.result
+          c.hex_value_or_16-low.result (omega arith) c.hex_value_or_16-high.ensures c.hex_value_or_16-low.ensures
           at.invariant.others;
     }
 

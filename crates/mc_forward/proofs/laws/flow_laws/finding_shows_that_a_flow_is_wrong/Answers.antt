@@ -4,5 +4,5 @@ use Rattle.mc_forward.proofs.laws.flow_laws.finding_shows_that_a_flow_is_wrong.G
 
 pub returns : goal.returns
 returns c = λ d flow t x ok low high other.
-    c.non_clean_finding_is_not_right.ensures (net_of d flow) (length d.topology.lans) t x
+    c.non_clean_finding_means_a_wrong_flow.ensures (net_of d flow) (length d.topology.lans) t x
     (c.domains_are_nets.ensures.net d flow ok) (c.domains_are_nets.ensures.wanting d flow ok) low high other

@@ -11,5 +11,5 @@ returns c =
     c.push_strict.result _ _ _ _ _ _
     c.topology-topology.ensures.topology c.flows.ensures.count
     (c.deref.ensures.value ∙ c.in_ok-routers.ensures) (c.deref-2.ensures.value ∙ c.in_ok-routers.ensures)
-    c.in_ok-push_unlisted.ensures.lines c.in_ok-push_excluded_lines.ensures c.in_ok-push_summary.ensures
-    c.in_ok-push_excluded.ensures c.push_strict.ensures
+    c.in_ok-push_unlisted.ensures.lines c.in_ok-push_excluded_routers.ensures c.in_ok-push_summary.ensures
+    c.in_ok-push_verdict_reason.ensures c.push_strict.ensures

@@ -1,7 +1,7 @@
 use Rattle.std.proofs.Common.{List, ℕ, ◌++◌, ◌∙◌, ap, sym}
 use Rattle.std.specs.String.{string_bytes}
 use Rattle.mc_explain.proofs.ShownNameLemmas.{verdict_reason-some_router}
-use Rattle.mc_explain.proofs.excluded.excluded_text.push_excluded.Goals as goal
+use Rattle.mc_explain.proofs.excluded.excluded_text.push_verdict_reason.Goals as goal
 
 pub returns-in_ok-writeln : goal.returns-in_ok-writeln
 returns-in_ok-writeln c =

@@ -1,7 +1,7 @@
 use Rattle.std.proofs.Common.{◌≡◌, ◌++◌, drop, flat_map}
 use Rattle.std.specs.String.{string_bytes}
 use Rattle.mc_explain.specs.ExcludedText.{excluded_line}
-use Rattle.mc_explain.proofs.excluded.excluded_text.push_excluded_lines.Given as goal
+use Rattle.mc_explain.proofs.excluded.excluded_text.push_excluded_routers.Given as goal
 
 -- the lines so far, and those of the routers that are left, are the lines of all
 abbrev pub invariant-loop-router : goal.invariant-loop-router

@@ -17,10 +17,11 @@ use Rattle.mc_tables.proofs.CacheLemmas.{key_cmp-total}
 use Rattle.mc_tables.proofs.CacheMapLemmas.{key_cmp-antisymmetric}
 use Rattle.mc_theory.specs.Lists.{In}
 use Rattle.mc_theory.proofs.ListLemmas.{in-append_cases, in-append_left}
-use Rattle.mc_asked.proofs.MergeLemmas.{AreAbove, are_above-trans, as_keys}
+use Rattle.mc_asked.proofs.MergeLemmas.{AreAbove, are_above-trans}
+use Rattle.mc_tables.proofs.LowestLemmas.{as_keys, find-in_order}
 use Rattle.mc_asked.proofs.MergeLemmas.{in_order-append_in_order, is_strictly_sorted_by-in_order}
 use Rattle.mc_asked.proofs.MergeLemmas.{merge_into}
-use Rattle.mc_asked.proofs.MergeLemmas.{lowest-append, merge, merge_step, find-in_order}
+use Rattle.mc_asked.proofs.MergeLemmas.{lowest-append, merge, merge_step}
 use Rattle.mc_asked.proofs.LowestOfParts.{lowest}
 
 -- ---- the first ones of two merged lists

@@ -11,6 +11,9 @@ pub mod StrayLemmas
 pub mod CauseLemmas
 pub mod RemedyLemmas
 pub mod ShownNeedLemmas
+pub mod BehindLemmas
+pub mod BehindFactLemmas
+pub mod BehindTextLemmas
 pub mod UniqueCauseLemmas
 pub mod ProbeLemmas
 pub mod GroupLemmas

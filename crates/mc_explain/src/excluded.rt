@@ -6,7 +6,7 @@ ghost use Rattle.std.specs.Prelude.{◌≡◌, IfOk};
 ghost use Rattle.mc_explain.specs.ExcludedText.{excluded_routers};
 ghost use Rattle.mc_explain.specs.SearchLine.{is_excluded};
 
-pub use excluded_text::{push_verdict_reason, push_excluded_routers};
+pub use excluded_text::{push_excluded_routers, push_verdict_reason};
 use mc_topology::{RouterNo, Topology};
 use std::alloc::{AllocError, Global};
 

@@ -9,8 +9,11 @@ mod shown;
 mod unlisted;
 mod wanted;
 
-pub use causes::{Cause, Certainty, Explanation, explain, shown_from};
-pub use excluded::{list_excluded_routers, push_verdict_reason, push_excluded_routers};
+pub use causes::{
+    Behind, Cause, Certainty, Explanation, ShownBy, behind_stray, explain, push_leaks_behind,
+    shown_from,
+};
+pub use excluded::{list_excluded_routers, push_excluded_routers, push_verdict_reason};
 pub use searches::{
     ExpectingRouters, InterfacesOfLans, LanSearch, Reach, SearchLine, ShownLine, ShownLines,
     search, vif_of_device,

@@ -50,10 +50,10 @@ unfolding escape_byte
 are_object_lines-wrong_flow number f w = are_object_lines-one (wrong_data number f w) refl refl
 
 pub are_object_lines-wrong : (d : DomainFacts) (number : ℕ) (f : Flow) (certainty : Certainty) (found_ttl : ℕ)
-    (finding : Finding) (events : List Event) (also : List ℕ) (why : List Data) (events_asked : Bool)
-    → AreObjectLines (wrong_line d number f certainty found_ttl finding events also why events_asked)
-are_object_lines-wrong d number f certainty found_ttl finding events also why events_asked =
-    are_object_lines-wrong_flow number f (wrong_flow_of d number certainty found_ttl finding events also why
+    (finding : Finding) (events : List Event) (also : List ℕ) (behind : Data) (why : List Data) (events_asked : Bool)
+    → AreObjectLines (wrong_line d number f certainty found_ttl finding events also behind why events_asked)
+are_object_lines-wrong d number f certainty found_ttl finding events also behind why events_asked =
+    are_object_lines-wrong_flow number f (wrong_flow_of d number certainty found_ttl finding events also behind why
     events_asked)
 
 -- ---- after the flows

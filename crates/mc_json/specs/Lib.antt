@@ -5,6 +5,7 @@ pub mod TreeKey
 pub mod FlowData
 pub mod EndData
 pub mod WhyData
+pub mod BehindData
 pub mod DomainData
 pub mod ObjectLines
 pub mod WrongLine

@@ -1,6 +1,7 @@
 //! The report of an audit as JSON, one object a line.
 #![tactic(auto)]
 
+mod behind_value;
 mod device_value;
 mod domain_line;
 mod end_lines;

@@ -4,13 +4,14 @@ ghost use Rattle.std.specs.Prelude.{◌≡◌, ◌<◌, ◌++◌, IfOk, OnOk, So
 ghost use Rattle.std.specs.String.{string_bytes};
 ghost use Rattle.mc_forward.specs.ListedTables.{facts};
 ghost use Rattle.mc_explain.specs.ShownLines.{shown_lines};
-ghost use Rattle.mc_lines.specs.ExplanationText.{causes_text, first_lines_text, lan_search_text};
-ghost use Rattle.mc_lines.specs.ExplanationText.{more_lines_text};
+ghost use Rattle.mc_lines.specs.ExplanationText.{causes_text, deeper_causes_text, first_lines_text};
+ghost use Rattle.mc_lines.specs.ExplanationText.{lan_search_text, more_lines_text};
 ghost use Rattle.mc_lines.specs.Filled.{line_text};
 ghost use Rattle.mc_lines.specs.FlowContext.{flow_context};
 ghost use Rattle.mc_lines.specs.SearchLines.{shown_items};
 
 use crate::context::LineContext;
+use crate::deeper_text::DeeperText;
 use crate::sentences::cause_lines::add_causes;
 use crate::sentences::reach_lines::add_reach;
 use crate::sentences::search_lines::add_shown_line;
@@ -67,6 +68,37 @@ pub fn push_causes(
         summary,
     };
     add_causes(text, &context, causes)
+}
+
+/// Writes the causes of a fault as [`push_causes`] does, but after four spaces: behind a line that is indented
+/// itself.
+///
+/// # Errors
+///
+/// `Memory` if an allocation fails.
+pub fn push_deeper_causes(
+    alloc: Global,
+    text: &mut String,
+    domain: &Domain,
+    summary: &[CacheSummary],
+    flow: u32,
+    causes: &[Cause],
+) -> Result<(), Memory>
+    requires flow { flow < length domain.now.topology.flows }
+    ensures lines { OnOk result (string_bytes text.new ≡ string_bytes text.old
+        ++ deeper_causes_text (facts domain.now) summary.now flow causes.now) }
+{
+    let view = FlowView::new(domain, flow);
+    let context = LineContext {
+        view: &view,
+        summary,
+    };
+    let mut deeper = DeeperText {
+        text: String::new(alloc),
+    };
+    add_causes(&mut deeper, &context, causes)?;
+    text.push_str(&deeper.text)?;
+    Ok(())
 }
 
 /// Writes the first 40 lines of a search, and returns how many lines there are.

@@ -20,11 +20,15 @@ use Rattle.mc_forward.specs.ListedTables.{DomainFacts, facts}
 use Rattle.mc_forward.proofs.IndexLemmas.{slice_get-exists}
 use Rattle.mc_cert.specs.Certificate.{Tree, tree_at}
 use Rattle.mc_cert.specs.declared.reached.Reached.{Reached}
+use Rattle.mc_explain.specs.BehindFacts.{IsTrueBehind}
+use Rattle.mc_explain.specs.declared.causes.behind.Behind.{Behind}
+use Rattle.mc_explain.proofs.BehindFactLemmas.{is_true-behind}
 use Rattle.mc_explain.specs.WantedText.{lans_wanting}
 use Rattle.mc_maker.specs.Examined.{IfCertified, IfFound, is_certified}
 use Rattle.mc_maker.specs.declared.examination.Examined.{Examined}
 use Rattle.mc_maker.specs.declared.examination.Examined.TheVariants.{Certified, Found}
 use Rattle.mc_json.specs.FlowData.{wrong_flow_of}
+use Rattle.mc_json.specs.BehindData.{behind_data}
 use Rattle.mc_json.specs.WhyData.{why_data}
 use Rattle.mc_run.specs.AuditEnd.{FlowAnswer, are_right, begin_lines, end_lines, verdict_line}
 use Rattle.mc_run.specs.AuditPieces.{output_of}
@@ -35,10 +39,11 @@ use Rattle.mc_run.specs.AuditRun.{KeepsHeadlineByLists, MeansAudited, AuditedVal
 use Rattle.mc_run.specs.AuditRun.{SaysFinding, SaysWhatIsFound, SaysWhichAreRight, SaysYesOf}
 use Rattle.mc_run.specs.AuditRun.{WritesOfEach, WritesWhichAreRight, is_whole, is_yes, excluded}
 use Rattle.mc_run.specs.AuditRun.{trees_shown}
-use Rattle.mc_run.specs.AuditText.{Explanation, events_if_shown, explanation_lines, shown_from_text}
+use Rattle.mc_run.specs.AuditText.{Explanation, events_if_shown, explanation_lines, shown_by_text}
 use Rattle.mc_run.specs.AuditFlowText.{answer_lines, right_flow_lines, wrong_lines_or_object}
 use Rattle.mc_run.specs.AuditFlowText.{wrong_flow_lines}
-use Rattle.mc_run.specs.AuditExplanation.{IsExplanation, IsShownFromAt255, IsShownFromUnless}
+use Rattle.mc_run.specs.AuditExplanation.{IsBehindAt255, IsBehindIfStray, IsExplanation, IsShownFromAt255}
+use Rattle.mc_run.specs.AuditExplanation.{IsShownFromUnless}
 use Rattle.mc_run.specs.AuditExplanation.{is_known_wrong}
 use Rattle.mc_explain.specs.declared.searches.searching.LanSearch.{LanSearch}
 use Rattle.mc_tables.specs.Summary.{SummaryValue}
@@ -48,6 +53,8 @@ use Rattle.mc_maker.specs.declared.examined_flights.ExaminedFlights.TheVariants.
 use Rattle.mc_maker.specs.declared.examined_flights.ExaminedFlights.TheVariants.{FoundAtFlowTtl}
 use Rattle.mc_maker.specs.declared.examined_flights.ExaminedFlights.TheVariants.{Certified as CertifiedFlights}
 use Rattle.mc_replay.specs.FindingValues.{finding_value}
+use Rattle.mc_replay.specs.declared.finding.Finding.{Finding}
+use Rattle.mc_replay.specs.declared.finding.Finding.TheVariants.{Clean, Duplicate, Loop, Stray, Missed}
 use Rattle.mc_replay.specs.declared.travel.FinishedTravel.{FinishedTravel}
 use Rattle.mc_explain.specs.ShownNeed.{IsShownFromIfAny}
 use Rattle.mc_replay.specs.declared.travel.Travel.{Travel}
@@ -181,14 +188,14 @@ wrong_flow_lines-say_finding o whole d summary flow ttl travel e lines known is 
         → SaysFinding json whole d.topology flow lines
     by true is = (
       wrong_flow_of d flow e.certainty ttl travel.finding travel.events.items e.also
-          (why_data d summary flow e.printed e.search) o.travels,
+          (behind_data d summary flow e.behind) (why_data d summary flow e.printed e.search) o.travels,
       is_known-whole whole e.certainty.known e.search known,
       is,
     )
     by false is = (
       e.certainty.known,
       travel.finding,
-      shown_from_text e.certainty.shown_from
+      shown_by_text d.topology (flow_at d.topology flow).ttl e.certainty.shown_by
           ++ (explanation_lines d summary flow e ++ events_if_shown o.travels d.topology travel),
       is_known-whole whole e.certainty.known e.search known,
       is,
@@ -291,6 +298,33 @@ shows_from_ttl-by_flights d flow x flights shown ok has same is =
     by (FoundAtFlowTtl greatest least) has is = λ k t some le.
         absurd (let both : ◌≡◌ {A = Option ℕ} None (Some k) = sym is ∙ some in cc)
 
+none_is_not_some : (o : Option Behind) (b : Behind) → o ≡ None → o ≡ Some b → ⊥
+none_is_not_some None b none some = absurd cc
+none_is_not_some (Some a) b none some = absurd cc
+
+-- what is behind a stray is true of a run of the flow
+is_true-behind_if_stray : (whole : Bool) (d : DomainValue) (flow : ℕ) (x : Finding) (behind : Option Behind)
+    → IsDomain d → IsBehindIfStray whole d flow x behind → (b : Behind) → behind ≡ Some b → IsTrueBehind d flow b
+is_true-behind_if_stray whole d flow Clean behind ok is b some = absurd (none_is_not_some behind b is some)
+is_true-behind_if_stray whole d flow (Duplicate lan) behind ok is b some =
+    absurd (none_is_not_some behind b is some)
+is_true-behind_if_stray whole d flow (Loop lan) behind ok is b some = absurd (none_is_not_some behind b is some)
+is_true-behind_if_stray whole d flow (Missed lan) behind ok is b some = absurd (none_is_not_some behind b is some)
+is_true-behind_if_stray whole d flow (Stray router vif) None ok is b some = absurd is
+is_true-behind_if_stray whole d flow (Stray router vif) (Some a) ok is b some =
+    is_true-behind whole d flow (router, vif) b ok
+    (subst (λ (o : Option Behind). IsBehindIfStray whole d flow (Stray router vif) o) some is)
+
+is_true-behind_at_255 : (whole : Bool) (d : DomainValue) (flow : ℕ) (flights : ExaminedFlights)
+    (behind : Option Behind) → IsDomain d → IsBehindAt255 whole d flow flights behind → (b : Behind)
+    → behind ≡ Some b → IsTrueBehind d flow b
+is_true-behind_at_255 whole d flow (CertifiedFlights entries) behind ok is b some =
+    absurd (none_is_not_some behind b is some)
+is_true-behind_at_255 whole d flow (FoundAtTtl255 ended) behind ok is b some =
+    is_true-behind_if_stray whole d flow ended.travel.finding behind ok is b some
+is_true-behind_at_255 whole d flow (FoundAtFlowTtl greatest least) behind ok is b some =
+    absurd (none_is_not_some behind b is some)
+
 says_yes_or_found-answer_lines : (v : AuditedValue) (o : AuditOptions) (printed : List Tree)
     (flow : ℕ) (x : Examined)
     (flights : ExaminedFlights) (e : Explanation) (wanted lines : List ℕ) → IsDomain v.domain
@@ -315,8 +349,9 @@ says_yes_or_found-answer_lines v o printed flow (Found ttl travel) flights e wan
       ttl_shown = checked.examined.ttl;
       has_flights = has_flights;
       explained = explained;
-      shown = shows_from_ttl-by_flights v.domain flow (Found ttl travel) flights e.certainty.shown_from ok
-          has_flights same explained.shown;
+      shown = shows_from_ttl-by_flights v.domain flow (Found ttl travel) flights e.certainty.shown_by.from ok
+          has_flights same explained.shown.from;
+      behind = is_true-behind_at_255 (is_whole v) v.domain flow flights e.behind ok explained.behind;
       spelled = is;
     })
 

@@ -20,7 +20,7 @@ use Rattle.mc_maker.specs.declared.examination.Examined.{Examined}
 use Rattle.mc_maker.specs.declared.examination.Examined.TheVariants.{Certified, Found}
 use Rattle.mc_tables.specs.Summary.{SummaryValue}
 use Rattle.mc_forward.specs.ListedTables.{DomainFacts, facts}
-use Rattle.mc_lines.specs.ExplanationText.{causes_text}
+use Rattle.mc_lines.specs.ExplanationText.{causes_text, deeper_causes_text}
 use Rattle.mc_explain.specs.Indented.{AreIndented, HasNoLineFeed, indented}
 use Rattle.mc_explain.specs.ExcludedText.{IsExcludedLine, excluded_text, excluded_lines}
 use Rattle.mc_theory.specs.Lists.{In}
@@ -28,9 +28,14 @@ use Rattle.mc_explain.specs.UnlistedLines.{AreLines, IsUnlistedLine, with_line_f
 use Rattle.mc_explain.specs.UnlistedText.{unlisted_text}
 use Rattle.mc_explain.specs.WantedText.{also_missed_text, wanted_text}
 use Rattle.mc_explain.specs.declared.searches.searching.LanSearch.{LanSearch}
+use Rattle.mc_explain.specs.BehindText.{leaks_behind_text}
+use Rattle.mc_explain.specs.declared.causes.Cause.{Cause}
+use Rattle.mc_explain.specs.declared.causes.behind.Behind.{Behind}
+use Rattle.mc_explain.specs.declared.causes.explanation.ShownBy.{ShownBy}
+use Rattle.mc_explain.proofs.BehindTextLemmas.{are_indented-leaks_behind_text}
 use Rattle.mc_explain.proofs.NameListLemmas.{are_indented-also_missed_text}
 use Rattle.mc_explain.proofs.NameListLemmas.{are_indented-wanted_text}
-use Rattle.mc_lines.proofs.IndentedLemmas.{are_indented-causes_text}
+use Rattle.mc_lines.proofs.IndentedLemmas.{are_indented-causes_text, are_indented-deeper_causes_text}
 use Rattle.mc_explain.proofs.ExcludedLemmas.{are_indented-excluded_text, are_excluded_lines-excluded_lines}
 use Rattle.mc_explain.proofs.UnlistedLineLemmas.{are_unlisted_lines-unlisted_text}
 use Rattle.mc_lines.proofs.IndentedLemmas.{are_indented-search_text}
@@ -40,6 +45,7 @@ use Rattle.mc_json.specs.FlowData.{tree_data}
 use Rattle.mc_json.specs.ObjectLines.{AreObjectLines, BeginsObject, IsNotVerdict}
 use Rattle.mc_json.specs.RowData.{line_of}
 use Rattle.mc_json.specs.RowData.{lan_data}
+use Rattle.mc_json.specs.BehindData.{behind_data}
 use Rattle.mc_json.specs.WhyData.{why_data}
 use Rattle.mc_json.proofs.EachLineLemmas.{are_object_lines-domain, are_object_lines-right}
 use Rattle.mc_json.proofs.EachLineLemmas.{are_object_lines-summary, are_object_lines-tree}
@@ -52,7 +58,8 @@ use Rattle.mc_run.specs.AuditObjects.{key_of_tree, tree_line, tree_number}
 use Rattle.mc_run.specs.AuditRun.{AreFlowAnswers, IsFlowAnswer, AuditedValue, is_whole, is_yes, excluded}
 use Rattle.mc_run.specs.AuditRun.{AreYesWords, trees_shown, yes_object}
 use Rattle.mc_run.specs.AuditText.{Explanation, events_if_shown, explanation_lines, right_line}
-use Rattle.mc_run.specs.AuditText.{found_flow_line, known_word, searched_lines, shown_from_text}
+use Rattle.mc_run.specs.AuditText.{at_flow_ttl_text, behind_text, deeper_shown_from_text, found_flow_line}
+use Rattle.mc_run.specs.AuditText.{known_word, searched_lines, second_behind_text, shown_by_text, shown_from_text}
 use Rattle.mc_run.specs.AuditFlowText.{answer_lines, is_hidden, right_lines_or_object, wrong_lines_or_object}
 use Rattle.mc_cli.specs.declared.audit_options.AuditOptions.{AuditOptions}
 use Rattle.mc_run.specs.ReplayRun.{event_line, event_lines}
@@ -289,14 +296,76 @@ no_yes_line-shown_from_text (Some ttl) =
     (ap (λ xs. codes "  shown by packets sent with ttl " ++ xs)
     (sym (append_assoc (decimal ttl) last (codes "\n"))))
 
+no_yes_line-at_flow_ttl_text : (t : TopologyValue) (ttl : ℕ) (found : Option Finding) → IsValidTopology t
+    → AreLinesWithoutYes (at_flow_ttl_text t ttl found)
+no_yes_line-at_flow_ttl_text t ttl None ok = no_yes_line-no_lines
+no_yes_line-at_flow_ttl_text t ttl (Some found) ok =
+    let begin = codes "  with this flow's ttl " in
+    let colon = codes ": " in
+    let words = finding_text t found in
+    no_yes_line-text_line (at_flow_ttl_text t ttl (Some found)) (begin ++ (decimal ttl ++ (colon ++ words)))
+    (refl, refl)
+    (no_feed-append begin _ (no_feed-from_list_all begin refl)
+    (no_feed-append (decimal ttl) _ (number ttl)
+    (no_feed-append colon words (no_feed-from_list_all colon refl) (finding_text-no_yes t found ok))))
+    (ap (λ xs. begin ++ xs) (ap (λ xs. decimal ttl ++ xs) (sym (append_assoc colon words (codes "\n")))
+    ∙ sym (append_assoc (decimal ttl) (colon ++ words) (codes "\n"))))
+
+no_yes_line-shown_by_text : (t : TopologyValue) (ttl : ℕ) (shown_by : ShownBy) → IsValidTopology t
+    → AreLinesWithoutYes (shown_by_text t ttl shown_by)
+no_yes_line-shown_by_text t ttl shown_by ok =
+    no_yes_line-append (shown_from_text shown_by.from) (at_flow_ttl_text t ttl shown_by.at_flow_ttl)
+    (no_yes_line-shown_from_text shown_by.from) (no_yes_line-at_flow_ttl_text t ttl shown_by.at_flow_ttl ok)
+
+-- after four spaces
+no_yes_line-deeper_shown_from : (shown_from : Option ℕ) → AreLinesWithoutYes (deeper_shown_from_text shown_from)
+no_yes_line-deeper_shown_from None = no_yes_line-no_lines
+no_yes_line-deeper_shown_from (Some ttl) =
+    let begin = codes "    shown by packets sent with ttl " in
+    let last = codes " or more" in
+    no_yes_line-text_line (deeper_shown_from_text (Some ttl)) (begin ++ (decimal ttl ++ last)) (refl, refl)
+    (no_feed-append begin _ (no_feed-from_list_all begin refl)
+    (no_feed-append (decimal ttl) last (number ttl) (no_feed-from_list_all last refl)))
+    (ap (λ xs. begin ++ xs) (sym (append_assoc (decimal ttl) last (codes "\n"))))
+
+no_yes_line-second_behind : (d : DomainFacts) (summary : List SummaryValue) (flow : ℕ) (causes : List Cause)
+    (shown_from : Option ℕ) (found : Option Finding) → IsValidTopology d.topology
+    → AreLinesWithoutYes (second_behind_text d summary flow causes shown_from found)
+no_yes_line-second_behind d summary flow causes shown_from None ok = no_yes_line-no_lines
+no_yes_line-second_behind d summary flow causes shown_from (Some found) ok =
+    let begin = codes "  behind it: " in
+    let words = finding_text d.topology found in
+    let line = begin ++ (words ++ codes "\n") in
+    let more = deeper_causes_text d summary flow causes ++ deeper_shown_from_text shown_from in
+    let first = no_yes_line-text_line line (begin ++ words) (refl, refl)
+    (no_feed-append begin words (no_feed-from_list_all begin refl) (finding_text-no_yes d.topology found ok))
+    (sym (append_assoc begin words (codes "\n"))) in
+    let rest = no_yes_line-append (deeper_causes_text d summary flow causes) (deeper_shown_from_text shown_from)
+    (no_yes_line-indented_lines _ (are_indented-deeper_causes_text d summary flow causes ok))
+    (no_yes_line-deeper_shown_from shown_from) in
+    subst AreLinesWithoutYes (append_assoc begin (words ++ codes "\n") more
+    ∙ ap (λ xs. begin ++ xs) (append_assoc words (codes "\n") more)) (no_yes_line-append line more first rest)
+
+no_yes_line-behind_text : (d : DomainFacts) (summary : List SummaryValue) (flow : ℕ) (behind : Option Behind)
+    → IsValidTopology d.topology → AreLinesWithoutYes (behind_text d summary flow behind)
+no_yes_line-behind_text d summary flow None ok = no_yes_line-no_lines
+no_yes_line-behind_text d summary flow (Some b) ok =
+    no_yes_line-append (second_behind_text d summary flow b.causes.items b.shown_from b.finding)
+    (leaks_behind_text d b.strays.items b.open_routers.items b.missed.items)
+    (no_yes_line-second_behind d summary flow b.causes.items b.shown_from b.finding ok)
+    (no_yes_line-indented_lines _ (are_indented-leaks_behind_text d b.strays.items b.open_routers.items
+    b.missed.items ok))
+
 no_yes_line-explanation_lines : (d : DomainFacts) (summary : List SummaryValue) (flow : ℕ)
     (x : Explanation) → IsValidTopology d.topology → AreLinesWithoutYes
     (explanation_lines d summary flow x)
 no_yes_line-explanation_lines d summary flow x ok =
     no_yes_line-append (causes_text d summary flow x.printed) _
     (no_yes_line-indented_lines _ (are_indented-causes_text d summary flow x.printed ok))
-    (no_yes_line-append (searched_lines d summary flow x.search) (also_missed_text d.topology x.also)
-    (searched x.search) (no_yes_line-indented_lines _ (are_indented-also_missed_text d.topology x.also ok)))
+    (no_yes_line-append (searched_lines d summary flow x.search) _ (searched x.search)
+    (no_yes_line-append (also_missed_text d.topology x.also) (behind_text d summary flow x.behind)
+    (no_yes_line-indented_lines _ (are_indented-also_missed_text d.topology x.also ok))
+    (no_yes_line-behind_text d summary flow x.behind ok)))
   where
     searched : (s : Option LanSearch) → AreLinesWithoutYes (searched_lines d summary flow s)
     searched None = no_yes_line-no_lines
@@ -311,13 +380,13 @@ no_yes_line-wrong_lines_or_object : (json travels : Bool) (d : DomainFacts)
 no_yes_line-wrong_lines_or_object true travels d summary flow ttl travel x ok =
     no_yes_line-objects _
     (are_object_lines-wrong d flow (flow_at d.topology flow) x.certainty ttl travel.finding travel.events.items x.also
-    (why_data d summary flow x.printed x.search) travels)
+    (behind_data d summary flow x.behind) (why_data d summary flow x.printed x.search) travels)
 no_yes_line-wrong_lines_or_object false travels d summary flow ttl travel x ok =
     let t = d.topology in
     no_yes_line-append (found_flow_line t (flow_at t flow) x.certainty.known travel.finding) _
     (no_yes_line-found_flow_line t (flow_at t flow) x.certainty.known travel.finding ok)
-    (no_yes_line-append (shown_from_text x.certainty.shown_from) _
-    (no_yes_line-shown_from_text x.certainty.shown_from)
+    (no_yes_line-append (shown_by_text t (flow_at t flow).ttl x.certainty.shown_by) _
+    (no_yes_line-shown_by_text t (flow_at t flow).ttl x.certainty.shown_by ok)
     (no_yes_line-append (explanation_lines d summary flow x) (events_if_shown travels t travel)
     (no_yes_line-explanation_lines d summary flow x ok) (no_yes_line-events_if_shown travels t travel ok)))
 

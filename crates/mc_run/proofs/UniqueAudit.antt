@@ -2,13 +2,13 @@
 use Rattle.std.proofs.Common.{◌≡◌, ℕ, suc, ◌+◌, Bool, true, false, cond, List, [], ◌∷◌, ◌++◌}
 use Rattle.std.proofs.Common.{length, Option, Some, None, refl, sym, ap, ap₂, subst, ◌∙◌, arith}
 use Rattle.std.proofs.Common.{filter, fold, take, ◌&&◌, slice_get}
-use Rattle.std.specs.Prelude.{◌==◌, flat_map, ⊤, is_none}
+use Rattle.std.specs.Prelude.{◌==◌, codes, flat_map, map, ⊤, is_none}
 use Rattle.mc_files.specs.Files.{FileText}
 use Rattle.mc_tables.specs.Summary.{SummaryValue}
 use Rattle.mc_topology.specs.Topology.{TopologyValue, flow_at}
 use Rattle.mc_cert.specs.Certificate.{Tree}
 use Rattle.mc_theory.specs.Events.{Event}
-use Rattle.mc_theory.specs.Nets.{Net}
+use Rattle.mc_theory.specs.Nets.{Interface, Net}
 use Rattle.mc_forward.specs.Domains.{DomainValue, IsDomain, net_of, ttl_of}
 use Rattle.mc_forward.specs.ListedTables.{DomainFacts, facts}
 use Rattle.mc_input.specs.ExcludedRouters.{files_with_exclusions}
@@ -28,10 +28,15 @@ use Rattle.mc_explain.specs.declared.searches.searching.LanSearch.{LanSearch}
 use Rattle.mc_lines.specs.ExplanationText.{causes_text}
 use Rattle.mc_lines.specs.ExplanationText.{search_text}
 use Rattle.mc_explain.specs.WantedText.{also_missed_text}
+use Rattle.mc_explain.specs.BehindText.{leaks_behind_text}
 use Rattle.mc_explain.specs.declared.causes.Cause.{Cause}
+use Rattle.mc_explain.specs.declared.causes.behind.Behind.{Behind}
 use Rattle.mc_explain.specs.declared.causes.explanation.Certainty.{Certainty}
 use Rattle.mc_explain.specs.declared.searches.search_line.SearchLine.{SearchLine}
-use Rattle.mc_json.specs.FlowData.{wrong_line}
+use Rattle.mc_json.specs.BehindData.{behind_data, found_behind_data, stray_data}
+use Rattle.mc_json.specs.EndData.{routers_data}
+use Rattle.mc_json.specs.FlowData.{optional_finding_data, shown_from_data, wrong_line}
+use Rattle.mc_json.specs.RowData.{lan_data, list_data, object_data}
 use Rattle.mc_json.specs.WhyData.{search_data}
 use Rattle.mc_json.specs.WhyData.{causes_data}
 use Rattle.mc_json.specs.WhyData.{search_data_if_any, why_data}
@@ -43,8 +48,9 @@ use Rattle.mc_run.specs.AuditEnd.{verdict_line}
 use Rattle.mc_run.specs.AuditObjects.{wrong_object}
 use Rattle.mc_run.specs.AuditRun.{IsFlowAnswer, IsAuditText, IsAudited, MeansAudited, AuditedValue}
 use Rattle.mc_run.specs.AuditRun.{is_whole, is_yes, excluded, trees_shown}
-use Rattle.mc_run.specs.AuditText.{Explanation, events_if_shown, explanation_lines, searched_lines}
-use Rattle.mc_run.specs.AuditText.{found_flow_line, shown_from_text, wrong_lines}
+use Rattle.mc_run.specs.AuditText.{Explanation, behind_text, events_if_shown, explanation_lines, searched_lines}
+use Rattle.mc_run.specs.AuditText.{second_behind_text}
+use Rattle.mc_run.specs.AuditText.{found_flow_line, shown_by_text, wrong_lines}
 use Rattle.mc_run.specs.AuditFlowText.{answer_lines, is_hidden, known_right, right_flow_lines}
 use Rattle.mc_run.specs.AuditFlowText.{shown_trees_with}
 use Rattle.mc_run.specs.AuditFlowText.{with_shown_tree}
@@ -53,7 +59,7 @@ use Rattle.mc_run.specs.MakeRun.{IsExamined}
 use Rattle.mc_run.specs.ReplayRun.{event_lines}
 use Rattle.mc_cli.specs.declared.audit_options.AuditOptions.{AuditOptions}
 use Rattle.mc_run.proofs.UniqueExamination.{IsSameFinishedTravel, IsSameExplanation}
-use Rattle.mc_run.proofs.UniqueExamination.{HaveSameFlights, HaveSameSearch}
+use Rattle.mc_run.proofs.UniqueExamination.{HaveSameBehind, HaveSameFlights, HaveSameSearch, IsSameBehind}
 use Rattle.mc_run.proofs.UniqueExamination.{is_explanation-unique, examined_flights-unique}
 
 -- ---- the lines of a flow that isn't right
@@ -75,15 +81,67 @@ events_if_shown-same_events : (travels : Bool) (t : TopologyValue) (a b : Finish
 events_if_shown-same_events true t a b same = ap (event_lines t) same.events
 events_if_shown-same_events false t a b same = refl
 
+second_behind_text-same_parts : (d : DomainFacts) (summary : List SummaryValue) (flow : ℕ) (causes others : List Cause)
+    (from to : Option ℕ) (x y : Option Finding) → causes ≡ others → from ≡ to → x ≡ y
+    → second_behind_text d summary flow causes from x ≡ second_behind_text d summary flow others to y
+second_behind_text-same_parts d summary flow causes others from to x y same least finding =
+    ap₂ (λ (cs : List Cause) (k : Option ℕ). second_behind_text d summary flow cs k x) same least
+    ∙ ap (second_behind_text d summary flow others to) finding
+
+behind_text-same_behind : (d : DomainFacts) (summary : List SummaryValue) (flow : ℕ) (s t : Option Behind)
+    → HaveSameBehind s t → behind_text d summary flow s ≡ behind_text d summary flow t
+behind_text-same_behind d summary flow None None same = refl
+behind_text-same_behind d summary flow None (Some b) same = absurd same
+behind_text-same_behind d summary flow (Some a) None same = absurd same
+behind_text-same_behind d summary flow (Some a) (Some b) same =
+    ap₂ (λ (one two : List ℕ). one ++ two)
+    (second_behind_text-same_parts d summary flow a.causes.items b.causes.items a.shown_from b.shown_from a.finding
+    b.finding same.causes same.shown_from same.finding)
+    (ap (λ (is : List Interface). leaks_behind_text d is a.open_routers.items a.missed.items) same.strays
+    ∙ ap₂ (λ (rs ls : List ℕ). leaks_behind_text d b.strays.items rs ls) same.open_routers same.missed)
+
+-- the members of what is behind a stray
+abbrev behind_members : TopologyValue → Option Finding → (missed open_routers : List ℕ) → Option ℕ
+    → List Interface → (why : List Data) → Data
+behind_members t finding missed open_routers shown_from strays why = object_data (
+    (codes "finding", optional_finding_data t finding)
+    ∷ (codes "missed", list_data (map (lan_data t) missed))
+    ∷ (codes "open", routers_data t open_routers)
+    ∷ (codes "shown_from", shown_from_data shown_from)
+    ∷ (codes "strays", list_data (map (stray_data t) strays))
+    ∷ (codes "why", list_data why) ∷ [])
+
+found_behind_data-same_parts : (t : TopologyValue) (a b : Behind) (why because : List Data) → IsSameBehind a b
+    → why ≡ because → found_behind_data t a why ≡ found_behind_data t b because
+found_behind_data-same_parts t a b why because same is =
+    ap₂ (λ (x : Option Finding) (ls : List ℕ). behind_members t x ls a.open_routers.items a.shown_from a.strays.items
+    why) same.finding same.missed
+    ∙ ap₂ (λ (rs : List ℕ) (k : Option ℕ). behind_members t b.finding b.missed.items rs k a.strays.items why)
+    same.open_routers same.shown_from
+    ∙ ap₂ (λ (is : List Interface) (ds : List Data). behind_members t b.finding b.missed.items b.open_routers.items
+    b.shown_from is ds) same.strays is
+
+behind_data-same_behind : (d : DomainFacts) (summary : List SummaryValue) (flow : ℕ) (s t : Option Behind)
+    → HaveSameBehind s t → behind_data d summary flow s ≡ behind_data d summary flow t
+behind_data-same_behind d summary flow None None same = refl
+behind_data-same_behind d summary flow None (Some b) same = absurd same
+behind_data-same_behind d summary flow (Some a) None same = absurd same
+behind_data-same_behind d summary flow (Some a) (Some b) same =
+    found_behind_data-same_parts d.topology a b (causes_data d summary flow a.causes.items)
+    (causes_data d summary flow b.causes.items) same (ap (causes_data d summary flow) same.causes)
+
 explanation_lines-same_explanation : (d : DomainFacts) (summary : List SummaryValue) (flow : ℕ)
     (x y : Explanation) → IsSameExplanation x y
     → explanation_lines d summary flow x ≡ explanation_lines d summary flow y
 explanation_lines-same_explanation d summary flow x y same =
-    ap (λ (printed : List Cause). causes_text d summary flow printed
-    ++ (searched_lines d summary flow x.search ++ also_missed_text d.topology x.also)) same.printed
+    ap (λ (printed : List Cause). causes_text d summary flow printed ++ (searched_lines d summary flow x.search
+    ++ (also_missed_text d.topology x.also ++ behind_text d summary flow x.behind))) same.printed
     ∙ ap₂ (λ (found : List ℕ) (also : List ℕ). causes_text d summary flow y.printed
-    ++ (found ++ also_missed_text d.topology also))
+    ++ (found ++ (also_missed_text d.topology also ++ behind_text d summary flow x.behind)))
     (searched_lines-same_search d summary flow x.search y.search same.search) same.also
+    ∙ ap (λ (past : List ℕ). causes_text d summary flow y.printed ++ (searched_lines d summary flow y.search
+    ++ (also_missed_text d.topology y.also ++ past)))
+    (behind_text-same_behind d summary flow x.behind y.behind same.behind)
 
 wrong_lines-same_travel : (travels : Bool) (d : DomainFacts) (summary : List SummaryValue)
     (flow : ℕ) (a b : FinishedTravel) (x y : Explanation) → IsSameFinishedTravel a b
@@ -92,12 +150,12 @@ wrong_lines-same_travel : (travels : Bool) (d : DomainFacts) (summary : List Sum
 wrong_lines-same_travel travels d summary flow a b x y ended same =
     let t = d.topology in
     ap₂ (λ (c : Certainty) (w : Finding). found_flow_line t (flow_at t flow) c.known w
-    ++ (shown_from_text c.shown_from
+    ++ (shown_by_text t (flow_at t flow).ttl c.shown_by
     ++ (explanation_lines d summary flow x ++ events_if_shown travels t a.travel)))
     same.certainty ended.finding
     ∙ ap₂ (λ (why : List ℕ) (es : List ℕ).
     found_flow_line t (flow_at t flow) y.certainty.known b.travel.finding
-    ++ (shown_from_text y.certainty.shown_from ++ (why ++ es)))
+    ++ (shown_by_text t (flow_at t flow).ttl y.certainty.shown_by ++ (why ++ es)))
     (explanation_lines-same_explanation d summary flow x y same)
     (events_if_shown-same_events travels t a b ended)
 
@@ -127,11 +185,13 @@ wrong_object-same_travel : (travels : Bool) (d : DomainFacts) (summary : List Su
     ≡ wrong_object travels d summary flow ttl b.travel y
 wrong_object-same_travel travels d summary flow ttl a b x y ended same =
     ap₂ (λ (w : Finding) (es : List Event). wrong_line d flow (flow_at d.topology flow) x.certainty ttl w es x.also
-    (why_data d summary flow x.printed x.search) travels) ended.finding ended.events
-    ∙ ap (λ (c : Certainty). wrong_line d flow (flow_at d.topology flow) c ttl b.travel.finding
-    b.travel.events.items x.also (why_data d summary flow x.printed x.search) travels) same.certainty
+    (behind_data d summary flow x.behind) (why_data d summary flow x.printed x.search) travels) ended.finding
+    ended.events
+    ∙ ap₂ (λ (c : Certainty) (past : Data). wrong_line d flow (flow_at d.topology flow) c ttl b.travel.finding
+    b.travel.events.items x.also past (why_data d summary flow x.printed x.search) travels) same.certainty
+    (behind_data-same_behind d summary flow x.behind y.behind same.behind)
     ∙ ap₂ (λ (also : List ℕ) (why : List Data). wrong_line d flow (flow_at d.topology flow) y.certainty ttl
-    b.travel.finding b.travel.events.items also why travels)
+    b.travel.finding b.travel.events.items also (behind_data d summary flow y.behind) why travels)
     same.also
     (why_data-same_explanation d summary flow x y same)
 

@@ -19,7 +19,9 @@ use Rattle.mc_maker.specs.Examined.{FindsFault, IfCertified, IsFirstPickTravel, 
 use Rattle.mc_maker.specs.ExaminedFlights.{HasExaminedFlights, without_flights}
 use Rattle.mc_maker.specs.declared.examination.Examined.{Examined}
 use Rattle.mc_maker.specs.declared.examined_flights.ExaminedFlights.{ExaminedFlights}
+use Rattle.mc_explain.specs.BehindFacts.{IsTrueBehind}
 use Rattle.mc_explain.specs.WantedText.{lans_wanting}
+use Rattle.mc_explain.specs.declared.causes.behind.Behind.{Behind}
 use Rattle.mc_input.specs.Meaning.{FilesMeanDomain, MeansDomainWhere}
 use Rattle.mc_input.specs.ExcludedRouters.{AreRouterNames, files_with_exclusions}
 use Rattle.mc_input.specs.SummariesOfFiles.{AreSummariesOf}
@@ -186,7 +188,8 @@ pub record SaysYesOf (v : AuditedValue) (o : AuditOptions) (flow : ℕ) (lines :
 -- finding is that of a run of its net, the travel of a packet with this TTL. The explanation is by the
 -- flights of the examination. Where a TTL is said from which on packets show the finding, each packet with
 -- that TTL or more carries two copies on the finding's LAN, or makes the stray, in each complete run in
--- which no copy is lost.
+-- which no copy is lost. Where it is said what a packet with the flow's own TTL meets, that is the finding of
+-- such a packet's travel. What is said to be behind a stray is true of one run of the flow.
 pub record SaysWhatIsFound (v : AuditedValue) (o : AuditOptions) (flow : ℕ) (lines : List ℕ)
     : Type 0 where
   pub ttl : ℕ
@@ -200,8 +203,10 @@ pub record SaysWhatIsFound (v : AuditedValue) (o : AuditOptions) (flow : ℕ) (l
   pub has_flights : HasExaminedFlights v.domain flow flights
   pub explained : IsExplanation v.domain v.summary (excluded v) (is_whole v) flow flights
       explanation
-  pub shown : (k t : ℕ) → explanation.certainty.shown_from ≡ Some k → k ≤ t
+  pub shown : (k t : ℕ) → explanation.certainty.shown_by.from ≡ Some k → k ≤ t
       → EachCompleteRunHasFault (net_of v.domain flow) t (finding_value travel.finding)
+  pub behind : (b : Behind) → explanation.behind ≡ Some b
+      → IsTrueBehind v.domain flow b
   pub spelled : lines ≡ wrong_flow_lines o (facts v.domain) v.summary flow ttl travel explanation
 
 -- The text has for each flow, in order, lines that truly say the one or the other, and last the line

@@ -22,8 +22,9 @@ fn first_eight<N>(list: &[N]) -> &[N]
 
 /// How many more there are, such as ` and 3 more`, or nothing if there are none.
 #[derive(Clone, Copy, Drop)]
-struct ShownMore {
-    more: usize,
+pub(crate) struct ShownMore {
+    /// Their number.
+    pub(crate) more: usize,
 }
 
 impl fmt::Display for ShownMore {

@@ -14,7 +14,9 @@ use crate::shown::verdict_text::push_overall_verdict;
 use mc_cli::{
     AuditOptions, FAULTS_WORD, JSON_WORD, STRICT_WORD, TRAVEL_WORD, UNLISTED_WORD, WITHOUT_WORD,
 };
-use mc_explain::{list_excluded_routers, push_verdict_reason, push_excluded_routers, push_unlisted};
+use mc_explain::{
+    list_excluded_routers, push_excluded_routers, push_unlisted, push_verdict_reason,
+};
 use mc_forward::Domain;
 use mc_json::{
     push_domain_line, push_summary_line, push_unlisted_lines, push_verdict_line, push_without_line,

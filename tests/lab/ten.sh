@@ -100,7 +100,7 @@ flow 10.77.0.50 239.1.2.3 ttl $ttl yes copies 9
   wanted 3: 10.77.5.0-24 10.77.7.0-24 10.77.9.0-24
 flow 10.77.0.50 239.1.2.4 ttl 16 yes copies 5
   wanted 1: 10.77.5.0-24
-summary flows 2 right 2 wrong 0 unknown 0 unwanted 0
+summary flows 2 right 2 wrong 0 unknown 0 unwanted 0 asked 0
 verdict yes
 END
 }
@@ -196,7 +196,7 @@ flow 10.77.0.50 239.1.2.3 ttl 16 wrong: Duplicate 10.77.4.0-24
   forwarded onto 10.77.4.0-24 by r5 eth1: entry (10.77.0.50,239.1.2.3) from eth0 to eth1 in cache-r5
   fix: remove eth1 from this entry of r5; every LAN reached now is still reached
   then audit again
-summary flows 2 right 1 wrong 1 unknown 0 unwanted 0
+summary flows 2 right 1 wrong 1 unknown 0 unwanted 0 asked 0
 verdict no
 END
 make_page duplicate 1
@@ -224,7 +224,7 @@ flow 10.77.0.50 239.1.2.3 ttl 16 wrong: Loop 10.77.1.0-24
   10.77.3.0-24 to 10.77.1.0-24 through r3, eth1 to eth0: entry (10.77.0.50,239.1.2.3) from eth1 to eth0 in cache-r3
   fix: remove eth0 from this entry of r3; every LAN reached now is still reached
   then audit again
-summary flows 2 right 1 wrong 1 unknown 0 unwanted 0
+summary flows 2 right 1 wrong 1 unknown 0 unwanted 0 asked 0
 verdict no
 END
 make_page loop 1
@@ -247,7 +247,7 @@ flow 10.77.0.50 239.1.2.3 ttl 16 wrong: Stray r9 $stray
   shown by packets sent with ttl 8 or more
   alone0 of r9 is on no listed LAN
   entry (10.77.0.50,239.1.2.3) from eth0 to eth1 alone0 in cache-r9
-summary flows 2 right 1 wrong 1 unknown 0 unwanted 0
+summary flows 2 right 1 wrong 1 unknown 0 unwanted 0 asked 0
 verdict no
 END
 make_page stray 1
@@ -266,7 +266,7 @@ flow 10.77.0.50 239.1.2.3 ttl 16 wrong: Missed 10.77.7.0-24
   10.77.7.0-24: expected from here by r9
   10.77.7.0-24: no entry for this flow forwards onto it
   also missed: 10.77.9.0-24
-summary flows 2 right 1 wrong 1 unknown 0 unwanted 0
+summary flows 2 right 1 wrong 1 unknown 0 unwanted 0 asked 0
 verdict no
 END
 make_page missed 1
@@ -277,7 +277,7 @@ flow 10.77.0.50 239.1.2.3 ttl 16 unknown: Missed 10.77.7.0-24
   10.77.7.0-24: expected from here by r9
   also missed: 10.77.9.0-24
 excluded r8
-summary flows 2 right 0 wrong 0 unknown 2 unwanted 0
+summary flows 2 right 0 wrong 0 unknown 2 unwanted 0 asked 0
   excluded: r8: the verdict is no; a yes requires all routers
 verdict no
 END
@@ -297,7 +297,7 @@ expect 1 "$mcaudit" audit "$site" --faults <<'END'
 flow 10.77.0.50 239.1.2.3 ttl 16 wrong: Missed 10.77.9.0-24
   10.77.9.0-24 is reached by packets sent with ttl 19 or more; this flow is listed with ttl 16
   stopped at r9 eth1: ttl 10 is not above threshold 12
-summary flows 2 right 1 wrong 1 unknown 0 unwanted 0
+summary flows 2 right 1 wrong 1 unknown 0 unwanted 0 asked 0
 verdict no
 END
 make_page threshold 1

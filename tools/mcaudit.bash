@@ -13,9 +13,9 @@ _mcaudit() {
     case ${COMP_WORDS[1]} in
         audit | pack)
             if [ "${COMP_WORDS[1]}" = audit ]; then
-                option='--travel --faults --unlisted --strict --json --without'
-                # the word behind is a router, whatever it begins with
-                if [ "$before" = --without ]; then return; fi
+                option='--travel --faults --unlisted --strict --json --without --ignore'
+                # the word behind is a router or a range, whatever it begins with
+                case $before in --without | --ignore) return ;; esac
             fi
             case $word in
                 -*) mapfile -t COMPREPLY < <(compgen -W "$option" -- "$word") ;;

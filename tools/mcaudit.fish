@@ -67,8 +67,8 @@ set -l asking \
     '--tries:value:gather again, so many times in all' \
     '--wait:value:wait so long for a query'
 
-# the word behind --without is a router, whatever it begins with
-set -l audit '__mcaudit_command_is audit; and not __fish_prev_arg_in --without'
+# the word behind --without is a router, and that behind --ignore a range, whatever it begins with
+set -l audit '__mcaudit_command_is audit; and not __fish_prev_arg_in --without --ignore'
 __mcaudit_commands mcaudit \
     'audit:judge each flow of the files of a folder' \
     'check:judge each flow of a bundle by its certificate' \
@@ -84,9 +84,10 @@ __mcaudit_options mcaudit $audit \
     '--travel::tell the travel of each packet that shows a fault' \
     '--faults::leave out the flows that are right and wanted' \
     '--unlisted::tell all unlisted sources and groups' \
-    '--strict::end with status 1 where a flow that is right is wanted by nobody' \
+    '--strict::end with status 1 where nobody wants a flow, or no flow answers what hosts ask for' \
     '--json::write an object a line' \
-    '--without:value:audit without the tables of a router'
+    '--without:value:audit without the tables of a router' \
+    '--ignore:value:leave aside what hosts ask for in a range of groups'
 __mcaudit_folders mcaudit $audit
 __mcaudit_options mcaudit '__mcaudit_command_is pack' '--certificate::pack the certificate too'
 __mcaudit_folders mcaudit '__mcaudit_command_is pack'

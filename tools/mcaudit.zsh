@@ -48,9 +48,10 @@ mcaudit)
             '--travel[tell the travel of each packet that shows a fault]' \
             '--faults[leave out the flows that are right and wanted]' \
             '--unlisted[tell all unlisted sources and groups]' \
-            '--strict[end with status 1 where a flow that is right is wanted by nobody]' \
+            '--strict[end with status 1 where nobody wants a flow, or no flow answers what hosts ask for]' \
             '--json[write an object a line]' \
-            '*--without=[audit without the tables of a router]:router: ' $site ;;
+            '*--without=[audit without the tables of a router]:router: ' \
+            '*--ignore=[leave aside what hosts ask for in a range of groups]:group/length: ' $site ;;
     *:pack) _arguments ': :' '--certificate[pack the certificate too]' $site ;;
     *:replay) _arguments ': :' ':flow: ' ':ttl: ' '--order[which waiting copy is handled next]:order:(first last)' ;;
     esac ;;

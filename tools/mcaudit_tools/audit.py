@@ -9,15 +9,27 @@ import sys
 from mcaudit_tools.common import Failed, Refused
 from mcaudit_tools.files import failing, open_regular, whole
 from mcaudit_tools.programs import run
+from mcaudit_tools.wants import Wants
 
 AUDITING = 300  # seconds that an audit may take
 MOST_BYTES = 256 << 20
 MOST_LINE = 16 << 20
 COUNTS = "flows", "right", "wrong", "unknown", "unwanted"
+ASKED = "asked"  # what is counted too, but by programs that were too old to say it
 
 
 class NoAudit(Refused):
     """Why lines are none that an audit printed."""
+
+
+def counted(summary):
+    """Returns the names of what a summary counts, in the order of audit's text."""
+    return [*COUNTS, *([ASKED] if ASKED in summary else [])]
+
+
+def finding_text(finding):
+    """Returns a finding as audit's text has it."""
+    return " ".join(str(finding[it]) for it in ("kind", "lan", "router", "vif") if it in finding)
 
 
 def refuse(text):
@@ -33,6 +45,7 @@ class Lines:
         self.format, self.summary, self.verdict = None, None, None
         self.flows = collections.Counter()  # by whether they are right, or None, where that isn't known
         self.missed = 0  # flows of format 1 that are counted as wrong, of which it isn't known
+        self.wants = Wants()
 
     def see(self, value):
         """Sees that an object has its place among the others, and that the counts and the verdict are theirs. Returns
@@ -45,6 +58,7 @@ class Lines:
             if self.format not in (1, 2):
                 raise NoAudit("it is of another format")
         found = self.as_format_2(value) if self.format == 1 else value
+        self.wants.take(found)
         if "flow" in found:
             self.flows[found["right"]] += 1
         elif "summary" in found:
@@ -57,13 +71,15 @@ class Lines:
         return found
 
     def check_summary(self):
-        """Sees that the summary counts the flows that were told."""
-        if not all(type(self.summary[it]) is int for it in COUNTS):  # pylint: disable=unidiomatic-typecheck
+        """Sees that the summary counts the flows and the wants that were told."""
+        if any(type(self.summary[it]) is not int for it in counted(self.summary)):  # pylint: disable=C0123
             raise TypeError
         if self.summary["flows"] != sum(self.flows.values()):
             raise NoAudit("it doesn't tell all flows: it was made with --faults, or lines are missing")
         if [self.summary["wrong"], self.summary["unknown"]] != [self.flows[False], self.flows[None]]:
             raise NoAudit("it counts other flows as wrong than it tells")
+        if not self.wants.is_counted():
+            raise NoAudit("it counts other wants than it tells")
 
     def as_format_2(self, value):
         """Returns an object of format 1 as format 2 has it. There a flow isn't known to be wrong where the search for a

@@ -50,7 +50,8 @@ def line_of(work):
         warnings = warnings_of(work)
         status, text = int(bool(warnings)), ", ".join([f"{judged.counts['right']} flows right", *warnings])
     if status != 3:
-        parts = [cut(it, MOST_AGES) for it in work.ages().sentences()]
+        parts = [f"{judged.wants.count} wants unanswered"] if judged.wants.count else []
+        parts += [cut(it, MOST_AGES) for it in work.ages().sentences()]
     most = MOST_LETTERS
     if status != 3 and work.count:
         parts.append(changes_text(work.count, work.changes))
@@ -60,4 +61,5 @@ def line_of(work):
         counts = judged.counts
         line += f" | right={counts['right']} wrong={counts['wrong']};;0 unwanted={counts['unwanted']};0"
         line += f" unlisted={judged.unlisted}"
+        line += "" if judged.wants.count is None else f" asked={judged.wants.count}"
     return line, status

@@ -77,6 +77,6 @@ def main():
     page = page_of(audit, graph if graph.lay_out() else None, folder)
     if words.audit is None:
         folder.check()
-    counts = " ".join(f"{name} {audit.summary[name]}" for name in audits.COUNTS)
+    counts = " ".join(f"{name} {audit.summary[name]}" for name in audits.counted(audit.summary))
     write_page(words.o, page, f"{counts}, verdict {audit.verdict}")
     return 0 if audit.verdict == "yes" else 1

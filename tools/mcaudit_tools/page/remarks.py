@@ -14,6 +14,7 @@ from mcaudit_tools.page.explain import some
 from mcaudit_tools.page.markup import table_of, tag
 
 SHOWN_UNLISTED = 1000
+SHOWN_WANTS = 1000
 UNSEEN = ("What the files don't show: (*,G) entries and shared trees, netfilter, rp_filter, other "
           "multicast tables, links that are down, losses, and whatever changed since they were written. The guide "
           "tells of each under “What lies outside”")
@@ -116,6 +117,7 @@ def unjudged_section(audit, folder):
     items = [(words, more) for is_there, words, more in (
         (audit.without, f"Excluded routers, whose tables are unknown: {' '.join(audit.without)}", []),
         (audit.unlisted, f"Sources and groups that are no flow's: {len(audit.unlisted)}, told above", []),
+        (audit.wants.count, f"What hosts ask for and no flow answers: {wants_words(audit.wants)}, told above", []),
         (lone, "Vifs on no LAN of the topology. A copy that is sent there has left the domain, which is a Stray",
          [f"{domain.routers[router]}: {' '.join(lone[router])}" for router in sorted(lone)]),
         (absent, "Interfaces of the topology that the router's table of vifs hasn't", absent),
@@ -140,3 +142,30 @@ def unlisted_section(audit):
     return [tag("p", "The routers have rows of these, and no flow of the topology is of them: nothing is said of the "
                      "ways they go." + (f" Not shown: {', '.join(more)}." if more else "")),
             tag("div", table_of(("Source", "Group", "Routers", "Which", "Remark"), rows), class_="scroll")]
+
+
+def wants_words(wants):
+    """Returns how many wants of LANs there are."""
+    return f"{wants.count} want{'s' * (wants.count != 1)} of LANs"
+
+
+def wants_section(audit):
+    """Returns what hosts ask for and no flow answers."""
+    wants = audit.wants
+    if wants.count is None:
+        return [tag("p", "This isn't known: the mcaudit that answered was too old to say it.")]
+    ignored = f" Left aside, as --ignore says: {' '.join(audit.ignored)}." if audit.ignored else ""
+    services = ", ".join(f"{group} {name} on {some(lans)}" for group, name, lans in wants.services)
+    counted = [tag("p", f"Not counted, since most hosts ask for it by themselves: {services}.")] if services else []
+    if not wants.count:
+        return [tag("p", "Nothing: a flow that the topology lists answers whatever else the lists of the LANs have."
+                    + ignored), *counted]
+    rows = [tag("tr", *(tag("td", it) for it in (want.source, want.group, len(want.lans), some(want.lans),
+                                                 want.sentence(bool(audit.without)))))
+            for want in wants.all[:SHOWN_WANTS]]
+    rest = wants.count - sum(len(want.lans) for want in wants.all[:SHOWN_WANTS])
+    return [tag("p", f"{wants_words(wants)}, which no flow of the topology answers: the verdict says nothing of them. "
+                     "Where no router forwards what hosts ask for, they get nothing. * is any source."
+                     + ignored + (f" Not shown: {rest} more." if rest else "")),
+            tag("div", table_of(("Source", "Group", "LANs", "Which", "What the routers do"), rows), class_="scroll"),
+            *counted]

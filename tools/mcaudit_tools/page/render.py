@@ -7,7 +7,7 @@ from mcaudit_tools.common import PROGRAM
 from mcaudit_tools.page.explain import FLOW, MEANS, MISSED_PERHAPS, SEEN, some
 from mcaudit_tools.page.graph import DRAWING
 from mcaudit_tools.page.markup import Markup, digest, json_markup, table_of, tag
-from mcaudit_tools.page.remarks import collected_section, unjudged_section, unlisted_section
+from mcaudit_tools.page.remarks import collected_section, unjudged_section, unlisted_section, wants_section, wants_words
 from mcaudit_tools.page.travel import OUTCOMES
 
 # Where the page's script runs, the table is laid out once, when it is whole, and not again and again
@@ -38,6 +38,8 @@ def verdict_words(audit):
     if unwanted:
         flows_are = "flow is" if unwanted == 1 else "flows are"
         said += f" {unwanted} {flows_are} wanted by no LAN, as far as the reports show."
+    if audit.wants.count:
+        said += f" Beside that, hosts ask for what no flow answers: {wants_words(audit.wants)}."
     return said
 
 
@@ -46,7 +48,8 @@ def header(audit, site):
     summary, domain = audit.summary, audit.domain
     facts = [("Flows", summary["flows"]), *((it.capitalize(), summary[it]) for it in ("right", "wrong", "unknown")),
              ("Wanted by nobody", summary["unwanted"]), ("LANs", len(domain.lans)),
-             ("Routers", len(domain.routers)), ("Not listed", len(audit.unlisted))]
+             ("Routers", len(domain.routers)), ("Not listed", len(audit.unlisted)),
+             *([("Asked for, no flow", audit.wants.count)] if audit.wants.count is not None else [])]
     return tag("header", tag("p", SIGNS[audit.verdict], class_="sign", aria_hidden="true"),
                tag("div", tag("h1", f"Verdict: {audit.verdict}"), tag("p", verdict_words(audit)), class_="said"),
                tag("dl", *(tag("div", tag("dt", name), tag("dd", value)) for name, value in facts)),
@@ -134,7 +137,8 @@ def page_of(audit, graph, folder):
               f"script-src {digest(WAIT)} {digest(script)}")
     site = folder.named if folder else None
     named = f" of {site}" if site else ""
-    sections = [("Flows that are not listed", unlisted_section(audit)),
+    sections = [("What hosts ask for and no flow answers", wants_section(audit)),
+                ("Flows that are not listed", unlisted_section(audit)),
                 ("What was collected, and when", collected_section(audit.domain, folder)),
                 ("What is not judged", unjudged_section(audit, folder))]
     head = [tag("meta", charset="utf-8"), tag("meta", http_equiv="Content-Security-Policy", content=policy),

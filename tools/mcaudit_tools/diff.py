@@ -285,6 +285,8 @@ def change_text(change, was, now):
         return f"{said} now" if now else f"{said} no longer" if change == "left_out" else "some LAN wants it again"
     if change in ("reached", "wanted", "routers", "lans"):
         return sides("LANs" if change == "lans" else change, was, now)
+    if change == "forwarding":
+        return f"{now}, was {was}"
     if change == "asked":
         return f"come: asked for on {' '.join(now)}" if now else f"gone: it was asked for on {' '.join(was)}"
     if change in ("forwarder", "least_ttl", "incoming_interface"):

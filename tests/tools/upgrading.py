@@ -183,7 +183,7 @@ def readers_of_audits(place):
     for new, old in (("wrong: Missed l2", "no certificate"), ("unknown: Missed l2", "found ttl"),
                      ("\nexcluded r2\n", "\nwithout r2\n"), ("  excluded: r2", "  left out: "), ("unknown 1", "row (")):
         assert new in text and old not in text, (new, old, text)
-    for key in ("name", "order", "unknown", "onto", "wanted", "shown_from", "text"):
+    for key in ("name", "order", "unknown", "onto", "wanted", "shown_from", "at_ttl", "behind", "text", "asked"):
         assert f'"{key}":' in said and f"`{key}`" in section, (key, said)
     assert '"format":2' in said and "`format` is 2" in section and '"from_vif":' in place.audited("--json", NETWORK)
 

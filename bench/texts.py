@@ -138,14 +138,55 @@ def unlisted_of(domain):
         yield f"unlisted and {(len(pairs) - 20) * len(routers)} further rows\n"
 
 
+def wants_of(domain):
+    """What LANs ask for and no flow answers, by group and source, or 0 for any: the LANs, and what they exclude."""
+    listed, places, wants = {}, {}, {}
+    for flow in domain.flows:
+        listed.setdefault(flow.group, {})[flow.source] = True
+        places[flow.source] = flow.lan
+    for lan, reports in enumerate(domain.reports):
+        for group, excluded in reports.excluded.items():
+            left = excluded - reports.included.get(group, set())
+            if left.issuperset(listed.get(group, ())):
+                wants.setdefault((group, 0), {})[lan] = left
+        for group in reports.included.keys() - reports.excluded.keys():
+            for source in reports.included[group]:
+                if source not in listed.get(group, ()) and places.get(source) != lan:
+                    wants.setdefault((group, source), {})[lan] = ()
+    return wants, listed
+
+
+def asked_of(domain):
+    """The lines of what LANs ask for and no flow answers, and how many wants of LANs these are. Each other row goes out by
+    some vif, and stands in the tables of the first routers."""
+    wants, listed = wants_of(domain)
+    routers = [f"router-{router}" for router in range(min(domain.full, len(domain.plan.routers)))]
+    others = {}
+    for group, source in domain.others:
+        others.setdefault(group, set()).add(source)
+    lines = []
+    for (group, source), lans in sorted(wants.items())[:20]:
+        rows = others.get(group, set())
+        rest = [rows - {0} - set(left) for left in lans.values()] if source == 0 else [rows & {source}]
+        what = "forwarded by " if any(rest) else "no entry for it but (*,G) or (*,*) in " if 0 in rows else ""
+        told = [what + some(routers) if what else "no router forwards it"]
+        told += ["listed for the group: " + some(list(map(dotted, listed[group])))] if group in listed else []
+        names = some([f"lan-{lan}" for lan in sorted(lans)])
+        lines.append(f"asked {dotted(source) if source else '*'} {dotted(group)} lans {len(lans)}: {names}: {'; '.join(told)}\n")
+    count = sum(map(len, wants.values()))
+    more = count - sum(len(lans) for _, lans in sorted(wants.items())[:20])
+    return lines + ([f"asked and {more} more\n"] if more else []), count
+
+
 def audited_of(domain):
     """What audit writes of a domain whose flows are all right."""
     wanted = [wanted_of(domain, flow) for flow in domain.flows]
     *verdicts, last = verdicts_of(domain).splitlines(keepends=True)
     lines = [line for both in zip(verdicts, wanted) for line in both]
     flows, unwanted = len(wanted), sum(line.startswith("  wanted 0:") for line in wanted)
-    summary = f"summary flows {flows} right {flows} wrong 0 unknown 0 unwanted {unwanted}\n"
-    return "".join([*lines, *unlisted_of(domain), summary, last])
+    asked, count = asked_of(domain)
+    summary = f"summary flows {flows} right {flows} wrong 0 unknown 0 unwanted {unwanted} asked {count}\n"
+    return "".join([*lines, *unlisted_of(domain), *asked, summary, last])
 
 
 def travel_of(domain):

@@ -157,8 +157,8 @@ def wants_of(domain):
 
 
 def asked_of(domain):
-    """The lines of what LANs ask for and no flow answers, and how many wants of LANs these are. Each other row goes out by
-    some vif, and stands in the tables of the first routers."""
+    """The lines of what LANs ask for and no flow answers, and how many wants of LANs these are. Each row that is of no flow
+    goes out by some vif, and is in the tables of the first routers."""
     wants, listed = wants_of(domain)
     routers = [f"router-{router}" for router in range(min(domain.full, len(domain.plan.routers)))]
     others = {}
@@ -172,7 +172,8 @@ def asked_of(domain):
         told = [what + some(routers) if what else "no router forwards it"]
         told += ["listed for the group: " + some(list(map(dotted, listed[group])))] if group in listed else []
         names = some([f"lan-{lan}" for lan in sorted(lans)])
-        lines.append(f"asked {dotted(source) if source else '*'} {dotted(group)} lans {len(lans)}: {names}: {'; '.join(told)}\n")
+        want = f"{dotted(source) if source else '*'} {dotted(group)}"
+        lines.append(f"asked {want} lans {len(lans)}: {names}: {'; '.join(told)}\n")
     count = sum(map(len, wants.values()))
     more = count - sum(len(lans) for _, lans in sorted(wants.items())[:20])
     return lines + ([f"asked and {more} more\n"] if more else []), count

@@ -25,22 +25,19 @@ class Want:
     routers: list  # that forward it
     none: list  # that have an entry for it which forwards it nowhere
     star: list  # that have an entry for every source
+    key: tuple  # the group and the source as numbers, in whose order audit has them
 
     @classmethod
     def of(cls, told):
         """Returns what an object `asked` tells."""
-        source, group = ANY if told["source"] is None else told["source"], told["group"]
-        return cls(*names([source, group]), *(names(told[it]) for it in ("lans", "listed", "routers", "none", "star")))
+        source, group = names([ANY if told["source"] is None else told["source"], told["group"]])
+        key = tuple(int(ipaddress.IPv4Address(it)) for it in (group, "0.0.0.0" if source == ANY else source))
+        return cls(source, group, *(names(told[it]) for it in ("lans", "listed", "routers", "none", "star")), key)
 
     @property
     def name(self):
         """The source and the group."""
         return f"{self.source} {self.group}"
-
-    @property
-    def key(self):
-        """The group and the source as numbers, in whose order audit has them."""
-        return int(ipaddress.IPv4Address(self.group)), int(ipaddress.IPv4Address(self.source.replace(ANY, "0.0.0.0")))
 
     def what(self, has_unknown=False):
         """Returns what is done with it, as audit says that; it says so of tables that may be unknown too."""
@@ -73,6 +70,8 @@ class Wants:
             self.all.append(Want.of(line["asked"]))
         elif "asked_more" in line:
             self.more = line["asked_more"]["wants"]
+            if type(self.more) is not int:  # pylint: disable=unidiomatic-typecheck
+                raise TypeError
         elif "asked_services" in line:
             self.services = [(*names([it["group"], it["name"]]), names(it["lans"])) for it in line["asked_services"]]
         elif "summary" in line:
@@ -89,7 +88,7 @@ def changes_of_wants(old, new):
     if None in (old.count, new.count):
         return
     was, now = ({want.key: want for want in wants.all} for wants in (old, new))
-    known = min((max(wants) for wants, of in ((was, old), (now, new)) if of.more), default=None)
+    known = min((max(wants, default=(0, 0)) for wants, of in ((was, old), (now, new)) if of.more), default=None)
     for key in sorted({*was, *now}):
         if known is None or key <= known:
             before, after = was.get(key), now.get(key)

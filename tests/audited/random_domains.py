@@ -1,4 +1,5 @@
-"""Folders of small domains, made at random: most of a domain's rows make a tree, and then some of it is turned."""
+"""Folders of small domains, made at random: most of a domain's rows make a tree, and then some of it is turned. Some have
+a stray near a source, with a fault behind it, and in some hosts ask for what no flow lists."""
 import json
 import os
 import random

@@ -9,8 +9,9 @@ and as JSON, and end with the same status. An example is tried with all of WORDS
 TRIED of WORDS, beginning at its number, so that each set comes for half of them. For the examples, whose answers
 stand beside their folders and were read line by line against the tables, answers.py has to give these. Each kind of
 finding has to come, each kind of line that explains one, a finding that isn't known to make its flow wrong, one that
-is shown from some TTL on, each line behind the flows, and two trees that differ in a `from_vif` alone, or the domains
-would show too little. The last line counts the domains: `N passed, M failed`. The status is 0 if none failed and one
+is shown from some TTL on, and what the flow's own TTL shows then, each line of what is behind a stray, each place that
+a want has and what is said of it, each line behind the flows, and two trees that differ in a `from_vif` alone, or the
+domains would show too little. The last line counts the domains: `N passed, M failed`. The status is 0 if none failed and one
 was run.
 """
 import os

@@ -3,8 +3,8 @@
 # make test       the gate: every proof, the edits that must fail, the tests, the command-line cases, and those of tools/;
 #                 REPORT=FILE writes what each part took
 # make bench      runs the program on large domains, and writes what that took into bench/RESULTS.md (it needs python3);
-#                 BEFORE=PATH, an earlier build of the program, runs beside it. It fails where a certificate as `make`
-#                 writes it isn't read in a seventh of the time that the same takes behind one space
+#                 BEFORE=PATH, an earlier build of the program, runs beside it. It fails where a certificate in
+#                 another form takes more than twice the time that the same takes as `make` writes it, or 32 MiB
 # make fuzz       fuzzes each command with afl++ for an hour in all, on one core, and writes what that covered and found
 #                 into bench/fuzz.md; MINUTES=N takes N minutes, KEEP=FOLDER keeps the findings there
 # make lab        from routers to a verdict and a page, and each kind of fault to its remedy, in network namespaces (it
@@ -55,7 +55,7 @@ test:
 
 bench: $(PROGRAM)
 	python3 bench/run.py --write bench/RESULTS.md $(PROGRAM) $(BEFORE)
-	python3 bench/run.py $(PROGRAM) --only reading --bounds reading
+	python3 bench/run.py $(PROGRAM) --only forms --bounds forms,memory
 
 fuzz: $(PROGRAM)
 	python3 bench/fuzz/run.py $(PROGRAM) --write bench/fuzz.md $(if $(MINUTES),--minutes $(MINUTES)) $(if $(KEEP),--keep $(KEEP))

@@ -12,9 +12,10 @@ MIB = 2**20
 LEAST = 0.01  # seconds of the smallest size below which growth says nothing
 LEAST_BYTES = 10**6  # of an input below which the start of the process is most of what is measured
 MEMORY_OF = ("check", "audit")  # with the input
-BOUNDS = {"reading": 1 / 7, "growth": 1.1, "explaining": 2}
+BOUNDS = {"forms": 2, "memory": 32, "growth": 1.1, "explaining": 2}
 MEANING = {
-    "reading": "a certificate as written, of what it takes with one space before it: a check's time without a replay's",
+    "forms": "a certificate in another form, of what it takes as written: a check's time without a replay's",
+    "memory": "MiB of a check with a certificate in any form",
     "growth": "growth of processor time with the input, as an exponent, up to four times the size",
     "explaining": "an audit of 4,096 flows with a fault each, of what it took the program before",
 }
@@ -112,14 +113,18 @@ def memory_table(taken, programs):
     return table(["campus", "MiB of input", *memory, "memory / input"], rows) if rows else "Not measured.\n"
 
 
-def reading_quotient(taken):
-    """The time of the certificate as written, by that with a space before it. A check reads it beside the domain,
-    which a replay reads too; what is left of it also holds the verdicts, so the quotient is rather too great."""
-    pair = [taken[name] for name in shapes.READING if name in taken]
-    if len(pair) < 2:
-        return None
-    written, spaced = (one["check"][0].seconds[0] - one["replay"][0].seconds[0] for one in pair)
-    return written / spaced
+def reading_time(commands):
+    """The seconds of a check with a certificate, without those of a replay, which reads all but that. A check also holds
+    the verdicts, so this is rather too long."""
+    return commands["check"][0].seconds[0] - commands["replay"][0].seconds[0]
+
+
+def form_quotients(taken):
+    """Of each form that isn't the one that make writes, the time by that of the one that it writes."""
+    first, *others = shapes.FORMS
+    for name in others if first in taken else []:
+        if name in taken:
+            yield name, reading_time(taken[name]) / reading_time(taken[first])
 
 
 def time_and_memory(taken, programs, shown, command, words):
@@ -134,9 +139,9 @@ def time_and_memory(taken, programs, shown, command, words):
     return head, rows
 
 
-def reading_table(taken, programs):
-    """What a check took with the certificate as written, and with a space before it."""
-    head, rows = time_and_memory(taken, programs, shapes.READING, "check", lambda name: name.replace("-", " "))
+def forms_table(taken, programs):
+    """What a check took with the certificate in each form."""
+    head, rows = time_and_memory(taken, programs, shapes.FORMS, "check", lambda name: name.replace("-", " "))
     return table(["the certificate", "MB", *head], rows) if rows else "Not measured.\n"
 
 
@@ -154,9 +159,11 @@ def explaining_quotient(taken):
 
 def values_of(taken):
     """Whatever has a bound: its name, what it is of, and its value."""
-    quotient = reading_quotient(taken)
-    if quotient is not None:
-        yield "reading", "certificate, check", quotient
+    for name, quotient in form_quotients(taken):
+        yield "forms", f"{name}, check", quotient
+    for name in shapes.FORMS:
+        if name in taken:
+            yield "memory", f"{name}, check", memory_of(taken[name]["check"][0]) / 1024
     explaining = explaining_quotient(taken)
     if explaining is not None:
         yield "explaining", "faulty, audit", explaining
@@ -242,7 +249,6 @@ def page_of(taken, commits, runs, floor):
         floor=floor / 1024,
         least=LEAST * 1e3,
     )
-    quotient = reading_quotient(taken)
     return "\n".join([
         head,
         "## The ten shapes\n",
@@ -252,8 +258,7 @@ def page_of(taken, commits, runs, floor):
         "## Tables of unkind rows\n",
         table_of(taken, shapes.UNKIND, programs),
         "## Reading a certificate\n",
-        reading_table(taken, programs),
-        f"As written, of what it takes with one space before it: {shown(quotient, '.3f')}\n",
+        forms_table(taken, programs),
         "## Explaining faults\n",
         faulty_table(taken, programs),
         "## Bounds\n",

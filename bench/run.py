@@ -9,11 +9,11 @@ is held against what the domain says that it has to be (texts.py), and another o
 best of N runs (3, if not given, and some more of short ones) in processor time, of user and system, and the most
 memory of any.
 
---only    the names of shapes, with commas between; `unkind` means all tables of unkind rows, and `reading` the reading
-          of a certificate by its two ways; `faulty` has faults, which audit explains
+--only    the names of shapes, with commas between; `unkind` means all tables of unkind rows, and `forms` the forms of
+          a certificate; `faulty` has faults, which audit explains
 --write   writes the tables into this file too, as bench/RESULTS.md has them
 --bounds  ends with status 1 where something misses one of these bounds, or nothing was measured that has it: `growth`,
-          `reading`, `explaining` (which needs BEFORE), or some with commas between (results.py, BOUNDS)
+          `forms`, `memory`, `explaining` (which needs BEFORE), or some with commas between (results.py, BOUNDS)
 """
 import argparse
 import json
@@ -35,7 +35,7 @@ FEW = ("check", "audit")
 SIZES = [(share, COMMANDS) for share in (0.25, 0.5, 1)]
 SIZES_OF = {"campus": [(0.2706, COMMANDS), (0.5412, COMMANDS), (1, COMMANDS), (1.0776, FEW)]}  # 64, 128 and 256 MiB
 UNKIND_SIZES = [(share, FEW) for share in (0.25, 0.5, 1)]
-READING = 0.865  # the share of the shape whose certificate has 14 MB
+FORMS = 0.75  # the share of the shape whose certificate has 12 MB as make writes it
 SHORT = 0.5  # seconds of all runs of a case, below which it runs more often, MORE times as often at the most
 MORE = 5
 
@@ -185,11 +185,11 @@ def measure_shape(programs, name, sizes, runs):
     return {command: [size[command] for size in taken if command in size] for command in taken[0]}
 
 
-def measure_reading(programs, runs):
-    """The measures of a check with a certificate that is read by either of two ways, and of a replay without it."""
+def measure_forms(programs, runs):
+    """The measures of a check with a certificate in each form, and of a replay without it."""
     commands = ["check", "replay"]
-    taken = measure_together(programs, [(name, READING, commands) for name in shapes.READING], runs)
-    return {name: {each: [one[each]] for each in commands} for name, one in zip(shapes.READING, taken)}
+    taken = measure_together(programs, [(name, FORMS, commands) for name in shapes.FORMS], runs)
+    return {name: {each: [one[each]] for each in commands} for name, one in zip(shapes.FORMS, taken)}
 
 
 def measure_faulty(programs, name, runs):
@@ -211,8 +211,8 @@ def measure_all(programs, only, runs):
     """The measures of all that is asked for, by the names of shapes."""
     taken = {}
     for name in asked_for(only):
-        if name == "reading":
-            measured = measure_reading(programs, runs)
+        if name == "forms":
+            measured = measure_forms(programs, runs)
         elif name in shapes.FAULTY:
             measured = measure_faulty(programs, name, runs)
         elif name in shapes.UNKIND:
@@ -227,7 +227,7 @@ def measure_all(programs, only, runs):
 
 def asked_for(only):
     """The names of what is measured."""
-    known = [*shapes.SHAPES, *shapes.UNKIND, "reading", *shapes.FAULTY]
+    known = [*shapes.SHAPES, *shapes.UNKIND, "forms", *shapes.FAULTY]
     groups = {"unkind": list(shapes.UNKIND)}
     names = [name for word in only.split(",") for name in groups.get(word, [word])] if only else known
     for name in names:

@@ -108,6 +108,34 @@ def certificate_of(domain):
     return f'{{"flows":[{",".join(flows)}],"trees":[{",".join(trees)}],"version":2}}\n'
 
 
+def version_one(certificate):
+    """The certificate in version 1, each flow with its own entries."""
+    trees = certificate["trees"]
+    flows = (
+        {"group": flow["group"], "reached": trees[flow["tree"]], "source": flow["source"]}
+        for flow in certificate["flows"]
+    )
+    return {"flows": list(flows), "version": 1}
+
+
+def turned(value):
+    """A value whose objects have their keys the other way round."""
+    if isinstance(value, dict):
+        return {key: turned(value[key]) for key in reversed(value)}
+    return [turned(one) for one in value] if isinstance(value, list) else value
+
+
+def certificate_in(form, text):
+    """The same certificate in this form: `as-written`, `version-one`, `spaced` or `turned`."""
+    if form == "as-written":
+        return text
+    certificate = json.loads(text)
+    if form == "spaced":
+        return json.dumps(certificate)
+    other = version_one(certificate) if form == "version-one" else turned(certificate)
+    return json.dumps(other, separators=(",", ":"))
+
+
 def verdicts_of(domain):
     """What check writes of a domain whose flows are all right."""
     lines = []
@@ -183,8 +211,8 @@ def write_text(path, text):
         file.write(text)
 
 
-def write(domain, folder, before=""):
-    """Writes all of these files into a folder; the bundle's certificate with some text before it."""
+def write(domain, folder, form="as-written"):
+    """Writes all of these files into a folder; the bundle's certificate in this form."""
     os.mkdir(f"{folder}/files")
     with open(f"{folder}/bundle", "w", encoding="ascii") as bundle:
         bundle.write("mcaudit bundle 1\n")
@@ -194,7 +222,7 @@ def write(domain, folder, before=""):
     shutil.copyfile(f"{folder}/bundle", f"{folder}/certified")
     certificate = certificate_of(domain)
     with open(f"{folder}/certified", "a", encoding="ascii") as certified:
-        certified.write(framed("certificate", before + certificate) + "end\n")
+        certified.write(framed("certificate", certificate_in(form, certificate)) + "end\n")
     with open(f"{folder}/bundle", "a", encoding="ascii") as bundle:
         bundle.write("end\n")
     write_text(f"{folder}/certificate", certificate)

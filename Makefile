@@ -1,16 +1,22 @@
-# make            builds the proved program, crates/mcaudit/out/mcaudit
-# make example    shows an audit of a fault and of its mending, and the whole way to a verdict; by the program if it is built
+# make            builds the proved program, crates/mcaudit/out/mcaudit: each library once those that it uses are
+#                 proved, as many at once as there are cores and 4 GB of free memory each, at most 4, or so many as
+#                 `make -j N` or `make JOBS=N` says; what is proved already, and unchanged, takes moments
+# make example    shows an audit of a fault and of its fix, and the whole path to a verdict; by the program if it is built
 # make test       the gate: every proof, the edits that must fail, the tests, the command-line cases, and those of tools/;
 #                 REPORT=FILE writes what each part took
 # make bench      runs the program on large domains, and writes what that took into bench/RESULTS.md (it needs python3);
-#                 BEFORE=PATH, an earlier build of the program, runs beside it. It fails where a certificate as `make`
-#                 writes it isn't read in a seventh of the time that the same takes behind one space, or where
-#                 mcaudit-plan takes more time or memory for 4,096 flows than bench/plan.py allows
+#                 at its end stands what a byte and a line cost, in time and, where valgrind is there, in instructions,
+#                 which repeat. BEFORE=PATH, an earlier build of the program, runs beside it. It fails where a domain
+#                 takes more than 24 MiB, or a certificate in another form more than twice the time that the same takes
+#                 as `make` writes it, or 32 MiB, or where mcaudit-plan takes more time or memory for 4,096 flows than
+#                 bench/plan.py allows
 # make fuzz       fuzzes each command with afl++ for an hour in all, on one core, and writes what that covered and found
 #                 into bench/fuzz.md; MINUTES=N takes N minutes, KEEP=FOLDER keeps the findings there
-# make lab        from routers to a verdict and a page, and each kind of fault to its plan and its remedy, in network
-#                 namespaces (it needs root; the file `packages` says what else); PAGES=FOLDER keeps the pages there
+# make lab        from routers to a verdict and a page, each kind of fault to its plan and its remedy, and what the guide
+#                 shows of routers, in network namespaces (it needs root; the file `packages` says what else);
+#                 PAGES=FOLDER keeps the pages there
 # make page-test  tries the page of mcaudit-page in a headless Chromium; PICTURES=FOLDER writes pictures of it there
+# make proofs     writes docs/PROOFS.md: each public call of the library crates, with the clauses that are proved of it
 # make install    puts the program and its tools into $(PREFIX)/bin, what the tools share, the manual pages and the
 #                 completions for bash, zsh and fish into $(PREFIX)/share, and the units of systemd and their user into
 #                 $(PREFIX)/lib; ZSH=FOLDER is where zsh looks for functions
@@ -34,16 +40,16 @@ ZSH = $(PREFIX)/share/zsh/site-functions
 # a word of the shell, whatever is in it
 quoted = '$(subst ','\'',$(1))'
 SOURCES = $(shell find crates \( -path '*/out' -o -path 'crates/mc_tests_*' \) -prune -o -type f \( -name '*.rt' -o -name '*.antt' \) -print) crates.txt
-# the libraries below the program, lowest first
-LIBRARIES = $(filter-out mcaudit mc_tests_%,$(shell sed -n 's/^\([a-z_]*\):.*/\1/p' crates.txt))
+# how many libraries are proved at once: the N of -j N, if there is one, and otherwise as crates/prove.py has it
+JOBS ?= $(patsubst -j%,%,$(filter -j%,$(MAKEFLAGS)))
 
-.PHONY: all example test bench fuzz lab page-test install uninstall dist deb
+.PHONY: all example test bench fuzz lab page-test proofs install uninstall dist deb
 
 all: $(PROGRAM)
 
 $(PROGRAM): $(SOURCES)
 	rm -f $(PROGRAM)
-	sh crates/prove.sh $(LIBRARIES)
+	python3 crates/prove.py $(if $(JOBS),--jobs $(JOBS)) mcaudit
 	cd crates/mcaudit && rt run -- check < stdin
 	test -x $(PROGRAM)
 
@@ -55,9 +61,10 @@ test:
 	python3 tests/gate/run.py $(REPORT)
 
 bench: $(PROGRAM)
-	python3 bench/run.py --write bench/RESULTS.md $(PROGRAM) $(BEFORE)
-	python3 bench/run.py $(PROGRAM) --only reading --bounds reading
-	python3 bench/plan.py $(PROGRAM)
+	python3 bench/run.py $(PROGRAM) --only forms --bounds forms,forms-memory; status=$$?; \
+	python3 bench/plan.py $(PROGRAM) || status=1; \
+	python3 bench/run.py --write bench/RESULTS.md --bounds memory $(PROGRAM) $(BEFORE) || status=1; \
+	exit $$status
 
 fuzz: $(PROGRAM)
 	python3 bench/fuzz/run.py $(PROGRAM) --write bench/fuzz.md $(if $(MINUTES),--minutes $(MINUTES)) $(if $(KEEP),--keep $(KEEP))
@@ -69,10 +76,16 @@ lab: $(PROGRAM)
 	python3 tests/lab/premises.py $(PROGRAM) --ssh
 	python3 tests/lab/conf.py $(PROGRAM)
 	python3 tests/lab/hosts.py $(PROGRAM)
+	python3 tests/lab/guide.py $(PROGRAM)
 
 page-test:
 	sh tests/packages.sh page
 	python3 tests/page/run.py $(PICTURES)
+
+proofs: docs/PROOFS.md
+
+docs/PROOFS.md: $(SOURCES) tests/docs/proofs.py
+	python3 tests/docs/proofs.py $@
 
 install: $(PROGRAM)
 	install -D -m 755 $(call quoted,$(PROGRAM)) $(call quoted,$(DESTDIR)$(PREFIX)/bin/mcaudit)

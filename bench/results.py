@@ -12,20 +12,23 @@ MIB = 2**20
 LEAST = 0.01  # seconds of the smallest size below which growth says nothing
 LEAST_BYTES = 10**6  # of an input below which the start of the process is most of what is measured
 MEMORY_OF = ("check", "audit")  # with the input
-BOUNDS = {"reading": 1 / 7, "growth": 1.1, "explaining": 2}
+BOUNDS = {"memory": 24, "forms": 2, "forms-memory": 32, "growth": 1.1, "explaining": 2}
 MEANING = {
-    "reading": "a certificate as written, of what it takes with one space before it: a check's time without a replay's",
+    "memory": "MiB of any command on any shape, but for the forms of a certificate",
+    "forms": "a certificate in another form, of what it takes as written: a check's time without a replay's",
+    "forms-memory": "MiB of a check with a certificate in any form",
     "growth": "growth of processor time with the input, as an exponent, up to four times the size",
     "explaining": "an audit of 4,096 flows with a fault each, of what it took the program before",
 }
 
 
 class Measure(NamedTuple):
-    """What a command took at one size: the bytes that it read, the seconds of `wc -l` over them, and of each program
-    the seconds and the most memory in KiB."""
+    """What a command took at one size: the bytes and the lines that it read, the seconds of `wc -l` over them, and of
+    each program the seconds and the most memory in KiB."""
 
     size: int
-    lines: float
+    lines: int
+    counting: float
     seconds: list
     kib: list
 
@@ -73,7 +76,7 @@ def row_of(title, sizes, at):
     if len(whole.seconds) > 1:
         row.append(f"{whole.seconds[0] / whole.seconds[1]:.2f}")
     row.append(shown(whole.size / 1e6 / whole.seconds[0] if large else None, ".0f"))
-    row.append(shown(whole.seconds[0] / whole.lines if large else None, ".0f"))
+    row.append(shown(whole.seconds[0] / whole.counting if large else None, ".0f"))
     for kib in reversed(whole.kib):
         row.append(f"{kib / 1024:,.0f}")
     if len(whole.kib) > 1:
@@ -88,7 +91,7 @@ def head_of(programs):
     if programs == 1:
         took, memory = ["ms"], ["MiB"]
     else:
-        took, memory = ["ms before", "ms", "of before"], ["MiB before", "MiB", "of before"]
+        took, memory = ["ms before", "ms", "ratio"], ["MiB before", "MiB", "ratio"]
     return ["", "MB", *took, "MB/s", "× `wc -l`", *memory, "time ×2", "time ×4", "memory ×2", "memory ×4"]
 
 
@@ -112,14 +115,18 @@ def memory_table(taken, programs):
     return table(["campus", "MiB of input", *memory, "memory / input"], rows) if rows else "Not measured.\n"
 
 
-def reading_quotient(taken):
-    """The time of the certificate as written, by that with a space before it. A check reads it beside the domain,
-    which a replay reads too; what is left of it also holds the verdicts, so the quotient is rather too great."""
-    pair = [taken[name] for name in shapes.READING if name in taken]
-    if len(pair) < 2:
-        return None
-    written, spaced = (one["check"][0].seconds[0] - one["replay"][0].seconds[0] for one in pair)
-    return written / spaced
+def reading_time(commands):
+    """The seconds of a check with a certificate, without those of a replay, which reads all but that. A check also holds
+    the verdicts, so this is rather too long."""
+    return commands["check"][0].seconds[0] - commands["replay"][0].seconds[0]
+
+
+def form_quotients(taken):
+    """Of each form that isn't the one that make writes, the time by that of the one that it writes."""
+    first, *others = shapes.FORMS
+    for name in others if first in taken else []:
+        if name in taken:
+            yield name, reading_time(taken[name]) / reading_time(taken[first])
 
 
 def time_and_memory(taken, programs, shown, command, words):
@@ -134,9 +141,9 @@ def time_and_memory(taken, programs, shown, command, words):
     return head, rows
 
 
-def reading_table(taken, programs):
-    """What a check took with the certificate as written, and with a space before it."""
-    head, rows = time_and_memory(taken, programs, shapes.READING, "check", lambda name: name.replace("-", " "))
+def forms_table(taken, programs):
+    """What a check took with the certificate in each form."""
+    head, rows = time_and_memory(taken, programs, shapes.FORMS, "check", lambda name: name.replace("-", " "))
     return table(["the certificate", "MB", *head], rows) if rows else "Not measured.\n"
 
 
@@ -154,9 +161,14 @@ def explaining_quotient(taken):
 
 def values_of(taken):
     """Whatever has a bound: its name, what it is of, and its value."""
-    quotient = reading_quotient(taken)
-    if quotient is not None:
-        yield "reading", "certificate, check", quotient
+    for name, quotient in form_quotients(taken):
+        yield "forms", f"{name}, check", quotient
+    for name in shapes.FORMS:
+        if name in taken:
+            yield "forms-memory", f"{name}, check", memory_of(taken[name]["check"][0]) / 1024
+    for name in [*shapes.SHAPES, *shapes.UNKIND, *shapes.FAULTY]:
+        for command, sizes in taken.get(name, {}).items():
+            yield "memory", f"{name}, {command}", max(map(memory_of, sizes)) / 1024
     explaining = explaining_quotient(taken)
     if explaining is not None:
         yield "explaining", "faulty, audit", explaining
@@ -223,10 +235,10 @@ Written by `make bench`, which says at the head of `bench/shapes.py` what the sh
 - {day}, {machine}
 - the program of {commits}; the best of {runs} runs of each command, load at the end {load:.1f}
 - ms: processor time of the whole run, user and system. `wc -l`: the processor time of that program over the same bytes
-- MiB: the most memory that the run had; below {floor:.0f} MiB it can't be told, since the process that starts it has
-  as much
+- MiB: the most memory that the run had; below {floor:.0f} MiB it is unknown, since the process that starts it has as
+  much
 - ×2, ×4: the exponent with which time and memory grow with the input from a quarter of it to a half and to the
-  whole: 1 is in proportion. It isn't told where the quarter takes less than {least:.0f} ms
+  whole: 1 is in proportion. It is left out where the quarter takes less than {least:.0f} ms
 """
 
 
@@ -242,7 +254,6 @@ def page_of(taken, commits, runs, floor):
         floor=floor / 1024,
         least=LEAST * 1e3,
     )
-    quotient = reading_quotient(taken)
     return "\n".join([
         head,
         "## The ten shapes\n",
@@ -252,8 +263,7 @@ def page_of(taken, commits, runs, floor):
         "## Tables of unkind rows\n",
         table_of(taken, shapes.UNKIND, programs),
         "## Reading a certificate\n",
-        reading_table(taken, programs),
-        f"As written, of what it takes with one space before it: {shown(quotient, '.3f')}\n",
+        forms_table(taken, programs),
         "## Explaining faults\n",
         faulty_table(taken, programs),
         "## Bounds\n",

@@ -17,8 +17,8 @@ Each takes a share of its whole size, and scales what it is large in: rows, flow
 Then come tables whose rows may be unkind to how they are kept, all of 4 routers with 65,536 rows and 4,096 listed
 flows: unordered, as a measure for the others; equal beginnings; ascending; descending; one group; one source.
 
-Then the shape `certificate` twice, once with the certificate as make writes it, and once with one space before it, so
-that it is read as any other JSON text.
+Then the shape `certificate` four times: with the certificate as make writes it, in version 1, with spaces, and with the
+keys of its objects turned round.
 
 And last `faulty`, the shape `chain` with the rows beside each source sending to nobody: each of the 4,096 flows misses
 LANs, and the search for the first of them goes along some 120 routers.
@@ -305,7 +305,7 @@ UNKIND = {
 }
 
 
-READING = {"as-written": certificate, "one-space-before": certificate}
+FORMS = {form: certificate for form in ("as-written", "version-one", "spaced", "turned")}
 
 
 def faulty(rng, share):
@@ -332,8 +332,8 @@ def write_faulty_answers(folder):
 
 def main():
     name, share, folder = sys.argv[1:]
-    domain = (SHAPES | UNKIND | READING | FAULTY)[name](random.Random(SEED), float(share))
-    texts.write(domain, folder, " " if name == "one-space-before" else "")
+    domain = (SHAPES | UNKIND | FORMS | FAULTY)[name](random.Random(SEED), float(share))
+    texts.write(domain, folder, name if name in FORMS else "as-written")
     if name in FAULTY:
         write_faulty_answers(folder)
 

@@ -108,6 +108,34 @@ def certificate_of(domain):
     return f'{{"flows":[{",".join(flows)}],"trees":[{",".join(trees)}],"version":2}}\n'
 
 
+def version_one(certificate):
+    """The certificate in version 1, each flow with its own entries."""
+    trees = certificate["trees"]
+    flows = (
+        {"group": flow["group"], "reached": trees[flow["tree"]], "source": flow["source"]}
+        for flow in certificate["flows"]
+    )
+    return {"flows": list(flows), "version": 1}
+
+
+def turned(value):
+    """A value whose objects have their keys the other way round."""
+    if isinstance(value, dict):
+        return {key: turned(value[key]) for key in reversed(value)}
+    return [turned(one) for one in value] if isinstance(value, list) else value
+
+
+def certificate_in(form, text):
+    """The same certificate in this form: `as-written`, `version-one`, `spaced` or `turned`."""
+    if form == "as-written":
+        return text
+    certificate = json.loads(text)
+    if form == "spaced":
+        return json.dumps(certificate)
+    other = version_one(certificate) if form == "version-one" else turned(certificate)
+    return json.dumps(other, separators=(",", ":"))
+
+
 def verdicts_of(domain):
     """What check writes of a domain whose flows are all right."""
     lines = []
@@ -138,14 +166,56 @@ def unlisted_of(domain):
         yield f"unlisted and {(len(pairs) - 20) * len(routers)} further rows\n"
 
 
+def wants_of(domain):
+    """What LANs ask for and no flow answers, by group and source, or 0 for any: the LANs, and what they exclude."""
+    listed, places, wants = {}, {}, {}
+    for flow in domain.flows:
+        listed.setdefault(flow.group, {})[flow.source] = True
+        places[flow.source] = flow.lan
+    for lan, reports in enumerate(domain.reports):
+        for group, excluded in reports.excluded.items():
+            left = excluded - reports.included.get(group, set())
+            if left.issuperset(listed.get(group, ())):
+                wants.setdefault((group, 0), {})[lan] = left
+        for group in reports.included.keys() - reports.excluded.keys():
+            for source in reports.included[group]:
+                if source not in listed.get(group, ()) and places.get(source) != lan:
+                    wants.setdefault((group, source), {})[lan] = ()
+    return wants, listed
+
+
+def asked_of(domain):
+    """The lines of what LANs ask for and no flow answers, and how many wants of LANs these are. Each row that is of no flow
+    goes out by some vif, and is in the tables of the first routers."""
+    wants, listed = wants_of(domain)
+    routers = [f"router-{router}" for router in range(min(domain.full, len(domain.plan.routers)))]
+    others = {}
+    for group, source in domain.others:
+        others.setdefault(group, set()).add(source)
+    lines = []
+    for (group, source), lans in sorted(wants.items())[:20]:
+        rows = others.get(group, set())
+        rest = [rows - {0} - set(left) for left in lans.values()] if source == 0 else [rows & {source}]
+        what = "forwarded by " if any(rest) else "no entry for it but (*,G) or (*,*) in " if 0 in rows else ""
+        told = [what + some(routers) if what else "no router forwards it"]
+        told += ["listed for the group: " + some(list(map(dotted, listed[group])))] if group in listed else []
+        names = some([f"lan-{lan}" for lan in sorted(lans)])
+        want = f"{dotted(source) if source else '*'} {dotted(group)}"
+        lines.append(f"asked {want} lans {len(lans)}: {names}: {'; '.join(told)}\n")
+    count = sum(map(len, wants.values()))
+    more = count - sum(len(lans) for _, lans in sorted(wants.items())[:20])
+    return lines + ([f"asked and {more} more\n"] if more else []), count
+
+
 def audited_of(domain):
     """What audit writes of a domain whose flows are all right."""
     wanted = [wanted_of(domain, flow) for flow in domain.flows]
     *verdicts, last = verdicts_of(domain).splitlines(keepends=True)
     lines = [line for both in zip(verdicts, wanted) for line in both]
     flows, unwanted = len(wanted), sum(line.startswith("  wanted 0:") for line in wanted)
-    summary = f"summary flows {flows} right {flows} wrong 0 unknown 0 unwanted {unwanted}\n"
-    return "".join([*lines, *unlisted_of(domain), summary, last])
+    asked, count = asked_of(domain)
+    summary = f"summary flows {flows} right {flows} wrong 0 unknown 0 unwanted {unwanted} asked {count}\n"
+    return "".join([*lines, *unlisted_of(domain), *asked, summary, last])
 
 
 def travel_of(domain):
@@ -183,8 +253,8 @@ def write_text(path, text):
         file.write(text)
 
 
-def write(domain, folder, before=""):
-    """Writes all of these files into a folder; the bundle's certificate with some text before it."""
+def write(domain, folder, form="as-written"):
+    """Writes all of these files into a folder; the bundle's certificate in this form."""
     os.mkdir(f"{folder}/files")
     with open(f"{folder}/bundle", "w", encoding="ascii") as bundle:
         bundle.write("mcaudit bundle 1\n")
@@ -194,7 +264,7 @@ def write(domain, folder, before=""):
     shutil.copyfile(f"{folder}/bundle", f"{folder}/certified")
     certificate = certificate_of(domain)
     with open(f"{folder}/certified", "a", encoding="ascii") as certified:
-        certified.write(framed("certificate", before + certificate) + "end\n")
+        certified.write(framed("certificate", certificate_in(form, certificate)) + "end\n")
     with open(f"{folder}/bundle", "a", encoding="ascii") as bundle:
         bundle.write("end\n")
     write_text(f"{folder}/certificate", certificate)

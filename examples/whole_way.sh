@@ -1,6 +1,6 @@
 #!/bin/sh
 # Shows the whole way from captured files to what mcaudit says of them, on copies of two folders beside this
-# script: what an audit says of the second, whose domain has a fault, and of the same with the fault mended; the
+# script: what an audit says of the second, whose domain has a fault, and of the same with the fault fixed; the
 # certificate and the verdict of the first; and the travel that shows the fault. Usage: whole_way.sh [PROGRAM]
 #
 # The folder steps/ has of each step its words and what it must write; a step that reads gets what the step
@@ -16,14 +16,14 @@ scratch=$(mktemp -d) || exit 1
 trap 'rm -rf "$scratch"' EXIT
 cp -R "$examples/network" "$examples/second-router" "$examples/steps" "$scratch" || exit 1
 cd "$scratch" || exit 1
-cp -R second-router mended || exit 1
-sed /0500000A/d second-router/cache-r3 > mended/cache-r3
+cp -R second-router fixed || exit 1
+sed 's/ 1:1$//' second-router/cache-r2 > fixed/cache-r2
 cp steps/make-network.stdout network/certificate
 
 # Each step, its standard input, and its status.
 statuses='
 audit-second-router - 1
-audit-mended - 0
+audit-fixed - 0
 pack-network - 0
 make-network pack-network 0
 pack-certified - 0
@@ -52,7 +52,7 @@ run_program() {
 # Runs the source on each step, unproved, with copies of the files of all folders.
 run_source() {
     set --
-    for file in network/* second-router/* mended/*; do
+    for file in network/* second-router/* fixed/*; do
         set -- "$@" --data "$file=$scratch/$file"
     done
     (cd "$examples/../crates/mcaudit" && rt try --cases "$scratch/steps" "$@") > said 2>&1 ||
@@ -82,8 +82,8 @@ echo "$statuses" | while read -r step _ wanted; do
 done || exit 1
 
 show "mcaudit audit second-router --travel" audit-second-router
-show "cp -R second-router mended && sed -i /0500000A/d mended/cache-r3"
-show "mcaudit audit mended" audit-mended
+show "cp -R second-router fixed && sed -i 's/ 1:1$//' fixed/cache-r2   # eth1 out of r2's entry, as the line fix says"
+show "mcaudit audit fixed" audit-fixed
 show "mcaudit pack network | mcaudit make | tee network/certificate" make-network
 show "mcaudit pack network --certificate | mcaudit check" check-certified
 show "mcaudit pack second-router | mcaudit replay 1 255" replay-second-router

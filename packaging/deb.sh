@@ -11,6 +11,7 @@ mkdir -p out "$room/DEBIAN" "$room/usr/share/doc/mcaudit"
 make -s install DESTDIR="$room" PREFIX=/usr ZSH=/usr/share/zsh/vendor-completions
 gzip -9n "$room"/usr/share/man/man1/*.1
 cp README.md docs/GUIDE.md docs/FORMATS.md docs/PROMISES.md docs/audit.schema.json "$room/usr/share/doc/mcaudit"
+python3 tests/docs/proofs.py "$room/usr/share/doc/mcaudit/PROOFS.md"
 maintainer=$(git log -1 --format='%an <%ae>')
 python3 -I packaging/debian_changelog.py "$maintainer" "$(git log -1 --format=%ct)" |
     gzip -9n > "$room/usr/share/doc/mcaudit/changelog.gz"

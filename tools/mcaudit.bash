@@ -1,4 +1,4 @@
-# mcaudit.bash: completes the words of mcaudit and of its tools in bash.
+# mcaudit.bash: completes the arguments of mcaudit and of its tools in bash.
 
 _mcaudit() {
     local word=${COMP_WORDS[COMP_CWORD]}
@@ -13,9 +13,9 @@ _mcaudit() {
     case ${COMP_WORDS[1]} in
         audit | pack)
             if [ "${COMP_WORDS[1]}" = audit ]; then
-                option='--travel --faults --unlisted --strict --json --without'
-                # the word behind is a router, whatever it begins with
-                if [ "$before" = --without ]; then return; fi
+                option='--travel --faults --unlisted --strict --json --without --ignore'
+                # its argument is a router or a range, whatever it begins with
+                case $before in --without | --ignore) return ;; esac
             fi
             case $word in
                 -*) mapfile -t COMPREPLY < <(compgen -W "$option" -- "$word") ;;
@@ -34,7 +34,7 @@ _mcaudit() {
     esac
 }
 
-# Completes a word of a tool: one of the options of the further words, a file behind an option that takes
+# Completes an argument of a tool: one of the options of the further words, a file after an option that takes
 # one, or else the name of the kind.
 _mcaudit_tool() {
     local word=$1 before=$2 kind=$3

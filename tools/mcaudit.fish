@@ -1,10 +1,10 @@
-# mcaudit.fish: completes the words of mcaudit and of its tools in fish.
+# mcaudit.fish: completes the arguments of mcaudit and of its tools in fish.
 
-# Completes options of a tool where the condition holds. Each is told as `--name:what stands behind it:about`; behind
-# it stand nothing, a value that isn't known, a file, a folder, or one of some words.
+# Completes options of a tool where the condition holds. Each is given as `--name:value:about`; its value is empty for
+# none, `value` for one that isn't known, `file`, `folder`, or the words of which it is one.
 function __mcaudit_options --argument-names tool condition
-    for told in $argv[3..]
-        set -l parts (string split -m 2 : -- $told)
+    for given in $argv[3..]
+        set -l parts (string split -m 2 : -- $given)
         set -l option -c $tool -n $condition -d $parts[3]
         set -l name (string replace -r '^-+' '' -- $parts[1])
         if test (string length $name) -eq 1
@@ -27,11 +27,11 @@ function __mcaudit_options --argument-names tool condition
     end
 end
 
-# Completes the first word of a program by commands that are told as `name:about`.
+# Completes the first argument of a program by commands that are given as `name:about`.
 function __mcaudit_commands --argument-names program
     complete -c $program -f
-    for told in $argv[2..]
-        set -l parts (string split -m 1 : $told)
+    for given in $argv[2..]
+        set -l parts (string split -m 1 : $given)
         complete -c $program -n __fish_use_subcommand -a $parts[1] -d $parts[2]
     end
 end
@@ -41,15 +41,15 @@ function __mcaudit_folders --argument-names program condition
     complete -c $program -n $condition -f -a '(__fish_complete_directories)'
 end
 
-# Whether this is the command of the words, or of what is there of them.
+# Whether this is the command of the arguments, as far as they are there.
 function __mcaudit_command_is --argument-names command
     contains -- $command (commandline -opc)[2]
 end
 
 # what several tools have
 set -l help '--help::print help'
-set -l told_version '--version::print the version'
-set -l about $told_version $help
+set -l print_version '--version::print the version'
+set -l about $print_version $help
 set -l routers '--routers:file:take the routers of a file too' '--ssh:value:reach a host by this command'
 set -l timeout '--timeout:value:give a router up when a reading takes longer'
 set -l readings \
@@ -66,32 +66,33 @@ set -l asking \
     '--empty::write a list though no host answered' \
     '--empty-lan:value:the same for this LAN alone' \
     '--ask::ask where no query comes' \
-    '--ask-routers::ask also where two routers lie on a LAN' \
+    '--ask-routers::ask also on LANs with two or more listed routers' \
     '--tries:value:gather again, so many times in all' \
     '--wait:value:wait so long for a query' \
     '--listen:value:capture for so long at least' \
     '--from-daemon::take the lists of what the daemons of routers believe'
 
-# the word behind --without is a router, whatever it begins with
-set -l audit '__mcaudit_command_is audit; and not __fish_prev_arg_in --without'
+# the argument of --without is a router, and that of --ignore a range, whatever it begins with
+set -l audit '__mcaudit_command_is audit; and not __fish_prev_arg_in --without --ignore'
 __mcaudit_commands mcaudit \
     'audit:judge each flow of the files of a folder' \
     'check:judge each flow of a bundle by its certificate' \
     'make:make the certificate of a bundle' \
     'pack:pack the files of a folder into a bundle' \
     'replay:show the travel of one packet' \
-    'wants:tell whether a LAN wants what a source sends' \
+    'wants:print whether a LAN wants what a source sends' \
     'help:print the help of the program or of a command'
 complete -c mcaudit -n '__mcaudit_command_is help; and test (count (commandline -opc)) -eq 2' \
     -f -a 'audit check make pack replay wants'
-__mcaudit_options mcaudit __fish_use_subcommand $told_version
+__mcaudit_options mcaudit __fish_use_subcommand $print_version
 __mcaudit_options mcaudit $audit \
-    '--travel::tell the travel of each packet that shows a fault' \
+    '--travel::print the travel of each packet that shows a fault' \
     '--faults::leave out the flows that are right and wanted' \
-    '--unlisted::tell all unlisted sources and groups' \
-    '--strict::end with status 1 where a flow that is right is wanted by nobody' \
+    '--unlisted::list all unlisted sources and groups' \
+    '--strict::end with status 1 where nobody wants a flow, or no flow answers what hosts ask for' \
     '--json::write an object a line' \
-    '--without:value:audit without the tables of a router'
+    '--without:value:audit without the tables of a router' \
+    '--ignore:value:ignore what hosts ask for in a range of groups'
 __mcaudit_folders mcaudit $audit
 __mcaudit_options mcaudit '__mcaudit_command_is pack' '--certificate::pack the certificate too'
 __mcaudit_folders mcaudit '__mcaudit_command_is pack'
@@ -106,10 +107,10 @@ for tool in mcaudit-collect mcaudit-diff mcaudit-draft mcaudit-monitor mcaudit-p
     __mcaudit_options $tool true $about
 end
 __mcaudit_options mcaudit-collect true $routers $timeout $readings $believed \
-    '--shell:value:run a shell on a router by its way'
+    '--shell:value:run a shell on a router'
 __mcaudit_options mcaudit-diff true '--json::print an object a line'
 __mcaudit_options mcaudit-draft true $routers $timeout \
-    '--ttl:value:the time to live of all flows' \
+    '--ttl:value:the TTL of all flows' \
     '--flows:file:take the flows of this list too' \
     '--measure:value:wait so long for packets of a flow' \
     '--update::print what differs from the topology that is there'
@@ -164,14 +165,14 @@ __mcaudit_commands mcaudit-site 'init:draft, collect, gather and judge' 'lans:pr
 __mcaudit_options mcaudit-site __fish_use_subcommand $about
 __mcaudit_options mcaudit-site 'not __fish_use_subcommand' $help
 __mcaudit_options mcaudit-site '__fish_seen_subcommand_from init' $routers $asking \
-    '--ttl:value:the time to live of all flows' \
+    '--ttl:value:the TTL of all flows' \
     '--facts::bring what decides beside the tables what a router forwards'
 __mcaudit_folders mcaudit-site 'not __fish_use_subcommand'
 __mcaudit_options mcaudit-try true \
     '-f:file:take the changes of a file too' \
     '--conf:value:take what smcrouted makes of a file for a router' \
     '--conf-root:folder:where the files lie that those of --conf include' \
-    '--why::tell what explains the faults' \
+    '--why::print what explains the faults' \
     '--json::print an object a line' \
     '--keep:value:keep the changed copy' \
     '--page:file:write a page of the changed domain'

@@ -1,5 +1,5 @@
 #compdef mcaudit mcaudit-collect mcaudit-diff mcaudit-draft mcaudit-monitor mcaudit-page mcaudit-plan mcaudit-premises mcaudit-query mcaudit-reports mcaudit-site mcaudit-try
-# mcaudit.zsh: completes the words of mcaudit and of its tools in zsh, which looks for it under the name _mcaudit.
+# mcaudit.zsh: completes the arguments of mcaudit and of its tools in zsh, which looks for it under the name _mcaudit.
 
 # what several tools have
 local -a help=('(- *)--help[print help]')
@@ -27,7 +27,7 @@ local -a asking=(
     '--empty[write a list though no host answered]'
     '*--empty-lan[the same for this LAN alone]:LAN: '
     '--ask[ask where no query comes]'
-    '--ask-routers[ask also where two routers lie on a LAN]'
+    '--ask-routers[ask also on LANs with two or more listed routers]'
     '--tries[gather again, so many times in all]:number: '
     '--wait[wait so long for a query]:seconds: '
     '--listen[capture for so long at least]:seconds: '
@@ -42,7 +42,7 @@ mcaudit)
         'make:make the certificate of a bundle'
         'pack:pack the files of a folder into a bundle'
         'replay:show the travel of one packet'
-        'wants:tell whether a LAN wants what a source sends'
+        'wants:print whether a LAN wants what a source sends'
     )
     case $CURRENT:$words[2] in
     2:*)
@@ -51,22 +51,23 @@ mcaudit)
     3:help) _describe command commands ;;
     *:audit)
         _arguments ': :' \
-            '--travel[tell the travel of each packet that shows a fault]' \
+            '--travel[print the travel of each packet that shows a fault]' \
             '--faults[leave out the flows that are right and wanted]' \
-            '--unlisted[tell all unlisted sources and groups]' \
-            '--strict[end with status 1 where a flow that is right is wanted by nobody]' \
+            '--unlisted[list all unlisted sources and groups]' \
+            '--strict[end with status 1 where nobody wants a flow, or no flow answers what hosts ask for]' \
             '--json[write an object a line]' \
-            '*--without=[audit without the tables of a router]:router: ' $site ;;
+            '*--without=[audit without the tables of a router]:router: ' \
+            '*--ignore=[ignore what hosts ask for in a range of groups]:group/length: ' $site ;;
     *:pack) _arguments ': :' '--certificate[pack the certificate too]' $site ;;
     *:replay) _arguments ': :' ':flow: ' ':ttl: ' '--order[which waiting copy is handled next]:order:(first last)' ;;
     esac ;;
 mcaudit-collect)
     _arguments $routers $timeout $readings $believed $about $site \
-        '--shell[run a shell on a router by its way]:router: ' ;;
+        '--shell[run a shell on a router]:router: ' ;;
 mcaudit-diff) _arguments $about '--json[print an object a line]' '*:audit:_files' ;;
 mcaudit-draft)
     _arguments $routers $timeout $about $site \
-        '--ttl[the time to live of all flows]:ttl: ' \
+        '--ttl[the TTL of all flows]:ttl: ' \
         '--flows[take the flows of this list too]:file:_files' \
         '--measure[wait so long for packets of a flow]:seconds: ' \
         '--update[print what differs from the topology that is there]' ;;
@@ -110,7 +111,7 @@ mcaudit-query)
 mcaudit-reports)
     _arguments $routers $asking $about '*:word:_files' \
         '-o[put the list into a file]:file:_files' \
-        '--by[the interface is that of a router]:way: ' \
+        '--by[the interface is that of a router]:address: ' \
         '--capture[read a capture file]:file:_files' \
         '--text[read a recorded text on standard input]' \
         '--from-bridge[take the list of what a bridge of the router believes]' \
@@ -127,7 +128,7 @@ mcaudit-try)
         '*-f[take the changes of a file too]:file:_files' \
         '*--conf[take what smcrouted makes of a file for a router]:router=file: ' \
         '--conf-root[where the files lie that those of --conf include]:folder:_files -/' \
-        '--why[tell what explains the faults]' \
+        '--why[print what explains the faults]' \
         '--json[print an object a line]' \
         '--keep[keep the changed copy]:folder: ' \
         '--page[write a page of the changed domain]:file:_files' ;;
@@ -137,7 +138,7 @@ mcaudit-site)
         local -a commands=('init:draft, collect, gather and judge' 'lans:print each LAN with each interface on it')
         _arguments $about '1: :{_describe command commands}' ;;
     *:init)
-        _arguments ': :' $routers $asking '--ttl[the time to live of all flows]:ttl: ' \
+        _arguments ': :' $routers $asking '--ttl[the TTL of all flows]:ttl: ' \
             '--facts[bring what decides beside the tables what a router forwards]' $help $site ;;
     *) _arguments ': :' $help $site ;;
     esac ;;

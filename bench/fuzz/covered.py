@@ -1,5 +1,5 @@
-"""Tells of each crate how many of its functions and edges were met: by what llvm-bolt notes of its counters, and by
-the maps of afl-fuzz, where a counter that was never met is 255.
+"""Counts for each crate how many of its functions and edges were reached: by what llvm-bolt records of its counters, and
+by the maps of afl-fuzz, where a counter that was never reached is 255.
 
 The section .bolt.instr.tables is a note whose text has three tables, each behind its length: of indirect calls, of
 their targets, and of functions. A function has four lists, each behind its number of items: leaves (node, counter),
@@ -90,7 +90,7 @@ def table(program, paths, crates):
         taken = len(counters & met)
         for place, more in enumerate((taken > 0, 1, taken, len(counters))):
             of[place] += more
-    lines = ["| Crate | Functions met | of | Edges met | of | |", "|---|---:|---:|---:|---:|---:|"]
+    lines = ["| Crate | Functions reached | of | Edges reached | of | |", "|---|---:|---:|---:|---:|---:|"]
     for name in sorted(sums, key=lambda it: (it == "all else", it)):
         entered, functions, taken, edges = sums[name]
         lines.append(f"| {name} | {entered:,} | {functions:,} | {taken:,} | {edges:,} | {100 * taken / edges:.0f} % |")

@@ -213,7 +213,7 @@ def page_of(runs, findings):
     lines += [f"- and {len(findings) - MOST_SHOWN} more"] if len(findings) > MOST_SHOWN else []
     lines += [] if findings else ["- No crash, no hang and no wrong status was found."]
     maps = [f"{run.out}/default/fuzz_bitmap" for run in runs]
-    lines += ["", "All together, where edges of lack of memory, and those of other words, can't be met:", ""]
+    lines += ["", "All together, where edges of lack of memory, and those of other arguments, can't be reached:", ""]
     lines += covered.table(runs[0].built.counted, maps, CRATES)
     return "\n".join(lines) + "\n"
 

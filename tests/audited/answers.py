@@ -13,28 +13,12 @@ import sys
 import tomllib
 from collections import deque
 
-SHOWN_NAMES = 8
+from asked import Asked, Range
+from names import address_of, dotted, escaped, some
+
 SHOWN_LINES = 40
 SHOWN_PAIRS = 20
 OPTIONS = ["--travel", "--faults", "--unlisted", "--strict", "--json"]
-
-
-def dotted(address):
-    return ".".join(map(str, struct.pack(">I", address)))
-
-
-def address_of(text):
-    return struct.unpack(">I", bytes(map(int, text.split("."))))[0]
-
-
-def escaped(device):
-    return "".join(chr(b) if 0x21 <= b <= 0x7E and b != 0x5C else f"\\x{b:02x}" for b in device)
-
-
-def some(names):
-    """A list of names as it is shown."""
-    rest = len(names) - SHOWN_NAMES
-    return " ".join(names[:SHOWN_NAMES]) + (f" and {rest} more" if rest > 0 else "")
 
 
 class Row:
@@ -165,10 +149,11 @@ class Domain:
 
 
 class Travel:
-    """The travel of one packet of a flow, the first waiting copy first, up to the first finding."""
+    """The travel of one packet of a flow, the first waiting copy first, up to the first finding, or past all strays: then
+    up to the first second copy, or until nothing waits."""
 
-    def __init__(self, domain, flow, ttl):
-        self.domain, self.flow = domain, flow
+    def __init__(self, domain, flow, ttl, is_past_strays=False):
+        self.domain, self.flow, self.is_past_strays = domain, flow, is_past_strays
         self.carried, self.waiting, self.strays, self.events = [], deque(), [], []
         self.put(flow[3], ttl, None)
         self.finding = self.found()
@@ -231,13 +216,25 @@ class Travel:
         if second is not None:
             met = any(hop[0] == second[0] for hop in self.hops_back(second))
             return ("Loop" if met else "Duplicate", second[0])
-        if self.strays:
+        if self.strays and not self.is_past_strays:
             return ("Stray", *self.strays[0])
         if self.waiting:
             return None
         reached = {copy[0] for copy in self.carried}
         missed = [lan for lan in self.domain.wanting(self.flow) if lan not in reached]
         return ("Missed", missed[0]) if missed else ("Clean",)
+
+    def need(self):
+        """The greatest need among the copies that the finding rests on, None where it rests on none."""
+        kind, *place = self.finding
+        if kind in ("Loop", "Duplicate"):
+            return max(need_of(self.hops_back(copy)) for copy in (self.first_on(place[0]), self.second()))
+        if kind != "Stray":
+            return None
+        router, vif = place
+        row = self.domain.exact(router, self.flow)
+        hops = self.hops_back(self.first_on(self.domain.placed(router, vif if row is None else row.incoming)))
+        return need_of(hops) if row is None else max(need_of(hops), len(hops) + row.threshold(vif) + 1)
 
 
 def need_of(hops):
@@ -251,8 +248,8 @@ def need_of(hops):
 class Explained:
     """What is told of a flow's fault, each line as the object of its JSON."""
 
-    def __init__(self, domain, flow, greatest, travel):
-        self.domain, self.flow, self.greatest, self.travel = domain, flow, greatest, travel
+    def __init__(self, domain, flow, greatest, travel, has_remedy):
+        self.domain, self.flow, self.greatest, self.travel, self.has_remedy = domain, flow, greatest, travel, has_remedy
         self.lines = []
         kind = travel.finding[0]
         if kind == "Duplicate":
@@ -301,8 +298,8 @@ class Explained:
                       vif=vif, row=self.exact(router))
 
     def take_out(self, lan):
-        """The remedy. It is one of all rows, and so none is told where routers are left out."""
-        if self.domain.left_out:
+        """The remedy, if any."""
+        if not self.has_remedy:
             return
         router, vif = self.travel.second()[2]
         self.tell("take_out", lan=self.lan(lan), router=self.router(router), device=self.device(router, vif), vif=vif,
@@ -568,6 +565,67 @@ def with_text(lines):
 
 # ---- the whole answer
 
+def finding_text(domain, finding):
+    kind, *place = finding
+    names = [domain.lans[place[0]]] if len(place) == 1 else [domain.routers[place[0]], str(place[1])] if place else []
+    return " ".join([kind, *names])
+
+
+def finding_object(domain, finding):
+    kind, *place = finding
+    names = {"lan": domain.lans[place[0]]} if len(place) == 1 else (
+        {"router": domain.routers[place[0]], "vif": place[1]} if place else {})
+    return {"kind": kind} | names
+
+
+class Behind:
+    """What is behind the stray that a travel of a flow ended with: what the same run shows as it goes on."""
+
+    def __init__(self, domain, flow, ttl, stray):
+        self.domain, travel = domain, Travel(domain, flow, ttl, is_past_strays=True)
+        self.finding, self.why, self.shown_from, self.strays, self.open, self.missed = None, [], None, [], [], []
+        if travel.second() is not None:
+            self.finding = travel.finding
+            self.why = Explained(domain, flow, travel, travel, False).lines
+            self.shown_from = travel.need() if ttl == 255 != flow[2] else None
+            return
+        pairs = list(dict.fromkeys(travel.strays))
+        self.strays = [pair for pair in pairs if pair != stray and domain.exact(pair[0], flow) is not None]
+        self.open = list(dict.fromkeys(router for router, _ in pairs if domain.exact(router, flow) is None))
+        if not self.open and not domain.left_out:
+            reached = {copy[0] for copy in travel.carried}
+            self.missed = [lan for lan in domain.wanting(flow) if lan not in reached]
+
+    def kinds(self):
+        """The kinds of lines that it has."""
+        kinds = {self.finding[0]} if self.finding else set()
+        kinds |= {name for name in ("shown_from", "strays", "open", "missed") if getattr(self, name)}
+        return {f"behind {kind}" for kind in kinds or {"nothing"}}
+
+    def names(self):
+        """The names that it gives: those of open routers, and those of missed LANs."""
+        return [self.domain.routers[router] for router in self.open], [self.domain.lans[lan] for lan in self.missed]
+
+    def text(self):
+        if self.finding:
+            lines = [f"    {line}" for line in explanation_text(self.why)]
+            lines += [f"    shown by packets sent with ttl {self.shown_from} or more"] if self.shown_from else []
+            return [f"  behind it: {finding_text(self.domain, self.finding)}", *lines]
+        devices = [self.domain.tables[router].device(vif) for router, vif in self.strays]
+        strays = [f"{self.domain.routers[router]} {escaped(device) if device else f'vif/{vif}'}"
+                  for (router, vif), device in zip(self.strays, devices)]
+        unknown, missed = self.names()
+        told = (("also leaves by ", strays, ", "), ("not known past ", unknown, " "),
+                ("missed, unless what leaves there reaches it: ", missed, " "))
+        return [f"  behind it: {words}{some(names, between)}" for words, names, between in told if names]
+
+    def object(self):
+        unknown, missed = self.names()
+        return {"finding": self.finding and finding_object(self.domain, self.finding), "missed": missed, "open": unknown,
+                "shown_from": self.shown_from, "why": with_text(self.why),
+                "strays": [{"router": self.domain.routers[router], "vif": vif} for router, vif in self.strays]}
+
+
 class Answer:
     """What is said of one flow."""
 
@@ -585,26 +643,23 @@ class Answer:
             self.right = None if domain.left_out else True
             self.entries = [entry_of(domain, greatest, copy) for copy in sorted(greatest.carried, key=lambda copy: copy[0])]
         else:
-            self.why = Explained(domain, self.flow, greatest, travel).lines
+            self.why = Explained(domain, self.flow, greatest, travel, not domain.left_out).lines
             reached = {copy[0] for copy in travel.carried}
             self.also = [lan for lan in self.wanted if lan not in reached and lan != travel.finding[1]] if (
                 travel.finding[0] == "Missed") else []
             may_be_right = travel is greatest and any(line["kind"] == "left_out" for line in self.why)
             self.right = None if may_be_right else False
-            self.shown_from = self.need() if travel is greatest and self.flow[2] != 255 else None
+            self.shown_from = travel.need() if travel is greatest and self.flow[2] != 255 else None
+            self.at_ttl = self.found_at_ttl()
+            self.behind = Behind(domain, self.flow, self.found_ttl, travel.finding[1:]) if (
+                travel.finding[0] == "Stray") else None
 
-    def need(self):
-        """The greatest need among the copies that the finding rests on, None where it rests on none."""
-        kind, *place = self.travel.finding
-        travel, domain = self.travel, self.domain
-        if kind in ("Loop", "Duplicate"):
-            return max(need_of(travel.hops_back(copy)) for copy in (travel.first_on(place[0]), travel.second()))
-        if kind != "Stray":
+    def found_at_ttl(self):
+        """What is found with the flow's own TTL, None where that isn't told."""
+        if not self.shown_from or self.shown_from <= self.flow[2]:
             return None
-        router, vif = place
-        row = domain.exact(router, self.flow)
-        hops = travel.hops_back(travel.first_on(domain.placed(router, vif if row is None else row.incoming)))
-        return need_of(hops) if row is None else max(need_of(hops), len(hops) + row.threshold(vif) + 1)
+        finding = Travel(self.domain, self.flow, self.flow[2]).finding
+        return None if self.domain.left_out and finding[0] in ("Clean", "Missed") else finding
 
     def text(self):
         words = f"flow {self.names['source']} {self.names['group']} ttl {self.names['ttl']}"
@@ -614,12 +669,13 @@ class Answer:
             names = [lans[lan] for lan in self.wanted]
             return [f"{words} {said} copies {len(self.entries)}",
                     f"  wanted {len(names)}: " + (some(names) if names else "no report asks for it")]
-        kind, *place = self.travel.finding
-        place = [lans[place[0]]] if len(place) == 1 else [self.domain.routers[place[0]], str(place[1])]
-        lines = [" ".join([words, "unknown:" if self.right is None else "wrong:", kind, *place])]
+        state = "unknown" if self.right is None else "wrong"
+        lines = [f"{words} {state}: {finding_text(self.domain, self.travel.finding)}"]
         lines += [f"  shown by packets sent with ttl {self.shown_from} or more"] if self.shown_from else []
+        lines += [f"  with this flow's ttl {self.flow[2]}: {finding_text(self.domain, self.at_ttl)}"] if self.at_ttl else []
         lines += [f"  {line}" for line in explanation_text(self.why)]
         lines += ["  also missed: " + some([lans[lan] for lan in self.also])] if self.also else []
+        lines += self.behind.text() if self.behind else []
         return lines + ([event_text(event) for event in self.travel.events] if self.with_events else [])
 
     def object(self, trees):
@@ -632,11 +688,11 @@ class Answer:
                 new = [{"entries": self.entries, "tree": trees[tree]}]
             return new + [self.names | {"copies": len(self.entries), "right": self.right, "tree": trees[tree],
                                         "wanted": [lans[lan] for lan in self.wanted]}]
-        kind, *place = self.travel.finding
-        finding = {"kind": kind, "lan": lans[place[0]]} if len(place) == 1 else (
-            {"kind": kind, "router": self.domain.routers[place[0]], "vif": place[1]})
         events = {"events": self.travel.events} if self.with_events else {}
-        return [self.names | events | {"also": [lans[lan] for lan in self.also], "finding": finding,
+        return [self.names | events | {"also": [lans[lan] for lan in self.also],
+                                       "at_ttl": self.at_ttl and finding_object(self.domain, self.at_ttl),
+                                       "behind": self.behind and self.behind.object(),
+                                       "finding": finding_object(self.domain, self.travel.finding),
                                        "found_ttl": self.found_ttl, "right": self.right, "shown_from": self.shown_from,
                                        "wanted": [lans[lan] for lan in self.wanted], "why": with_text(self.why)}]
 
@@ -684,17 +740,22 @@ def domain_object(domain, words):
 class Audit:
     """The whole answer: its lines of text, its objects, and the status."""
 
-    def __init__(self, folder, options, left_out):
+    def __init__(self, folder, options, left_out, ranges):
         self.domain = domain = Domain(folder, left_out)
+        self.ranges = sorted(map(Range, ranges), key=lambda it: (it.first, it.length))
         self.options, self.left_out = options, [domain.routers[number] for number in domain.left_out]
         self.answers = [Answer(domain, number, "--travel" in options) for number in range(len(domain.flows))]
         rights = [answer.right for answer in self.answers]
         unwanted = sum(answer.is_clean and not answer.wanted for answer in self.answers)
-        self.counts = {"flows": len(rights), "right": rights.count(True), "unknown": rights.count(None),
-                       "unwanted": unwanted, "wrong": rights.count(False)}
+        self.asked = Asked(domain, self.ranges, "--unlisted" in options)
+        self.counts = {"asked": self.asked.count, "flows": len(rights), "right": rights.count(True),
+                       "unknown": rights.count(None), "unwanted": unwanted, "wrong": rights.count(False)}
         self.is_yes = all(rights) and not left_out
-        self.is_strict = "--strict" in options and self.is_yes and unwanted > 0
-        self.status = 0 if self.is_yes and not self.is_strict else 1
+        self.strict = []
+        if "--strict" in options and self.is_yes:
+            self.strict = [f"  strict: {count} {what}, status 1" for count, what in (
+                (unwanted, "flows that nobody wants"), (self.asked.count, "wants that no flow answers")) if count]
+        self.status = 0 if self.is_yes and not self.strict else 1
         self.shown = [answer for answer in self.answers
                       if "--faults" not in options or not answer.is_clean or not answer.wanted]
         pairs = unlisted_rows(domain)
@@ -708,19 +769,21 @@ class Audit:
             if not 224 <= group >> 24 <= 239:
                 lines.append("  no multicast group: is the byte order of these routers right in the topology?")
         lines += [f"unlisted and {self.further} further rows"] if self.further else []
+        lines += self.asked.text()
         lines += [f"excluded {router}" for router in self.left_out]
         counts = self.counts
         lines.append(f"summary flows {counts['flows']} right {counts['right']} wrong {counts['wrong']} "
-                     f"unknown {counts['unknown']} unwanted {counts['unwanted']}")
+                     f"unknown {counts['unknown']} unwanted {counts['unwanted']} asked {counts['asked']}")
         if self.left_out:
             lines.append(f"  excluded: {some(self.left_out)}: the verdict is no; a yes requires all routers")
-        lines += [f"  strict: {counts['unwanted']} flows that nobody wants, status 1"] if self.is_strict else []
-        return "".join(f"{line}\n" for line in [*lines, "verdict yes" if self.is_yes else "verdict no"])
+        return "".join(f"{line}\n" for line in [*lines, *self.strict, "verdict yes" if self.is_yes else "verdict no"])
 
     def objects(self):
         words = [option for option in OPTIONS if option in self.options]
         for router in self.left_out:
             words += ["--without", router]
+        for it in self.ranges:
+            words += ["--ignore", it.text]
         trees = {}
         objects = [domain_object(self.domain, words)]
         for answer in self.shown:
@@ -728,6 +791,7 @@ class Audit:
         objects += [{"unlisted": {"group": dotted(group), "routers": routers, "source": dotted(source)}}
                     for (group, source), routers in self.unlisted]
         objects += [{"unlisted_more": {"rows": self.further}}] if self.further else []
+        objects += self.asked.objects()
         objects += [{"without": self.left_out}] if self.left_out else []
         return objects + [{"summary": self.counts}, {"verdict": "yes" if self.is_yes else "no"}]
 
@@ -739,18 +803,18 @@ class Audit:
 
 def audit(words):
     """The answer for these words of the command `audit`."""
-    words, folder, left_out, options = list(words), None, set(), set()
+    words, folder, options = list(words), None, set()
+    repeated = {"--without": set(), "--ignore": set()}
     while words:
         word = words.pop(0)
-        if word == "--without":
-            left_out.add(words.pop(0))
-        elif word.startswith("--without="):
-            left_out.add(word.partition("=")[2])
+        option, sign, value = word.partition("=")
+        if option in repeated:
+            repeated[option].add(value if sign else words.pop(0))
         elif word.startswith("-"):
             options.add(word)
         else:
             folder = word
-    return Audit(folder or ".", options, left_out)
+    return Audit(folder or ".", options, repeated["--without"], repeated["--ignore"])
 
 
 def main():

@@ -32,6 +32,7 @@ from tried import counts, try_all
 COUNT = 300
 CHANGES = 12
 SOURCES = [*random_domains.SOURCES, "10.9.9.9"]
+MEANT = [*random_domains.ASKING, "10.9.9.9"]  # the sources of which it is compared whether a LAN wants them
 GROUPS = [*random_domains.GROUPS, "239.9.9.9"]
 VERBS = ["add", "add", "remove", "remove", "delete", "threshold", "down", "join", "leave", "ttl", "new"]
 REFUSED = {*VERBS} - {"down", "join"}  # a LAN that is listed can always join
@@ -65,7 +66,7 @@ class Meaning:
         self.set = {}  # thresholds of vifs, by router and vif
         self.lans = {name: [it[:2] for it in found.interfaces if it[2] == at] for at, name in enumerate(found.lans)}
         self.routers = found.routers
-        self.wanted = {name: {(source, group) for source in SOURCES for group in GROUPS if found.reports[at].wants(
+        self.wanted = {name: {(source, group) for source in MEANT for group in GROUPS if found.reports[at].wants(
             answers.address_of(source), answers.address_of(group))} for at, name in enumerate(found.lans)}
         self.flows = [tuple(it[:3]) for it in found.flows]
         self.sources = [address for address, _ in found.sources]
@@ -134,7 +135,7 @@ class Meaning:
             self.unresolved[change.who].clear()
             return
         for router, device in places:
-            there = [vif for vif, (name, flags) in self.vifs[router].items() if name == device.encode()
+            there = [vif for vif, (name, flags) in self.vifs[router].items() if name == device.encode() != b"none"
                      and (change.kind != "lan" or not flags & 5)]
             want(there or change.kind == "lan")
             for vif in there:
@@ -143,10 +144,10 @@ class Meaning:
                     pairs.pop(vif, None)
 
     def join(self, change):
-        self.wanted[change.who] |= {(it, change.group) for it in SOURCES if change.source in (None, it)}
+        self.wanted[change.who] |= {(it, change.group) for it in MEANT if change.source in (None, it)}
 
     def leave(self, change):
-        gone = {(it, change.group) for it in SOURCES if change.source in (None, it)}
+        gone = {(it, change.group) for it in MEANT if change.source in (None, it)}
         want(gone & self.wanted[change.who])
         self.wanted[change.who] -= gone
 

@@ -8,7 +8,8 @@ devices, vifs and rows, and its /proc/net/ip_mr_vif and /proc/net/ip_mr_cache ar
 vif without a line, or whose device is gone, a tunnel of a kernel that has none) is put into the copies.
 
 A router is told by its devices, each with its LAN (none where the topology doesn't list it), vif numbers counting from 0
-in their order, and by its rows of the flow: from which device to which, with a threshold behind a colon.
+in their order, and by its rows of the flow: from which device to which, with a threshold behind a colon. What the hosts
+of a LAN ask for besides is told by its records.
 
 Beside a folder stands its answer as answers.py works it out, as text and as JSON, with the words that WORDS has for it.
 Whoever writes one anew reads it against the tables.
@@ -89,6 +90,14 @@ DOMAINS = {
         "routers": {"r1": "eth0=studio eth1=core", "r2": "eth0=core eth1=hall"},
         "rows": {"r1": "eth0 > eth1", "r2": "*: eth0 > eth1"},
     },
+    "loop-behind-a-stray": {
+        "routers": {"r1": "eth0=studio eth1=core pimreg", "r2": "eth0=core eth1=hall", "r3": "eth0=hall eth1=core"},
+        "rows": {"r1": "eth0 > eth1 pimreg", "r2": "eth0 > eth1", "r3": "eth0 > eth1"},
+    },
+    "missed-behind-a-stray": {
+        "routers": {"r1": "eth0=studio eth1=core eth2", "r2": "eth0=core eth1=hall"},
+        "rows": {"r1": "eth0 > eth2", "r2": "eth0 > eth1"},
+    },
     "missed-without-a-row": {
         "routers": {"r1": "eth0=studio eth1=core", "r2": "eth0=core eth1=hall"},
         "rows": {"r1": "eth0 > eth1"},
@@ -148,6 +157,14 @@ DOMAINS = {
     "a-source-that-scans-groups": {
         "routers": {"r1": "eth0=studio eth1=core", "r2": "eth0=core eth1=hall"},
         "rows": {"r1": " / ".join(["eth0 > eth1", *SCANNED]), "r2": " / ".join(["eth0 > eth1", *SCANNED[-3:]])},
+    },
+    "groups-that-no-flow-lists": {
+        "routers": {"r1": "eth0=studio eth1=core", "r2": "eth0=core eth1=hall"},
+        "rows": {"r1": "eth0 > eth1 / 10.0.0.6 239.1.2.8: eth0 > eth1 / 10.0.0.6 239.1.2.7: eth0 > ",
+                 "r2": "eth0 > eth1 / 10.0.0.6 239.1.2.8: eth0 > eth1"},
+        "asks": {"core": [(2, "239.1.2.9", []), (1, GROUP, ["10.0.0.7"]), (2, "239.255.255.250", [])],
+                 "hall": [(2, "239.1.2.7", []), (2, "239.1.2.8", []), (2, "239.1.2.9", []), (2, "232.0.0.9", []),
+                          (2, "239.255.255.250", [])]},
     },
     "left-out-router": {
         "routers": {"r1": "eth0=studio eth1=core", "r2": "eth0=core eth1=link", "r3": "eth0=link eth1=hall"},
@@ -290,8 +307,10 @@ def write_domain(name):
             line.replace(f"{device:<10}", "none      ") if device == gone else (
                 line.replace(" 00008 ", " 00001 ") if device == "tun0" else line)))
     for lan in lans_of(domain):
+        lines = [report_of([(2, GROUP, [])])] if lan in domain.get("wants", "hall").split() else []
+        lines += [report_of(domain["asks"][lan])] if lan in domain.get("asks", {}) else []
         with open(f"{folder}/igmp-{lan}", "w", encoding="ascii") as file:
-            file.write(report_of([(2, GROUP, [])]) + "\n" if lan in domain.get("wants", "hall").split() else "")
+            file.writelines(f"{line}\n" for line in lines)
 
 
 def answer_of(name, ending):

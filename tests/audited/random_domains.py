@@ -1,4 +1,5 @@
-"""Folders of small domains, made at random: most of a domain's rows make a tree, and then some of it is turned."""
+"""Folders of small domains, made at random: most of a domain's rows make a tree, and then some of it is turned. Some have
+a stray near a source, with a fault behind it, and in some hosts ask for what no flow lists."""
 import json
 import os
 import random
@@ -10,6 +11,14 @@ THRESHOLDS = [1, 1, 1, 1, 1, 2, 3, 4, 64, 254]
 TTLS = [1, 2, 3, 3, 4, 64, 255]
 GROUPS = ["239.1.2.3", "239.1.2.4", "232.0.0.9"]
 SOURCES = ["10.0.0.5", "10.0.1.7"]
+# What hosts ask for besides: groups of rows that no flow lists, of SSM, of services, and some that no router forwards;
+# sources of such rows, and addresses that are no source's.
+ASKED = ["239.7.7.1", "239.7.7.2", "239.7.7.3", "232.0.0.7", "239.8.0.1", "239.255.255.250", "224.0.1.40", "224.0.0.251",
+         "3.7.7.1"]
+ASKING = [*SOURCES, "10.9.0.1", "10.9.1.2", "10.9.2.3", "127.0.0.9", "0.0.0.5", "224.7.7.7"]
+SERVICES = ["224.0.1.1", "224.0.1.22", "224.0.1.24", "224.0.1.35", "224.0.1.39", "224.0.1.40", "224.0.1.60", "224.0.1.75",
+            "224.0.1.187", "224.0.23.12", "224.2.127.254", "239.195.255.255", "239.255.255.250", "239.255.255.253",
+            "239.255.255.255"]
 VIF_HEADER = "Interface      BytesIn  PktsIn  BytesOut PktsOut Flags Local    Remote\n"
 CACHE_HEADER = "Group    Origin   Iif     Pkts    Bytes    Wrong Oifs\n"
 
@@ -28,7 +37,16 @@ def report_of(records):
     body = b"".join(struct.pack(">BBHI", kind, 0, len(sources), number_of(group))
                     + b"".join(struct.pack(">I", number_of(source)) for source in sources)
                     for kind, group, sources in records)
-    message = b"\x22\0\0\0\0\0" + struct.pack(">H", len(records)) + body
+    return with_checksum(b"\x22\0\0\0\0\0" + struct.pack(">H", len(records)) + body)
+
+
+def older_report_of(kind, group):
+    """A report of version 1 or 2, of this type, in hexadecimal."""
+    return with_checksum(struct.pack(">BBHI", kind, 0, 0, number_of(group)))
+
+
+def with_checksum(message):
+    """A message whose checksum is 0, with the right one, in hexadecimal."""
     total = sum(struct.unpack(f">{len(message) // 2}H", message))
     while total >> 16:
         total = (total & 0xFFFF) + (total >> 16)
@@ -54,6 +72,10 @@ class Made:
             self.add_tree(source, group)
         for _ in range(pick.choice([0, 0, 1, 1, 2, 3])):
             self.turn_something()
+        if pick.random() < 0.25:
+            self.stray_near_the_source()
+        if pick.random() < 0.5:
+            self.add_asked()
         for router in self.routers:
             pick.shuffle(self.rows[router])
 
@@ -124,7 +146,42 @@ class Made:
             group = f"{self.pick.choice([239, 239, 3])}.7.7.{self.pick.randint(1, 3)}"
             router = self.pick.choice(self.routers)
             if not any(row[:2] == [group, source] for row in self.rows[router]):
-                self.rows[router].append([group, source, str(self.pick.choice(vifs)), {}])
+                self.rows[router].append([group, source, str(self.pick.choice(vifs)), self.some_pairs(router)])
+
+    def some_pairs(self, router):
+        """Outgoing vifs of any kind, mostly none."""
+        if self.pick.random() < 0.7:
+            return {}
+        vifs = list(self.vifs[router]) + [self.pick.randrange(32)]
+        return {vif: 1 for vif in self.pick.sample(vifs, self.pick.randint(1, min(2, len(vifs))))}
+
+    def stray_near_the_source(self):
+        """A vif that is on no LAN, by which the first routers of a flow send too; and, mostly, a fault behind them."""
+        pick, (source, group, _) = self.pick, self.pick.choice(self.flows)
+        for router in self.routers:
+            start = {str(vif) for vif, (device, _) in self.vifs[router].items()
+                     if self.interfaces[router].get(device) == self.sources[source]}
+            rows = [row for row in self.rows[router] if row[:2] == [group, source] and row[2] in start]
+            free = [vif for vif in range(32) if vif not in self.vifs[router]]
+            if rows and not {"eth9", "pimreg"} & {device for device, _ in self.vifs[router].values()}:
+                vif = pick.choice(free)
+                self.vifs[router][vif] = pick.choice([["pimreg", 4], ["eth9", 0], ["none", 0]])
+                rows[0][3][vif] = 1
+        for router in pick.sample(self.routers, pick.randint(0, len(self.routers))):
+            rows = [row for row in self.rows[router] if row[:2] == [group, source] and row[2] != "-1"]
+            if rows:
+                rows[0][3][pick.choice(list(self.vifs[router]))] = pick.choice(THRESHOLDS)
+
+    def add_asked(self):
+        """Rows of groups that hosts may ask for: of a source, of every source, and of every group."""
+        for _ in range(self.pick.randint(1, 4)):
+            router = self.pick.choice(self.routers)
+            group, source = self.pick.choice(ASKED[:5]), self.pick.choice(ASKING[:5])
+            if self.pick.random() < 0.3:
+                group, source = self.pick.choice([group, group, group, "0.0.0.0"]), "0.0.0.0"
+            if not any(row[:2] == [group, source] for row in self.rows[router]):
+                incoming = str(self.pick.choice(list(self.vifs[router])))
+                self.rows[router].append([group, source, incoming, self.some_pairs(router)])
 
     # ---- the files
 
@@ -146,9 +203,25 @@ class Made:
             for number, (device, flags) in self.vifs[router].items())
 
     def reports_of(self):
-        records = [(self.pick.choice([1, 2, 2]), group, self.pick.sample(SOURCES, self.pick.randint(0, 2)))
-                   for group in GROUPS if self.pick.random() < 0.5]
-        return report_of(records) + "\n" if records else ""
+        pick = self.pick
+        records = [(pick.choice([1, 2, 2]), group, pick.sample(SOURCES, pick.randint(0, 2)))
+                   for group in GROUPS if pick.random() < 0.5]
+        lines = [report_of(records)] if records else []
+        if pick.random() < 0.4:
+            lines += self.asked_of()
+        return "".join(f"{line}\n" for line in lines)
+
+    def asked_of(self):
+        """Reports of groups that no flow lists, or of other sources, most of them few, and in several messages."""
+        pick = self.pick
+        groups = pick.choices(ASKED + GROUPS, k=pick.randint(1, 6))
+        kind = pick.randrange(12)
+        groups += [f"239.8.{number // 20}.{number % 20}" for number in range(pick.randint(18, 30))] if kind == 0 else []
+        groups += pick.sample(SERVICES, pick.randint(6, len(SERVICES))) if kind == 1 else []
+        records = [(pick.choice([1, 1, 2, 2, 7]), group, pick.sample(ASKING, pick.randint(0, 3))) for group in groups]
+        half = len(records) // 2
+        lines = [report_of(part) for part in (records[:half], records[half:])]
+        return lines + [older_report_of(pick.choice([0x12, 0x16]), group) for group in pick.sample(ASKED, pick.choice([0, 0, 1]))]
 
     def topology_text(self):
         lines = ["version = 1", f"lans = {json.dumps(self.lans)}"]

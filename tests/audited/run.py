@@ -9,8 +9,9 @@ and as JSON, and end with the same status. An example is tried with all of WORDS
 TRIED of WORDS, beginning at its number, so that each set comes for half of them. For the examples, whose answers
 stand beside their folders and were read line by line against the tables, answers.py has to give these. Each kind of
 finding has to come, each kind of line that explains one, a finding that isn't known to make its flow wrong, one that
-is shown from some TTL on, each line behind the flows, and two trees that differ in a `from_vif` alone, or the domains
-would show too little. The last line counts the domains: `N passed, M failed`. The status is 0 if none failed and one
+is shown from some TTL on, and what the flow's own TTL shows then, each line of what is behind a stray, each place that
+a want has and what is said of it, each line behind the flows, and two trees that differ in a `from_vif` alone, or the
+domains would show too little. The last line counts the domains: `N passed, M failed`. The status is 0 if none failed and one
 was run.
 """
 import os
@@ -23,6 +24,7 @@ sys.dont_write_bytecode = True
 import answers
 import faults
 import random_domains
+from names import SHOWN_NAMES
 from tried import counts, try_all
 
 SECONDS = 60
@@ -33,8 +35,9 @@ WORDS = (
     "--json", "--json --travel", "--json --faults --unlisted --strict",
     "--without=A", "--strict --without A --faults", "--without B --travel --without=A --unlisted",
     "--json --without=A", "--without=B --without A --travel --json",
+    "--ignore 239.7.7.0/24 --strict --ignore=239.7.7.0/28", "--json --ignore=239.8.0.0/15 --without A --ignore 224.0.0.0/5",
 )
-TRIED = 6
+TRIED = 7
 FINDINGS = {"Duplicate", "Loop", "Stray", "Missed"}
 LINES = {
     "sent_onto", "circle", "take_out", "on_no_lan", "register_vif", "tunnel", "no_device", "no_vif_line",
@@ -42,8 +45,14 @@ LINES = {
     "every_source", "from_no_lan", "from_register", "from_tunnel", "from_no_device", "from_no_vif_line", "does_not_send",
     "stopped", "waits_for", "no_vif", "not_multicast", "expected_from_here", "no_router", "no_sender",
 }
-BEHIND = {"unlisted", "further rows", "without", "strict"}
-FLOWS = {"unknown", "shown from"}
+BEHIND = {"unlisted", "further rows", "without", "strict", "strict asked"}
+FLOWS = {"unknown", "shown from", "at ttl Clean", "at ttl Missed", "at ttl Stray", "at ttl not told"}
+STRAYS = {"behind Loop", "behind Duplicate", "behind shown_from", "behind strays", "behind open", "behind missed",
+          "behind nothing"}
+ASKED = {"answered", "answered by the LAN", "left aside", "service", "asked", "asked and more", "asked services and more",
+         "forwarded by", "no outgoing LAN interface in", "no entry for it but (*,G) or (*,*) in", "no router forwards it",
+         "no router with known tables forwards it", "listed for the group:", "SSM: routers ignore it", "a source",
+         "any source"}
 TREES = {"from_vif"}
 
 
@@ -53,16 +62,36 @@ def trees_of(audit, *left_out):
             for answer in audit.answers if answer.is_clean}
 
 
+def kinds_of_fault(answer):
+    """The kinds of lines of a flow with a finding."""
+    kinds = {answer.travel.finding[0], *(line["kind"] for line in answer.why)}
+    kinds |= {"unknown"} if answer.right is None else set()
+    kinds |= {"shown from"} if answer.shown_from else set()
+    if answer.at_ttl:
+        kinds.add(f"at ttl {answer.at_ttl[0]}")
+    elif answer.shown_from and answer.shown_from > answer.flow[2]:
+        kinds.add("at ttl not told")
+    return kinds | (answer.behind.kinds() if answer.behind else set())
+
+
+def kinds_of_wants(asked):
+    """The places that wants have, and the kinds of lines of them."""
+    kinds = set(asked.places)
+    for want in asked.wants:
+        kinds |= {"any source" if want.source is None else "a source", want.what()[0], *(it[0] for it in want.remarks())}
+    kinds |= {"asked and more"} if asked.more else set()
+    return kinds | ({"asked services and more"} if len(asked.services) > SHOWN_NAMES else set())
+
+
 def kinds_of(audit):
     """The findings in a domain, the kinds of lines that explain them, the lines behind the flows, and whether trees differ
     in a `from_vif` alone."""
-    kinds = {answer.travel.finding[0] for answer in audit.answers}
-    kinds |= {line["kind"] for answer in audit.answers if not answer.is_clean for line in answer.why}
-    found = [answer for answer in audit.answers if not answer.is_clean]
-    kinds |= {"unknown"} if any(answer.right is None for answer in found) else set()
-    kinds |= {"shown from"} if any(answer.shown_from for answer in found) else set()
-    behind = (audit.unlisted, audit.further, audit.left_out, audit.is_strict)
-    kinds |= {name for name, is_there in zip(("unlisted", "further rows", "without", "strict"), behind) if is_there}
+    kinds = kinds_of_wants(audit.asked)
+    for answer in audit.answers:
+        kinds |= {"Clean"} if answer.is_clean else kinds_of_fault(answer)
+    strict = ["strict asked" if line.endswith("no flow answers, status 1") else "strict" for line in audit.strict]
+    behind = (audit.unlisted, audit.further, audit.left_out)
+    kinds |= {*strict, *(name for name, is_there in zip(("unlisted", "further rows", "without"), behind) if is_there)}
     return kinds | (TREES if len(trees_of(audit)) > len(trees_of(audit, "from_vif")) else set())
 
 
@@ -143,7 +172,7 @@ def main():
     examples = sorted(name for name in os.listdir(faults.FOLDER) if os.path.isdir(os.path.join(faults.FOLDER, name)))
     tries = [(try_example, program, name) for name in examples]
     tries += [(try_random, program, number) for number in range(first, first + count)]
-    return try_all(tries, len(tries) if examples else 0, FINDINGS | LINES | FLOWS | BEHIND | TREES, "domain")
+    return try_all(tries, len(tries) if examples else 0, FINDINGS | LINES | FLOWS | STRAYS | ASKED | BEHIND | TREES, "domain")
 
 
 if __name__ == "__main__":

@@ -1,4 +1,4 @@
-"""Tries many things beside one another and counts what is wrong: what run.py and forms.py begin and end with."""
+"""Tries many things beside one another and counts what is wrong: what the scripts beside it begin and end with."""
 import os
 import sys
 from concurrent.futures import ThreadPoolExecutor

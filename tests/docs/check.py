@@ -3,30 +3,35 @@
 
   python3 tests/docs/check.py        at the top of the repository
 
-Looked at are *.md, docs/*.md and the manual page. Of what stands there between backticks (or is bold in the
-manual page) these are names of something, and each has to be there:
+Read are *.md, docs/*.md, the manual page, and the page of proofs as `make proofs` would write it. Of what is there
+between backticks (or is bold in the manual page) these are names of something, and each has to exist:
 
-  a path, or a file's name          a file of the repository
+  a path, or a file's name          a file of the repository, or one that the Makefile makes
   `make WORD`                       a target of the Makefile
   `mcaudit WORD`, `mcaudit-WORD`    a command of the program, a tool
   `--word`                          an option of the program, of a tool, or of what they call
   `Type::name`, `some_name`, `Name` a word of the code, the definitions, the tests or the tools
   `call`: `clause`, `clause`        in a table's column of clauses: each is the name of a clause, and those of a call
                                     that the crate has are that call's
-  [text](path)                      a file, beside the document or below it
+  [text](path)                      a file that is kept, beside the document or below it
 
-And the program and each tool say the version that the file VERSION says, once in its source; and the refusals of
-each type have the numbers of fault_numbers.txt, so that none of them moves.
+And the program and each tool have the version of the file VERSION, once in its source; and the refusals of each type
+have the numbers of fault_numbers.txt, so that none of them moves.
 
 It reads the sources alone, so it takes seconds. Each line that is printed is `FILE:LINE: NAME: what is wrong`. The last
-line counts the names, `N passed, M failed`, and the status is 0 if none failed and one was looked at.
+line counts the names, `N passed, M failed`, and the status is 0 if none failed and one was read.
 """
 import glob
 import os
 import re
 import sys
 
+import proofs
+
 TOP = os.path.join(os.path.dirname(os.path.abspath(__file__)), "..", "..")
+sys.path.insert(0, os.path.join(TOP, "tests", "house"))
+from words import Listed  # noqa: E402 pylint: disable=wrong-import-position
+
 SPAN = re.compile(r"``([^`]+)``|`([^`\n]+)`")
 FENCE = re.compile(r"^```", re.M)
 PATH = re.compile(r"(?:crates|docs|tests|tools|bench|examples)/[\w./*-]*\w[\w./*-]*|[\w-]+/(?:[\w-]+/)*[\w.*-]+\.(?:rt|antt|py|sh|md)")
@@ -42,7 +47,7 @@ VERSION = re.compile(r'^(?:version=|VERSION = "|(?:pub\(crate\) )?const VERSION_
 NUMBERED = re.compile(r"^pub enum (\w+)[^{]*\{\n(.*?)^\}", re.M | re.S)
 REFUSAL = re.compile(r"((?:^    ///.*\n)+)(?:^    #\[.*\n)*^    (\w+)", re.M)
 NUMBER = re.compile(r"^    /// \((\d+)\) ")
-# Words that documents show which stand in another program's texts, or in those of a network.
+# Words that documents show which are another program's, or a network's.
 ELSEWHERE = {"RegJ", "RegP", "ip_mr_vif", "ip_mr_cache", "authorized_keys", "known_hosts", "pim_register", "no_memory"}
 
 
@@ -63,7 +68,9 @@ class Sources:
     """What there is that a document may name."""
 
     def __init__(self):
-        self.paths = [os.path.relpath(it, TOP) for it in files_below("")]
+        makefile = read(os.path.join(TOP, "Makefile"))
+        self.made = set(re.findall(r"^(docs/[\w.-]+):", makefile, re.M))
+        self.paths = [os.path.relpath(it, TOP) for it in files_below("")] + sorted(self.made)
         self.words, self.clauses, self.options = set(), {}, set()
         for path in files_below("crates", "tests", "tools", "bench", "examples"):
             if os.path.basename(path) != "check.py" and os.path.getsize(path) < 1_000_000:
@@ -77,7 +84,7 @@ class Sources:
         command = read(os.path.join(TOP, "crates/mc_cli/src/command.rt"))
         self.commands = {"help"} | set(re.findall(r'bare_command\(\s*alloc,\s*"(\w+)"', command))
         self.options |= {f"--{name}" for name in re.findall(r'(?:flag|option)\(alloc, "(\w+)"', command)}
-        self.targets = set(re.findall(r"^([a-z-]+):", read(os.path.join(TOP, "Makefile")), re.M))
+        self.targets = set(re.findall(r"^([a-z-]+):", makefile, re.M))
         self.tools = {os.path.basename(it) for it in glob.glob(os.path.join(TOP, "tools", "*"))}
 
     def read_clauses(self, path):
@@ -95,7 +102,7 @@ class Sources:
 
 
 def spans_of(text):
-    """What stands between backticks outside of blocks, each with its line."""
+    """What is between backticks outside of blocks, each with its line."""
     is_block, spans = False, []
     for number, line in enumerate(text.split("\n"), 1):
         if line.startswith("```"):
@@ -148,8 +155,16 @@ def clause_faults(cell, sources):
     return faults, looked
 
 
-def look_at(path, sources):
-    text = read(path)
+def is_kept(link, path, sources):
+    """Whether a link of a document leads to a file of the repository, and not to one that has to be made first."""
+    place = os.path.relpath(os.path.join(os.path.dirname(path), link), TOP)
+    if place in sources.made:
+        return os.path.relpath(path, TOP) in Listed().excepted
+    return os.path.exists(os.path.join(TOP, place))
+
+
+def look_at(path, text, sources):
+    """What is wrong with the names in a document, each with its line, and how many there are."""
     if path.endswith(".1"):
         text = re.sub(r"^\.B (.*)$", r"`\1`", text.replace(r"\-", "-"), flags=re.M)
     wrong, looked = [], 0
@@ -160,7 +175,7 @@ def look_at(path, sources):
     for number, line in enumerate(text.split("\n"), 1):
         links = LINK.findall(line)
         looked += len(links)
-        wrong += [(number, it, "no such file") for it in links if not os.path.exists(os.path.join(os.path.dirname(path), it))]
+        wrong += [(number, it, "no such file is kept") for it in links if not is_kept(it, path, sources)]
         cells = [cell.strip() for cell in line.strip("|").split(" | ")]
         if line.startswith("|") and len(cells) > 1:
             faults, passed = clause_faults(cells[-1].rstrip(" |"), sources)
@@ -214,13 +229,14 @@ def main():
     for name, here, listed in moved:
         print(f"{'::'.join(name)}: has the number {here}, and fault_numbers.txt says {listed}")
     documents = [it for folder in ("", "docs") for it in sorted(glob.glob(os.path.join(TOP, folder, "*.md")))]
-    documents.append("docs/mcaudit.1")
-    for path in documents:
-        wrong, count = look_at(os.path.join(TOP, path), sources)
+    documents.append(os.path.join(TOP, "docs/mcaudit.1"))
+    texts = {it: read(it) for it in documents if os.path.relpath(it, TOP) not in sources.made}
+    for path, text in [*texts.items(), (os.path.join(TOP, "docs/PROOFS.md"), proofs.page())]:
+        wrong, count = look_at(path, text, sources)
         looked += count
         failed += len(wrong)
         for number, name, fault in wrong:
-            print(f"{os.path.relpath(os.path.join(TOP, path), TOP)}:{number}: {name}: {fault}")
+            print(f"{os.path.relpath(path, TOP)}:{number}: {name}: {fault}")
     print(f"{looked - failed} passed, {failed} failed")
     return 1 if failed or not looked else 0
 

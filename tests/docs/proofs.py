@@ -1,12 +1,13 @@
 #!/usr/bin/env python3
-"""Writes docs/PROOFS.md, which has each public call of the crates with the clauses that are proved of it, or looks
-whether it is what the sources say.
+"""Makes the page that lists each public call of the crates with the clauses that are proved of it.
 
-  python3 tests/docs/proofs.py           at the top of the repository: status 1 where docs/PROOFS.md is another text
-  python3 tests/docs/proofs.py --write   writes it
+  python3 tests/docs/proofs.py PATH   writes the page to PATH; `make proofs` writes it to docs/PROOFS.md
+  python3 tests/docs/proofs.py        checks that the page has each clause of each public call
 
-A crate is told by the first sentence of its src/lib.rt, a call by that of its documentation, and a clause by its name
-and the comment that stands above it. Crates stand in the order of crates.txt. The last line is `N passed, M failed`.
+A crate is described by the first sentence of its src/lib.rt, a call by that of its documentation, and a clause by its
+name and the comment above it. Crates are in the order of crates.txt. The check reads the finished page, and compares it
+with the clauses that it finds in the sources by itself, whole texts at a time, where the page is made line by line. Its
+last line counts the clauses: `N passed, M failed`, and the status is 0 if none failed and one was found.
 """
 import glob
 import os
@@ -14,7 +15,6 @@ import re
 import sys
 
 TOP = os.path.join(os.path.dirname(os.path.abspath(__file__)), "..", "..")
-PAGE = os.path.join(TOP, "docs", "PROOFS.md")
 CRATE = re.compile(r"^(mc_\w+):", re.M)
 TYPE = re.compile(r"(?:unsafe )?(?:impl|(pub )?trait)(?:<[^{]*?>)? (?:[\w:<>', ]+ for )?(\w+)")
 CALL = re.compile(r"(pub )?(?:const )?fn (\w+)")
@@ -22,11 +22,18 @@ CLAUSE = re.compile(r"ensures(?: (\w+))? ?\{")
 HEAD = """# What is proved
 
 Each public call of the library crates, with the clauses that the prover holds its body to: whatever is handed to it
-within its `requires`, it returns, and each clause holds of what it returns. A clause is told by its name, and by the
-sentence above it where one stands there; without a name it is `·`. The clauses themselves stand in the sources.
-`docs/PROMISES.md` says what of this the program promises, and what has to be believed. This page is made by
-`tests/docs/proofs.py`, and the gate fails where it isn't what the sources say.
+within its `requires`, it returns, and each clause holds of what it returns. A clause is listed by its name, `·` if it
+has none, and by the comment above it. The clauses themselves are in the sources. `docs/PROMISES.md` says what of this
+the program promises, and what has to be believed. `make proofs` makes this page of the sources.
 """
+# for the check: the heads of functions, the traits that are public, the clauses, and the page's own rows
+FUNCTION = re.compile(r"^ *(pub(?:\([^)]*\))? )?(?:const |unsafe )*fn (\w+)", re.M)
+TRAIT = re.compile(r"^pub (?:unsafe )?trait\b[^\n]*\{\n(.*?)^\}", re.M | re.S)
+ENSURES = re.compile(r"^ *ensures(?: (\w+))? ?\{", re.M)
+COMMENT = re.compile(r"^ *//.*$", re.M)
+FILE = re.compile(r"^`(crates/[\w/]+\.rt)`$")
+ROW = re.compile(r"^\| `(?:\w+::)?(\w+)` \| (?:.*?[^\\])? ?\| (.*) \|$")
+LISTED = re.compile(r"(?:^|; )`(\w+|·)`(?=:|;|$)")
 
 
 class Call:
@@ -134,20 +141,58 @@ def page():
     return HEAD + "\n" + "\n".join(lines)
 
 
+def listed(text):
+    """The calls that a page lists, by file, each with the names of its clauses."""
+    found, path = {}, ""
+    for line in text.split("\n"):
+        if file := FILE.match(line):
+            path = file[1]
+        elif call := ROW.match(line):
+            found.setdefault(path, []).append((call[1], LISTED.findall(call[2])))
+    return found
+
+
+def in_source(text):
+    """The public calls of a source that have clauses, each with their names."""
+    text = COMMENT.sub("", text)
+    traits = [it.span(1) for it in TRAIT.finditer(text)]
+    heads = list(FUNCTION.finditer(text))
+    for head, end in zip(heads, [*(it.start() for it in heads[1:]), len(text)]):
+        clauses = [name or "·" for name in ENSURES.findall(text, head.end(), end)]
+        if clauses and (head[1] == "pub " or any(first <= head.start() < last for first, last in traits)):
+            yield head[2], clauses
+
+
+def compare(text):
+    """Prints each call that the page and the sources don't list alike. Returns how many clauses are listed as the
+    sources have them, and how many calls aren't."""
+    there, passed, failed = listed(text), 0, 0
+    for path in sorted(glob.glob(os.path.join(TOP, "crates", "*", "src", "**", "*.rt"), recursive=True)):
+        name = os.path.relpath(path, TOP)
+        if name.startswith("crates/mc_tests") or name.startswith("crates/mcaudit/"):
+            continue  # they export nothing
+        with open(path, encoding="utf-8") as file:
+            calls, rows = list(in_source(file.read())), there.pop(name, [])
+        wrong = [it for it in calls if it not in rows] + [it for it in rows if it not in calls]
+        passed += sum(len(clauses) for call, clauses in calls if (call, clauses) in rows)
+        failed += len(wrong)
+        for call, clauses in wrong:
+            print(f"{name}: {call}: {', '.join(clauses)}: not both in the source and on the page")
+    for name in there:
+        failed += 1
+        print(f"{name}: there is no such file")
+    return passed, failed
+
+
 def main():
     text = page()
-    clauses = sum(line.count("`; `") + 1 for line in text.split("\n") if line.startswith("| `"))
-    if sys.argv[1:] == ["--write"]:
-        with open(PAGE, "w", encoding="utf-8") as file:
+    if len(sys.argv) > 1:
+        with open(sys.argv[1], "w", encoding="utf-8") as file:
             file.write(text)
-        print(f"docs/PROOFS.md: {clauses} clauses")
         return 0
-    with open(PAGE, encoding="utf-8") as file:
-        is_same = file.read() == text
-    if not is_same:
-        print("docs/PROOFS.md isn't what the sources say: python3 tests/docs/proofs.py --write")
-    print(f"{int(is_same)} passed, {int(not is_same)} failed")
-    return 0 if is_same else 1
+    passed, failed = compare(text)
+    print(f"{passed} passed, {failed} failed")
+    return 1 if failed or not passed else 0
 
 
 if __name__ == "__main__":

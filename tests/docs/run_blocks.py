@@ -8,8 +8,9 @@ run one after the other, each by a shell of its own, in a folder that has copies
 folder itself. Commands of `make` are not run: they are the gate's own steps.
 
 The guide's blocks show a folder `site` of the reader's own. Each has a line before it: `<!-- site: NAME -->`, and the
-folder is a copy of tests/docs/sites/NAME, or, `as above`, what the block before has left; or `<!-- needs routers -->`,
-and it isn't run. The last line counts the commands: `N passed, M failed`. The status is 0 if none failed and one was run.
+folder is a copy of tests/docs/sites/NAME, or, `as above`, what the block before has left; or `<!-- needs routers: NAME
+-->`, and tests/lab/guide.py runs it. The last line counts the commands: `N passed, M failed`. The status is 0 if none
+failed and one was run.
 """
 import os
 import re
@@ -20,7 +21,7 @@ import tempfile
 
 TOP = os.path.join(os.path.dirname(os.path.abspath(__file__)), "..", "..")
 BLOCK = re.compile(r"^```console\n(.*?)^```$", re.M | re.S)
-GUIDE_BLOCK = re.compile(r"^(?:<!-- (site: [\w ]+|needs routers) -->\n)?```console\n(.*?)^```$", re.M | re.S)
+GUIDE_BLOCK = re.compile(r"^(?:<!-- (site: [\w ]+|needs routers: \w+) -->\n)?```console\n(.*?)^```$", re.M | re.S)
 SITES = os.path.join(TOP, "tests", "docs", "sites")
 MARK = "\x01"
 SECONDS = 120
@@ -78,7 +79,7 @@ def compare_guide(program):
             if not mark:
                 print(f"docs/GUIDE.md: this block has no mark:\n{block}")
                 yield 0, 1
-            elif mark != "needs routers":
+            elif not mark.startswith("needs routers: "):
                 if name != "as above":
                     shutil.rmtree(os.path.join(folder, "site"), ignore_errors=True)
                     shutil.copytree(os.path.join(SITES, name), os.path.join(folder, "site"))

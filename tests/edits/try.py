@@ -40,8 +40,6 @@ The last line is 'N passed, M failed'. The status is 0 only if none failed and o
 """
 import argparse
 import collections
-import importlib.machinery
-import importlib.util
 import os
 import re
 import shutil
@@ -53,21 +51,15 @@ import types
 from concurrent.futures import ThreadPoolExecutor
 
 sys.dont_write_bytecode = True
+sys.path.append(os.path.join(os.path.dirname(os.path.abspath(__file__)), "..", "..", "crates"))
+from beside import load_rt
+
 MEMORY_OF_CHECK = 3_000_000_000
 HOUSE = "mc_filter"  # the crate whose functions the edits of the selftest change
 ROOM = tempfile.TemporaryDirectory(prefix="try-", ignore_cleanup_errors=True)
 
 
-def load_rt():
-    """Returns the script `rt` as a module: it reads edits, and knows the words of a check."""
-    file = shutil.which("rt") or sys.exit("try.py: there is no rt")
-    loader = importlib.machinery.SourceFileLoader("rt", os.path.realpath(file))
-    module = importlib.util.module_from_spec(importlib.util.spec_from_loader("rt", loader))
-    loader.exec_module(module)
-    return module
-
-
-rt = load_rt()
+rt = load_rt()  # it reads edits, and knows the words of a check
 
 
 def text_of(file):

@@ -6,21 +6,24 @@
 It works on a copy of the repository, in steps:
 
   packages  tests/packages.sh installs what of the file `packages` is missing; what can't be had ends the gate by name
-  house     tests/house looks whether each thing stands once, and whether something leads to each lemma
+  house     tests/house checks whether each thing is written once, whether something uses each lemma, and the subjects of
+            the commits since the last release, where the clone has them
   proofs    `rt ci` proves each crate and its tests from nothing, runs the tests, and builds and runs the program
   edits     tests/edits/try.py tries the must-fail edits of the crates, many in one check: the prover must
             refuse each. It begins with a crate as soon as that is proved, beside the proofs that are left, which go
             first. (The copy that `rt ci` sees has none of them: it would try each in a check of its own.)
-  cases     tests/docs looks whether what the documents name is there, and runs what README and the tour show; tests/cli has cases of
-            the program that was built; tests/audited works out anew what it says of random domains, writes topologies in every form, and works out what changes make of the files; tests/swapped_set.py leads
-            the link to a set elsewhere while the set is read; tests/refusals
-            refuses it each request for memory, each read and each write in turn, and the tests about memory each growth;
-            tests/tools tries the tools
+  cases     tests/prove tries how `make` proves; tests/docs checks whether what the documents name is there, and their
+            words, and runs what README, the tour and the guide show; tests/cli has cases of the program that was built;
+            tests/audited works out a second time what it answers for random domains, writes topologies and certificates
+            in every form, and works out what changes make of the files; tests/refusals refuses it each request for
+            memory, each read and each write in turn, and the tests about memory each growth; tests/swapped_set.py
+            changes the link to a set while the set is read; tests/tools tries the tools
+
+What of the last step watches no clock runs side by side, and then the link to a set and the tools, one after the other.
 
 Where a package is missing or the proofs fail, it ends there. At the end stands what each step and each crate took in
 processor time; with REPORT, a path, the same as a page in Markdown, and no proof that an earlier run passed on this
-machine is taken over. The last line counts everything, `N passed, M
-failed`, and the status is 0 if nothing failed.
+machine is taken over. The last line counts everything, `N passed, M failed`, and the status is 0 if nothing failed.
 """
 import contextlib
 import os
@@ -31,14 +34,17 @@ import sys
 import tempfile
 import threading
 import time
+from concurrent.futures import ThreadPoolExecutor
+
+sys.dont_write_bytecode = True
+sys.path.append(os.path.join(os.path.dirname(os.path.abspath(__file__)), "..", "..", "crates"))
+from prove import CORES, checks_at_once, free_memory
 
 MARK = "MCAUDIT_GATE"
 TESTS = [f"crates/{name}/out/{name}_tests" for name in ("mc_tests_readers", "mc_tests_domain")]  # as `rt ci` builds them
 TICK = os.sysconf("SC_CLK_TCK")
 COUNTS = re.compile(r"(\d+) passed, (\d+) failed")
 PROVED = re.compile(r"rt: (\w+) (?:proved|is kept: .*)\n")  # as `rt ci` says it of a crate
-CORES = len(os.sched_getaffinity(0))
-MEMORY_OF_CHECK = 4_000_000_000
 MEMORY_OF_EDIT = 3_000_000_000
 
 
@@ -90,7 +96,10 @@ class Prover:
 
 
 class Step:
-    """A command of the gate while it runs: its lines, and what it took."""
+    """A command of the gate while it runs: its lines, and what it took.
+
+    `rt ci` runs so many checks beside each other as RT_JOBS says, each in one process: one that has four cores to
+    itself ends hardly sooner where others wait for theirs, and takes half as much processor time again."""
 
     def __init__(self, name, words, room, **more):
         self.name, self.begun = name, time.monotonic()
@@ -157,6 +166,19 @@ class Gate:
         step.read(told)
         self.add(step)
 
+    def steps_beside(self, steps):
+        """Runs commands in the copy beside one another, and shows the lines of each in one piece, in their order."""
+        def run(name, words):
+            step, lines = Step(name, words, self.room), []
+            step.read(lines.append)
+            return step, lines
+
+        with ThreadPoolExecutor(CORES) as pool:
+            for done in [pool.submit(run, name, words) for name, *words in steps]:
+                step, lines = done.result()
+                print(f"== {step.name}: {' '.join(step.running.args)}\n", *lines, sep="", end="", flush=True)
+                self.add(step)
+
     def add(self, step):
         """Counts a step that has ended."""
         is_well = step.running.returncode == 0
@@ -164,19 +186,6 @@ class Gate:
         self.passed += passed
         self.failed += failed or (0 if is_well else 1)
         self.steps.append((step.name, step.seconds, step.minutes))
-
-
-def checks_at_once():
-    """Returns how many checks `rt ci` shall run beside each other, each in one process.
-
-    One that has four cores to itself ends hardly sooner where others wait for theirs, and takes half as much
-    processor time again."""
-    return max(1, min(CORES, free_memory() // MEMORY_OF_CHECK))
-
-
-def free_memory():
-    with open("/proc/meminfo", encoding="ascii") as file:
-        return next(int(it.split()[1]) * 1024 for it in file if it.startswith("MemAvailable:"))
 
 
 def copy_repository(root, room):
@@ -228,19 +237,25 @@ def report(gate, crates, begun):
 def try_program(gate):
     """The steps over what was proved and built; without that they would show nothing."""
     program = "crates/mcaudit/out/mcaudit"
-    gate.step("the script for the edits", sys.executable, "tests/edits/try.py", "--selftest")
-    gate.step("what documents name", sys.executable, "tests/docs/check.py")
-    gate.step("what the page of proofs has", sys.executable, "tests/docs/proofs.py")
-    gate.step("cases of the program", sys.executable, "tests/cases.py", "cli", program)
-    gate.step("tables of the program", sys.executable, "tests/cli/tables.py", program)
-    gate.step("what README and the tour show", sys.executable, "tests/docs/run_blocks.py", program)
-    gate.step("audits worked out anew", sys.executable, "tests/audited/run.py", program)
-    gate.step("topologies in every form", sys.executable, "tests/audited/forms.py", program)
-    gate.step("changes of random domains", sys.executable, "tests/audited/changed.py", program)
-    gate.step("plans carried out", sys.executable, "tests/audited/plans.py", program)
-    gate.step("the schema of audits", "/usr/bin/python3", "tests/audited/schema.py")
+    gate.steps_beside([
+        ("the script for the edits", sys.executable, "tests/edits/try.py", "--selftest"),
+        ("how make proves", sys.executable, "tests/prove/run.py"),
+        ("what documents name", sys.executable, "tests/docs/check.py"),
+        ("how documents read", sys.executable, "tests/docs/limits.py"),
+        ("words of documents and tools", sys.executable, "tests/docs/prose.py"),
+        ("clauses on the page of proofs", sys.executable, "tests/docs/proofs.py"),
+        ("cases of the program", sys.executable, "tests/cases.py", "cli", program),
+        ("tables of the program", sys.executable, "tests/cli/tables.py", program),
+        ("what README and the tour show", sys.executable, "tests/docs/run_blocks.py", program),
+        ("audits worked out a second time", sys.executable, "tests/audited/run.py", program),
+        ("topologies in every form", sys.executable, "tests/audited/forms.py", program),
+        ("certificates in odd forms", sys.executable, "tests/audited/certificate_forms.py", program),
+        ("changes of random domains", sys.executable, "tests/audited/changed.py", program),
+        ("plans carried out", sys.executable, "tests/audited/plans.py", program),
+        ("the schema of audits", "/usr/bin/python3", "tests/audited/schema.py"),
+        ("refusals of memory, reads and writes", sys.executable, "tests/refusals/run.py", program, *TESTS),
+    ])
     gate.step("a set that is swapped while it is read", sys.executable, "tests/swapped_set.py", program)
-    gate.step("refusals of memory, reads and writes", sys.executable, "tests/refusals/run.py", program, *TESTS)
     gate.step("cases of the tools", "sh", "tests/tools/run.sh")
 
 
@@ -271,6 +286,7 @@ def main():
         gate = Gate(room)
         gate.step("packages", "sh", "tests/packages.sh", "gate")
         gate.step("each thing once", "sh", "tests/house/check.sh", f"{homes}/crates")
+        gate.step("subjects of commits", sys.executable, "tests/house/subjects.py", root)
         if not gate.failed and prove(gate, homes):
             for path in edits:
                 copy_file(root, room, path)

@@ -1,7 +1,10 @@
 #!/usr/bin/env python3
-"""Hosts that zap, and who else sends to a host, on a network of this machine's kernel. What the program and its tools
+"""What hosts ask for, and who else sends to them, on a network of this machine's kernel. What the program and its tools
 say is held against what a host gets:
 
+- a group that a host asks for, and that no router forwards and no flow lists: it is named beside the yes, and the
+  host gets nothing. Once routers forward it, they are named, and the host gets it; once a flow lists it, it is named
+  no more.
 - a router that nobody lists sends a flow onto a LAN beside a listed one: the verdict is yes, the host gets each packet
   twice, and mcaudit-premises says where somebody else sends.
 - hosts that zap through the groups of a domain of PIM: nothing is called lost, the list of their LAN is gathered all
@@ -19,7 +22,7 @@ import time
 sys.dont_write_bytecode = True
 import premises as lab  # noqa: E402
 
-SOURCE, MEMBER = lab.SOURCE, lab.MEMBER
+GROUP, SOURCE, MEMBER, ASKED = lab.GROUP, lab.SOURCE, lab.MEMBER, "239.9.9.9"
 CHANNELS = [f"239.1.3.{it}" for it in range(1, 9)]
 STEADY, ZAPPED = CHANNELS[:2], CHANNELS[2:]
 HOSTS = [("m1", "10.88.3.71"), ("m2", "10.88.3.72"), ("m3", "10.88.3.73")]
@@ -74,6 +77,16 @@ class HostLab(lab.Lab):
                               check=False)
         return done.stdout.splitlines()
 
+    def count_of(self, *groups):
+        """Returns how many of 20 packets the member gets of each group."""
+        count = self.begin("count", "member", ["python3", TRAFFIC, "member", MEMBER, "3.5", *groups],
+                           stdout=subprocess.PIPE, text=True)
+        time.sleep(0.7)
+        self.at("source", f"python3 {TRAFFIC} source {SOURCE} 16 20 {' '.join(groups)}")
+        found = dict(line.split() for line in count.communicate()[0].splitlines())
+        del self.running["count"]
+        return [int(found[it]) for it in groups]
+
     def gather(self, *words):
         """Gathers the list of the last LAN by its router. Returns the status."""
         command = [f"{lab.TOOLS}/mcaudit-reports", "-o", f"{self.site}/igmp-l3", *words, "--by",
@@ -89,6 +102,38 @@ class HostLab(lab.Lab):
 
 
 LAB = None
+
+
+def judge_asked(name, lines, expected):
+    """Judges what is said of groups that are asked for, beside a yes."""
+    asked = [it for it in lines if it.startswith("asked ")]
+    print(f"{name}: {asked}", flush=True)
+    lab.judge(name, asked == expected, f"not {expected}: {lines}")
+    lab.judge(name, lines[-1:] == ["verdict yes"], lines)
+    summary = next((it for it in lines if it.startswith("summary ")), "")
+    lab.judge(name, summary.endswith(f" asked {len(expected)}"), summary)
+
+
+def try_asked():
+    """A host asks for a group that nobody lists."""
+    name = "a group that is asked for"
+    LAB.begin("host", "member", ["python3", TRAFFIC, "member", MEMBER, "600", GROUP, ASKED])
+    time.sleep(1)
+    lab.judge(name, LAB.gather("--ask", "--wait", "2") == 0, "no list")
+    LAB.collect()
+    judge_asked(name, LAB.audit(), [f"asked * {ASKED} lans 1: l3: no router forwards it"])
+    lab.judge(name, LAB.count_of(GROUP, ASKED) == [20, 0], "the host gets something else")
+    for router in lab.ROUTERS:
+        control = f"smcroutectl -i {LAB.name}-{router} -u {LAB.folder}/{router}.sock"
+        LAB.at(router, f"{control} add eth0 {SOURCE} {ASKED} eth1")
+    LAB.collect()
+    judge_asked(f"{name} and forwarded", LAB.audit(), [f"asked * {ASKED} lans 1: l3: forwarded by r1 r2 r3"])
+    lab.judge(name, LAB.count_of(GROUP, ASKED) == [20, 20], "forwarded, and the host does not get all")
+    LAB.list_flows(GROUP, ASKED)
+    LAB.collect()
+    judge_asked(f"{name} and listed", LAB.audit(), [])
+    LAB.end("host")
+    LAB.list_flows(GROUP)
 
 
 def try_unlisted():
@@ -193,7 +238,7 @@ def main():
     LAB = lab.LAB = HostLab(os.path.abspath(sys.argv[1]))
     try:
         LAB.build()
-        for name, function in (("unlisted", try_unlisted), ("zapping", try_zapping)):
+        for name, function in (("asked", try_asked), ("unlisted", try_unlisted), ("zapping", try_zapping)):
             if len(sys.argv) == 2 or name in sys.argv[2:]:
                 function()
     finally:

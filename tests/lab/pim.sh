@@ -114,7 +114,8 @@ flow 10.77.0.50 239.1.2.3 ttl 8 wrong: Stray r3 $vif
   shown by packets sent with ttl 3 or more
   a copy arrives at r3 eth0, which has no resolved (S,G) entry for it, but one for every source: entry (*,239.1.2.3) from eth0 to eth0 eth1 in cache-r3
   this may be healthy: mcaudit audits (S,G) trees only
-summary flows 1 right 0 wrong 1 unknown 0 unwanted 0
+  behind it: not known past r3
+summary flows 1 right 0 wrong 1 unknown 0 unwanted 0 asked 0
 verdict no
 END
 
@@ -123,7 +124,7 @@ vtysh --vty_socket "$frr/r3" -c 'configure terminal' -c 'no ip pim spt-switchove
 expect 0 while_sending audit_while_sending <<'END'
 flow 10.77.0.50 239.1.2.3 ttl 8 yes copies 4
   wanted 1: 10.77.3.0-24
-summary flows 1 right 1 wrong 0 unknown 0 unwanted 0
+summary flows 1 right 1 wrong 0 unknown 0 unwanted 0 asked 0
 verdict yes
 END
 expect 0 count_packets <<'END'

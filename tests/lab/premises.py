@@ -30,6 +30,7 @@ PORTS = [("source", "eth0", "l0", SOURCE), ("r1", "eth0", "l0", "10.88.0.1"), ("
          ("r2", "eth2", "lx", "10.88.9.2"), ("r3", "eth0", "l2", "10.88.2.3"), ("r3", "eth1", "l3", "10.88.3.3"),
          ("member", "eth0", "l3", MEMBER)]
 ROUTERS = "r1", "r2", "r3"
+ROUTER = f"phyint eth0 enable\nphyint eth1 enable\nmroute from eth0 source {SOURCE} group {GROUP} to eth1\n"
 TRAFFIC = f"""
 import socket, sys, time
 kind, seconds, size, ttl, part = sys.argv[1], float(sys.argv[2]), int(sys.argv[3]), int(sys.argv[4]), sys.argv[5]
@@ -93,28 +94,39 @@ class Lab:
     def __init__(self, program, ports=()):
         """Takes the program, and where there are further places, their ports."""
         self.name, self.folder, self.running = f"mcp{os.getpid()}", tempfile.mkdtemp(), {}
-        self.ports = [*PORTS, *ports]
+        self.set_ports([*PORTS, *ports])
         self.site = os.path.join(self.folder, "site")
         self.environment = {**os.environ, "PATH": f"{os.path.dirname(program)}:{os.environ['PATH']}"}
-        self.places = ["lans", *dict.fromkeys(place for place, *_ in self.ports)]
         self.ways = [f"{it}=!ip netns exec {self.name}-{it}" for it in ROUTERS]
+
+    def set_ports(self, ports):
+        """Takes the ports, each of a place, with its device, its LAN and its address."""
+        self.ports = ports
+        self.places = ["lans", *dict.fromkeys(place for place, *_ in ports)]
 
     def at(self, place, line, check=True):
         """Runs a line of the shell at a place."""
         return run(["ip", "netns", "exec", f"{self.name}-{place}", "sh", "-c", line], check)
 
-    def build_network(self):
-        """Makes the places and the LANs, and joins them."""
+    def join(self, place, device, lan, address):
+        """Joins a place to a LAN, which is made if it isn't there."""
+        self.at("lans", f"ip link show {lan} > /dev/null 2>&1 || ip link add {lan} type bridge mcast_snooping 0; "
+                f"ip link set {lan} up; ip link add {place}-{device} type veth peer name {device} netns "
+                f"{self.name}-{place}; ip link set {place}-{device} master {lan} up")
+        self.at(place, f"ip link set {device} up; ip address add {address}/24 dev {device}")
+
+    def join_places(self):
+        """Makes the places, and joins them to their LANs."""
         for place in self.places:
             run(f"ip netns add {self.name}-{place}")
             self.at(place, "ip link set lo up; "
                     "for it in all default; do echo 0 > /proc/sys/net/ipv4/conf/$it/rp_filter; done")
-        for lan in dict.fromkeys(lan for _, _, lan, _ in self.ports):
-            self.at("lans", f"ip link add {lan} type bridge mcast_snooping 0; ip link set {lan} up")
-        for place, device, lan, address in self.ports:
-            self.at("lans", f"ip link add {place}-{device} type veth peer name {device} netns {self.name}-{place}; "
-                    f"ip link set {place}-{device} master {lan} up")
-            self.at(place, f"ip link set {device} up; ip address add {address}/24 dev {device}")
+        for port in self.ports:
+            self.join(*port)
+
+    def build_network(self):
+        """Makes the places and the LANs, and the routes between them."""
+        self.join_places()
         self.at("r2", "ip route add 10.88.0.0/24 via 10.88.1.1")
         self.at("r3", "ip route add 10.88.0.0/16 via 10.88.2.2")
         self.at("source", "ip route add default via 10.88.0.1")
@@ -139,16 +151,15 @@ class Lab:
         with open(os.path.join(self.site, name), "w", encoding="ascii") as file:
             file.write(text)
 
-    def start_router(self, router):
-        """Starts smcroute on a router, and waits for its row."""
+    def start_router(self, router, lines=ROUTER):
+        """Starts smcroute on a router by these lines, and waits for its rows."""
         own = f"{self.folder}/{router}"
         with open(f"{own}.conf", "w", encoding="ascii") as file:
-            file.write(f"phyint eth0 enable\nphyint eth1 enable\n"
-                       f"mroute from eth0 source {SOURCE} group {GROUP} to eth1\n")
+            file.write(lines)
         self.begin(router, router, ["smcrouted", "-n", "-N", "-f", f"{own}.conf", "-i", f"{self.name}-{router}", "-P",
                                     f"{own}.pid", "-u", f"{own}.sock"])
         for _ in range(50):
-            if self.at(router, "cat /proc/net/ip_mr_cache").count("\n") > 1:
+            if self.at(router, "cat /proc/net/ip_mr_cache").count("\n") > lines.count("mroute"):
                 return
             time.sleep(0.1)
         raise SystemExit(f"lab: smcroute on {router} has no row")

@@ -130,7 +130,7 @@ flow 10.77.0.5 239.1.2.3 ttl 4 yes copies 3
   wanted 1: 10.77.2.0-24
 flow 10.77.0.5 239.1.2.4 ttl 4 yes copies 3
   wanted 1: 10.77.2.0-24
-summary flows 2 right 2 wrong 0 unknown 0 unwanted 0
+summary flows 2 right 2 wrong 0 unknown 0 unwanted 0 asked 0
 verdict yes
 END
 make_certificate > "$site/certificate" || fail 'no certificate for right tables'
@@ -158,7 +158,7 @@ flow 10.77.0.5 239.1.2.4 ttl 4 wrong: Duplicate 10.77.2.0-24
   then audit again
 event r1 0 ttl 255 sent 2 strayed 0
 event r2 0 ttl 254 sent 1 strayed 0
-summary flows 2 right 1 wrong 1 unknown 0 unwanted 0
+summary flows 2 right 1 wrong 1 unknown 0 unwanted 0 asked 0
 verdict no
 END
 expect 1 check_certificate <<'END'
@@ -175,7 +175,7 @@ member 239.1.2.4 3
 END
 collect
 expect 0 "$mcaudit" audit "$site" --faults <<'END'
-summary flows 2 right 2 wrong 0 unknown 0 unwanted 0
+summary flows 2 right 2 wrong 0 unknown 0 unwanted 0 asked 0
 verdict yes
 END
 echo 'lab: the verdicts are those of the network'

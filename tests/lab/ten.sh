@@ -101,7 +101,7 @@ flow 10.77.0.50 239.1.2.3 ttl $ttl yes copies 9
   wanted 3: 10.77.5.0-24 10.77.7.0-24 10.77.9.0-24
 flow 10.77.0.50 239.1.2.4 ttl 16 yes copies 5
   wanted 1: 10.77.5.0-24
-summary flows 2 right 2 wrong 0 unknown 0 unwanted 0
+summary flows 2 right 2 wrong 0 unknown 0 unwanted 0 asked 0
 verdict yes
 END
 }
@@ -156,8 +156,8 @@ echo '- From nothing: the whole folder in one go, its verdict, and its page.'
 while_sending on_routers mcaudit-site init --ask-routers --empty --wait 5 --listen 0 > "$scratch/init" 2> "$scratch/said"
 status=$?
 cat "$scratch/init"
-if [ "$status" -ne 1 ] || ! grep -q '^verdict yes$' "$scratch/init" || ! grep -q 'unsure: r9 alone0' "$scratch/said"; then
-    fail "init ended with $status, where it is unsure of alone0 alone: $(cat "$scratch/said")"
+if [ "$status" -ne 1 ] || ! grep -q '^verdict yes$' "$scratch/init" || ! grep -q 'needs a decision: r9 alone0' "$scratch/said"; then
+    fail "init ended with $status, where alone0 alone needs a decision: $(cat "$scratch/said")"
 fi
 make_page right 0
 taken=$(($(date +%s) - begun))
@@ -165,7 +165,7 @@ echo "lab: from nothing to the page of ten routers: $taken s"
 [ "$taken" -lt 600 ] || fail 'that took ten minutes'
 expect_right
 expect 0 watch_once <<'END'
-TIME: verdict yes, flows 2, right 2, wrong 0, unwanted 0, unlisted 0
+TIME: verdict yes, flows 2, right 2, wrong 0, unwanted 0, unlisted 0, asked 0
 tables N old; lists of 3 LANs N old; decided, not gathered: 10.77.0.0-24 10.77.1.0-24 10.77.2.0-24 10.77.3.0-24 10.77.4.0-24 10.77.6.0-24 10.77.8.0-24; packets: not looked at (N of 4 sets, each read after the one before); rp_filter, links, MTU, netfilter, ip mrule: not looked at (r1 r2 r3 r4 r5 r6 r7 r8 ..: not asked)
 no audit before it is there to compare with
 END
@@ -193,7 +193,7 @@ change_rows r5 add eth0 "$sender" 239.1.2.3 eth1
 change_rows r3 add eth0 "$sender" 239.1.2.3 eth1
 expect_counts 6 6 6
 expect 1 watch_once <<'END'
-TIME: verdict no, flows 2, right 1, wrong 1, unwanted 0, unlisted 0
+TIME: verdict no, flows 2, right 1, wrong 1, unwanted 0, unlisted 0, asked 0
 tables N old; lists of 3 LANs N old; decided, not gathered: 10.77.0.0-24 10.77.1.0-24 10.77.2.0-24 10.77.3.0-24 10.77.4.0-24 10.77.6.0-24 10.77.8.0-24; packets flow on 1 of 1 flows; rp_filter, links, MTU, netfilter, ip mrule: not looked at (r1 r2 r3 r4 r5 r6 r7 r8 ..: not asked)
 packets: by the last 4 sets
 wrong: 10.77.0.50 239.1.2.3 Duplicate 10.77.4.0-24
@@ -212,7 +212,7 @@ flow 10.77.0.50 239.1.2.3 ttl 16 wrong: Duplicate 10.77.4.0-24
   forwarded onto 10.77.4.0-24 by r5 eth1: entry (10.77.0.50,239.1.2.3) from eth0 to eth1 in cache-r5
   fix: remove eth1 from this entry of r5; every LAN reached now is still reached
   then audit again
-summary flows 2 right 1 wrong 1 unknown 0 unwanted 0
+summary flows 2 right 1 wrong 1 unknown 0 unwanted 0 asked 0
 verdict no
 END
 make_page duplicate 1
@@ -243,7 +243,7 @@ flow 10.77.0.50 239.1.2.3 ttl 16 wrong: Loop 10.77.1.0-24
   10.77.3.0-24 to 10.77.1.0-24 through r3, eth1 to eth0: entry (10.77.0.50,239.1.2.3) from eth1 to eth0 in cache-r3
   fix: remove eth0 from this entry of r3; every LAN reached now is still reached
   then audit again
-summary flows 2 right 1 wrong 1 unknown 0 unwanted 0
+summary flows 2 right 1 wrong 1 unknown 0 unwanted 0 asked 0
 verdict no
 END
 make_page loop 1
@@ -269,7 +269,7 @@ flow 10.77.0.50 239.1.2.3 ttl 16 wrong: Stray r9 $stray
   shown by packets sent with ttl 8 or more
   alone0 of r9 is on no listed LAN
   entry (10.77.0.50,239.1.2.3) from eth0 to eth1 alone0 in cache-r9
-summary flows 2 right 1 wrong 1 unknown 0 unwanted 0
+summary flows 2 right 1 wrong 1 unknown 0 unwanted 0 asked 0
 verdict no
 END
 make_page stray 1
@@ -294,7 +294,7 @@ flow 10.77.0.50 239.1.2.3 ttl 16 wrong: Missed 10.77.7.0-24
   10.77.7.0-24: expected from here by r9
   10.77.7.0-24: no entry for this flow forwards onto it
   also missed: 10.77.9.0-24
-summary flows 2 right 1 wrong 1 unknown 0 unwanted 0
+summary flows 2 right 1 wrong 1 unknown 0 unwanted 0 asked 0
 verdict no
 END
 make_page missed 1
@@ -305,7 +305,7 @@ flow 10.77.0.50 239.1.2.3 ttl 16 unknown: Missed 10.77.7.0-24
   10.77.7.0-24: expected from here by r9
   also missed: 10.77.9.0-24
 excluded r8
-summary flows 2 right 0 wrong 0 unknown 2 unwanted 0
+summary flows 2 right 0 wrong 0 unknown 2 unwanted 0 asked 0
   excluded: r8: the verdict is no; a yes requires all routers
 verdict no
 END
@@ -404,7 +404,7 @@ expect 1 "$mcaudit" audit "$site" --faults <<'END'
 flow 10.77.0.50 239.1.2.3 ttl 16 wrong: Missed 10.77.9.0-24
   10.77.9.0-24 is reached by packets sent with ttl 19 or more; this flow is listed with ttl 16
   stopped at r9 eth1: ttl 10 is not above threshold 12
-summary flows 2 right 1 wrong 1 unknown 0 unwanted 0
+summary flows 2 right 1 wrong 1 unknown 0 unwanted 0 asked 0
 verdict no
 END
 make_page threshold 1

@@ -39,7 +39,7 @@ flow 10.0.0.5 239.1.2.3 ttl 3 wrong: Duplicate l2
   forwarded onto l2 by r2 eth1: entry (10.0.0.5,239.1.2.3) from eth0 to eth1 in cache-r2
   fix: remove eth1 from this entry of r2; every LAN reached now is still reached
   then audit again
-summary flows 1 right 0 wrong 1 unknown 0 unwanted 0
+summary flows 1 right 0 wrong 1 unknown 0 unwanted 0 asked 0
 verdict no
 END
 in_room mcaudit audit /tmp/network | grep -qx 'verdict yes' || fail 'an audit of what is right says no yes'

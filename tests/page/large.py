@@ -112,6 +112,7 @@ def stray(flow, house, studio, room):
     events = [event(router, 0, 253, [1, 9], strays=1) if it["router"] == router else it
               for it in missed(flow, house, studio, room)["events"]]
     return {"finding": {"kind": "Stray", "router": router, "vif": 9}, "why": why, "also": [], "events": events,
+            "behind": {"finding": None, "missed": [room], "open": [], "shown_from": None, "strays": [], "why": []},
             "shown_from": 4}
 
 
@@ -138,8 +139,8 @@ def lines(count):
         if number % 9 == 4:
             room = rng.choice(house.rooms())
             found = WRONG[number // 9 % len(WRONG)](flow, house, studio, room)
-            yield flow | {"found_ttl": 255, "right": False, "shown_from": None, "wanted": sorted({*rooms, room})} | found | {
-                "why": answers.with_text(found["why"])}
+            yield flow | {"at_ttl": None, "behind": None, "found_ttl": 255, "right": False, "shown_from": None,
+                          "wanted": sorted({*rooms, room})} | found | {"why": answers.with_text(found["why"])}
             continue
         entries = house.entries(studio, rooms)
         name = json.dumps(entries)
@@ -151,7 +152,13 @@ def lines(count):
     for number in range(300):
         yield {"unlisted": {"group": f"239.9.0.{number & 255}", "routers": list(house.vifs)[:1 + number % 70],
                             "source": f"10.7.{number >> 8}.9"}}
-    yield {"summary": {"flows": count, "right": right, "unknown": 0, "unwanted": unwanted, "wrong": count - right}}
+    for number in range(300):
+        routers = list(house.vifs)[:number % 7]
+        yield {"asked": {"group": f"239.10.{number >> 8}.{number & 255}", "lans": house.rooms()[:1 + number % 30], "listed": [],
+                         "none": [], "routers": routers, "source": None, "star": []}}
+    asked = sum(1 + number % 30 for number in range(300))
+    yield {"summary": {"asked": asked, "flows": count, "right": right, "unknown": 0, "unwanted": unwanted,
+                       "wrong": count - right}}
     yield {"verdict": "yes" if right == count else "no"}
 
 

@@ -323,7 +323,7 @@ def escapes_of_paths_and_devices(place):
     for device in ("\\u009b2J", "\\u001b[2J", "a:b", "é" * 8, "a/b", ""):
         place.write("site/topology", f'lans = ["l1"]\nrouter = [{{name = "r1"}}]\n'
                     f'interface = [{{router = "r1", lan = "l1", device = "{device}"}}]\n')
-        assert place.run("site", "lans", "site") == 3 and "no name of a device" in place.said, (device, place.said)
+        assert place.run("site", "lans", "site") == 3 and "valid name of a device" in place.said, (device, place.said)
         assert place.said.isascii() and place.said.count("\n") == 1 and place.said[:-1].isprintable(), place.said
 
 

@@ -10,8 +10,8 @@ import time
 from place import TOP, case
 
 FAULTY = os.path.join(TOP, "examples", "faults", "duplicate-by-two-routers")
-YES = "flow 10.0.0.5 239.1.2.3: fault gone: Duplicate hall\nsummary flows 1 right 1 wrong 0 unknown 0 unwanted 0\n" \
-      "verdict yes\n"
+YES = "flow 10.0.0.5 239.1.2.3: fault gone: Duplicate hall\n" \
+      "summary flows 1 right 1 wrong 0 unknown 0 unwanted 0 asked 0\nverdict yes\n"
 MEND = "r2: remove eth0 10.0.0.5 239.1.2.3 eth1"
 SLOW = "import os, time\nutime = os.utime\ndef slowly(*given, **more):\n    time.sleep(0.2)\n" \
        "    utime(*given, **more)\nos.utime = slowly\n"
@@ -110,7 +110,7 @@ def files_that_nobody_lists(place):
 @case
 def listed_file_that_is_none(place):
     """mcaudit says what it is, and the tool waits for nothing."""
-    for make, why in ((os.mkfifo, "not a regular file"), (os.mkdir, "not a regular file"),
+    for make, why in ((os.mkfifo, "a regular file"), (os.mkdir, "a regular file"),
                       (lambda path: os.symlink("nowhere", path), "no such file")):
         faulty(place)
         os.unlink(place.at("site/cache-r3"))
@@ -124,8 +124,8 @@ def changes_that_are_no_file(place):
     """A pipe is not waited for, and neither length nor number is without bounds."""
     faulty(place)
     os.mkfifo(place.at("pipe"))
-    assert place.run("try", "site", "-f", "pipe") == 3 and "no regular file" in place.said, place.said
-    assert place.run("try", "site", "--conf", "r2=pipe") == 3 and "no regular file" in place.said, place.said
+    assert place.run("try", "site", "-f", "pipe") == 3 and "a regular file" in place.said, place.said
+    assert place.run("try", "site", "--conf", "r2=pipe") == 3 and "a regular file" in place.said, place.said
     place.write("long", "#" * (1 << 20) + "\n")
     assert place.run("try", "site", "-f", "long") == 3 and "1048576" in place.said, place.said
     assert place.run("try", "site", "-f", "-", text=b"#" * ((1 << 20) + 1)) == 3 and "1048576" in place.said, place.said
@@ -142,7 +142,7 @@ def includes_that_lead_elsewhere(place):
     os.symlink("..", place.at("root/up"))
     os.mkfifo(place.at("root/pipe"))
     for pattern, why in (("/../secret", "leads out of root"), ("/up/secret", "leads out of root"),
-                         ("/up/*", "leads out of root"), ("/etc", "no regular file"), ("/pipe", "no regular file")):
+                         ("/up/*", "leads out of root"), ("/etc", "a regular file"), ("/pipe", "a regular file")):
         place.write("r2.conf", f"include {pattern}\n")
         status = place.run("try", "site", "--conf", "r2=r2.conf", "--conf-root", "root")
         assert status == 3 and why in place.said and "phyint" not in place.said, (pattern, place.said)

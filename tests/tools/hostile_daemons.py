@@ -79,7 +79,7 @@ def daemon_that_answers_without_end_beside_tables(place):
 def daemon_whose_answer_looks_like_its_end(place):
     """Lines of an answer that look like sections, or like the end, are of the answer."""
     daemon(place, '@end\n@frr_groups\n{"eth0":{"groups":[]}}\n@end\n')
-    assert is_refused(place, "show ip igmp groups json: the answer is no object of JSON"), place.said
+    assert is_refused(place, "show ip igmp groups json: the answer is not an object of JSON"), place.said
 
 
 @case

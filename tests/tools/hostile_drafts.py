@@ -81,10 +81,10 @@ def flows_of_m3u(place):
              "udp://@239.1.1.3:5000", "rtp://239.1.1.4/", "http://192.0.2.1/x.ts", "udp"]
     status, flows = drafted(place, "--ttl", "9", text="\r\n".join(lines))
     assert (status, pairs(place)) == (1, [(S, "239.1.1.1", 9), (T, "239.1.1.2", 9)]), place.said
-    assert flows[2:] == [f'# {{source = ?, group = "239.1.1.{it}"}}, # the list of flows has no source of it'
+    assert flows[2:] == [f'# {{source = ?, group = "239.1.1.{it}"}}, # the list of flows has no source for it'
                          for it in (3, 4)], flows
     assert "list: other lines 4" in place.said, place.said
-    assert "no flow: ? 239.1.1.3: the list of flows has no source of it" in place.said, place.said
+    assert "no flow: ? 239.1.1.3: the list of flows has no source for it" in place.said, place.said
 
 
 @case
@@ -94,7 +94,7 @@ def flows_without_a_time_to_live(place):
     text = f"source,group,ttl\n{S},239.1.1.1,\n{S},239.1.1.2,5\n"
     status, flows = drafted(place, text=text)
     assert (status, pairs(place)) == (1, [(S, "239.1.1.2", 5)]), place.said
-    why = "the list of flows has no time to live of it, and no router a row"
+    why = "the list of flows has no TTL of it, and no router an entry"
     assert flows[1].startswith(f'# {{source = "{S}", group = "239.1.1.1", ttl = ?}}, # not judged: {why}'), flows
     assert f"not judged: {S} 239.1.1.1: {why}" in place.said, place.said
     status, flows = anew(place, "--ttl", "16", text=text)
@@ -125,7 +125,7 @@ def lines_that_are_wrong(place):
     """Each is named with its number and reason, and nothing of it is printed or written; the others are taken."""
     router(place)
     group, ttl = "its group is none of 224.0.1.0 to 239.255.255.255", "its ttl is none of 1 to 255"
-    source = "its source is no host's address"
+    source = "its source is not a host's address"
     wrong = [(f"{S},239.1.1,5,x", group), (f"{S},224.0.0.5,5,x", group), (f"{S},10.0.0.9,5,x", group),
              (f"{S},,5,x", group), (f"{S},240.0.0.1,5,x", group), ("239.9.9.9,239.1.1.1,5,x", source),
              ("127.0.0.1,239.1.1.1,5,x", source),
@@ -146,8 +146,8 @@ def lines_that_are_wrong(place):
 def urls_that_are_wrong(place):
     """So are those of M3U; no name is looked up."""
     router(place)
-    group, place_of = "its group is none of 224.0.1.0 to 239.255.255.255", "it is no [SOURCE@]GROUP[:PORT]"
-    source, again = "its source is no host's address", "? 239.1.1.2 is there already, on line 2"
+    group, place_of = "its group is none of 224.0.1.0 to 239.255.255.255", "it is not [SOURCE@]GROUP[:PORT]"
+    source, again = "its source is not a host's address", "? 239.1.1.2 is there already, on line 2"
     wrong = [("udp://239.1.1.1:65536", place_of), ("udp://239.1.1.1:1?pkt_size=1316", place_of), ("udp://", place_of),
              ("rtp://[ff3e::1]:5000", place_of), ("udp://@:5000", place_of), ("udp://hidden.example:1234", group),
              (f"udp://{S}@10.0.0.9:5000", group), ("udp://hidden@239.1.1.2", source), ("udp://a:b@239.1.1.2", source),
@@ -184,14 +184,14 @@ def files_that_are_no_list(place):
     router(place)
     os.mkfifo(place.at("pipe"))
     os.mkdir(place.at("folder"))
-    for path, reason in (("pipe", "no regular file"), ("folder", "no regular file"), ("/dev/zero", "no regular file"),
+    for path, reason in (("pipe", "a regular file"), ("folder", "a regular file"), ("/dev/zero", "a regular file"),
                          ("nowhere", "No such file")):
         assert place.run("draft", "--flows", path, "site", "r1=!env R=r1") == 3 and reason in place.said, place.said
     row = f"{S},239.1.1.1,5\n".encode()
     for data, reason in ((b"", "neither"), (b"#EXTM3U\nhttp://192.0.2.1/x\n", "neither"), (b"a,b\n1,2\n", "neither"),
                          (b"source,group\n", "neither"), (b"source;group\n10.0.0.5;239.1.1.1\n", "neither"),
-                         (b"source,group,ttl\n\xff" + row, "it is no UTF-8"),
-                         ("source,group\n".encode("utf-16"), "it is no UTF-8"),
+                         (b"source,group,ttl\n\xff" + row, "it is not UTF-8"),
+                         ("source,group\n".encode("utf-16"), "it is not UTF-8"),
                          (b"source,group,ttl\n" + row + b'"x"y,239.1.1.2,5\n', "line 3: its fields and quotes"),
                          (b'source,group,ttl\n"' + row, "line 2: its fields and quotes"),
                          (b"source,group,group\n", "the column `group` is there twice"),
@@ -280,8 +280,9 @@ def loopback_of_a_rendezvous_point(place):
                                     (another, VIFS + LOOPBACK.replace("lo ", "l1 "), 1)):
         router(place, (S, "239.1.1.1"), addresses=addresses, vifs=vifs)
         assert anew(place, "--ttl", "4")[0] == status, place.said
-        assert ("unsure: r1 l1: unnumbered: 10.255.0.1 is a lone address" in place.said) is (status == 1), place.said
-        comment = '# {router = "r1", device = "lo", lan = "?"}, # unsure: a loopback is on no LAN'
+        question = "needs a decision: r1 l1: unnumbered: 10.255.0.1 is a lone address"
+        assert (question in place.said) is (status == 1), place.said
+        comment = '# {router = "r1", device = "lo", lan = "?"}, # needs a decision: a loopback is on no LAN'
         assert (comment in place.read("site/topology")) is (status == 0), place.read("site/topology")
     router(place, (S, "239.1.1.1"), addresses=ADDRESSES.replace("10.255.0.1/32", "10.255.0.1/24"), vifs=VIFS + LOOPBACK)
     assert anew(place, "--ttl", "4")[0] == 0, place.said
@@ -313,7 +314,7 @@ esac
 exec /bin/cat "$@"
 """)
     assert place.run("draft", "site", way) == 1, place.said
-    assert ("missing: r1: there is no tcpdump: install it there, or give the time to live of all flows by --ttl"
+    assert ("missing: r1: there is no tcpdump: install it there, or set the TTL of all flows by --ttl"
             in place.said), place.said
     assert "--ttl" in place.read("site/topology").splitlines()[1], place.read("site/topology")
 
@@ -343,11 +344,11 @@ def groups_that_hosts_ask_for(place):
         f'# {{source = "{FAR}", group = "232.1.1.1"}}, # asked for on 10.0.1.0-24',
         f'{asked}"239.1.1.1"}}, # asked for on hall', f'{asked}"239.1.1.5"}}, # asked for on 10.0.1.0-24 hall',
         f'{asked}"239.1.1.6"}}, # asked for on 10.0.1.0-24', f'{asked}"239.1.1.8"}}, # asked for on 10.0.1.0-24',
-        f'{asked}"239.1.1.9"}}, # a row of every source on r1'], flows
+        f'{asked}"239.1.1.9"}}, # a (*,G) entry on r1'], flows
     assert f"no flow: {FAR} 232.1.1.1: asked for on 10.0.1.0-24" in place.said, place.said
     assert "no flow: ? 239.1.1.5: asked for on 10.0.1.0-24 hall" in place.said, place.said
     for name in ("bad", "worse"):
-        assert f"missing: igmp-{name} is no list of reports: see what mcaudit says of it" in place.said, place.said
+        assert f"missing: igmp-{name} is not a valid list of reports: see what mcaudit says of it" in place.said, place.said
 
 
 @case

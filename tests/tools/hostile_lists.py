@@ -130,7 +130,7 @@ def ignored_packets_at_their_limits(place):
             found = gather((*outside, *GOOD[:2], *bad_of(*hosts), GOOD[2]))
             assert found == expected, (hosts, found, place.said)
             for host in set(hosts) if found[0] == 0 else ():
-                assert f"left aside of {host}, too short or with a wrong checksum: {hosts.count(host)}" in place.said
+                assert f"ignored of {host}, too short or with a wrong checksum: {hosts.count(host)}" in place.said
 
 
 @case
@@ -218,7 +218,7 @@ def flood_without_a_query(place):
 def file_that_is_a_pipe(place):
     """It is refused, and never waited for."""
     os.mkfifo(place.at("l1.pcap"))
-    assert place.reports("--capture", "l1.pcap") == (3, None) and "no regular file" in place.said
+    assert place.reports("--capture", "l1.pcap") == (3, None) and "a regular file" in place.said
 
 
 # What comes late, and what is not read

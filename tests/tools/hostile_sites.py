@@ -370,7 +370,7 @@ def folders_of_a_site_with_what_has_no_end(place):
         except PermissionError:
             continue
         assert place.run("collect", "--pause", "0", "site", *ways) == 3, place.said
-        assert "notes/zeros is no regular file" in place.said, place.said
+        assert "notes/zeros is not a regular file" in place.said, place.said
 
 
 @case

@@ -31,6 +31,7 @@ TOP = os.path.join(HERE, "..", "..")
 sys.path.append(os.path.join(TOP, "tests", "audited"))
 import answers
 import random_domains
+from asked import SERVICES
 
 TOOL = os.path.join(TOP, "tools", "mcaudit-page")
 FAULTS = os.path.join(TOP, "examples", "faults")
@@ -49,6 +50,7 @@ READ_ON = {  # the colours of texts, by those of what they stand on
     "router": "ink device absent fault mend", "lan": "ink", "carries": "ink", "fault-ground": "ink", "why-fault": "ink",
     "why-mend": "ink", "why-doubt": "ink", "why-way": "ink", "why-lit": "ink"}
 ELSEWHERE = re.compile(r"https?:|//[a-z]|\bsrc\s*=|@import|<link|url\((?!#)", re.I)
+DIGEST = re.compile(r"sha256-[A-Za-z0-9+/]{43}=")  # of the page's own style and scripts, in any letters
 HOSTILE = ["<script>alert(1)</script>", "</script><img src=x onerror=alert(1)>", "<!--", "-->", "]]>",
            "\"><svg onload=alert(1)>", "'; alert(1); '", "\u2028\u2029", "&lt;b&gt;", "\ud800", "__proto__",
            "%s {0} ${1} \\u003c", "\x00\x01\x1b", "ü"]
@@ -174,9 +176,10 @@ def look_at_faults(check):
         audit = answers.audit([folder, "--travel", "--unlisted", *words])
         page, status = check.page(name, ["--program", check.program, folder, *words])
         read = check.whole(name, page)
-        check.that(f"{name}: nothing from elsewhere: {ELSEWHERE.findall(page)}", not ELSEWHERE.search(page))
+        found = ELSEWHERE.findall(DIGEST.sub("", page))
+        check.that(f"{name}: nothing from elsewhere: {found}", not found)
         lines = [with_devices(audit.domain, it) for it in audit.output().splitlines()]
-        end = next(n for n, it in enumerate(lines) if it.startswith(("unlisted", "excluded", "summary")))
+        end = next(n for n, it in enumerate(lines) if it.startswith(("unlisted", "asked", "excluded", "summary")))
         check.that(f"{name}: flows, explanations and steps", shown_lines(read) == lines[:end])
         check.that(f"{name}: status", status == audit.status)
         said = "\n".join(read.texts)
@@ -187,6 +190,13 @@ def look_at_faults(check):
             row = f"{answers.dotted(source)}\n{answers.dotted(group)}\n{len(routers)}\n{answers.some(routers)}"
             check.that(f"{name}: unlisted", row in said)
             check.that(f"{name}: byte order", (group >> 24 in range(224, 240)) != ("is the byte order" in said))
+        for want in audit.asked.wants:
+            source = "*" if want.source is None else answers.dotted(want.source)
+            row = f"{source}\n{answers.dotted(want.group)}\n{len(want.lans)}\n{answers.some(want.lans)}"
+            check.that(f"{name}: asked", f"{row}\n{want.text().partition(': ')[2].partition(': ')[2]}\n" in said)
+        for group in audit.asked.services:
+            check.that(f"{name}: service", f"{answers.dotted(group)} {SERVICES[group]} on " in said)
+        check.that(f"{name}: wants", f"Asked for, no flow\n{audit.asked.count}\n" in said)
         for router in audit.left_out:
             check.that(f"{name}: excluded", f"Excluded: {router}." in said)
 

@@ -14,6 +14,7 @@
 
 here=$(cd "$(dirname "$0")" && pwd) || exit 1
 tools=$(cd "$here/../../tools" && pwd) || exit 1
+crates=$(cd "$here/../../crates" && pwd) || exit 1
 scratch=$(mktemp -d) || exit 1
 trap 'rm -rf "$scratch"' EXIT
 trap 'exit 1' HUP INT TERM
@@ -42,16 +43,17 @@ check_shell() {
         tests/*.sh) tools/mcaudit_tools/*.sh tools/mcaudit.bash tests/tools/completion.bash
 }
 
-# Reads all Python of the tools with pylint: what may be an error, and what it warns of.
+# Reads all Python of the tools, and how `make` proves, with pylint: what may be an error, and what it warns of.
 check_python() {
-    PYTHONPATH=$tools pylint --disable=all --enable=E,W --disable=E3102,E1124,W0621 "$tools/mcaudit_tools"
+    PYTHONPATH=$tools pylint --disable=all --enable=E,W --disable=E3102,E1124,W0621 "$tools/mcaudit_tools" "$crates"/*.py
 }
 
-# Reads all Python of the tools and of the runner of their cases with mypy, as that of 3.9.
+# Reads all Python of the tools, of the runner of their cases and of how `make` proves with mypy, as that of 3.9.
 check_types() {
     MYPYPATH=$tools
     export MYPYPATH
-    mypy --python-version 3.9 --cache-dir "$scratch/mypy" "$tools/mcaudit_tools" "$here/../cases.py" || return 1
+    mypy --python-version 3.9 --cache-dir "$scratch/mypy" "$tools/mcaudit_tools" "$here/../cases.py" \
+        "$crates"/*.py || return 1
     mypy --python-version 3.9 --cache-dir "$scratch/mypy" --scripts-are-modules "$tools"/mcaudit-*
 }
 
@@ -154,7 +156,7 @@ if [ $# -eq 0 ]; then
     run_apart upgrading make "$python" "$here/upgrading.py"
     run_apart flake8 flake8 flake8 --max-line-length 120 "$tools" "$tools"/mcaudit-* "$here"/hostile.py "$here"/loops.py \
         "$here"/formats.py "$here"/packets.py "$here"/rates.py "$here"/basis.py "$here"/upgrading.py "$here"/commands \
-        "$here"/../cases.py "$here"/../case_files.py
+        "$here"/../cases.py "$here"/../case_files.py "$here"/../prove/run.py "$here"/../prove/rt "$crates"/*.py
     run_apart pylint pylint check_python
     run_apart mypy mypy check_types
     run_apart script node node --check "$tools/mcaudit_tools/page/page.js"

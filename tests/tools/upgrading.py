@@ -22,7 +22,8 @@ sys.path.insert(0, os.path.dirname(os.path.abspath(__file__)))
 import packets as p  # noqa: E402 pylint: disable=wrong-import-position
 from hostile_drafts import S, T, drafted, router  # noqa: E402 pylint: disable=wrong-import-position
 from hostile_lists import live  # noqa: E402 pylint: disable=wrong-import-position
-from place import GOOD, HERE, LAST, LISTED, NETWORK, TOOLS, TOP, collected, framed, kept, run_cases  # noqa: E402
+from place import (GOOD, HERE, LAST, LISTED, NETWORK, PROGRAM, TOOLS, TOP, collected, framed, kept,  # noqa: E402
+                   run_cases)
 
 with open(os.path.join(TOP, "docs", "GUIDE.md"), encoding="utf-8") as opened:
     GUIDE = opened.read()
@@ -173,7 +174,7 @@ def drafts_without_services(place):
     assert f'+ flow {{source = "{T}", group = "239.255.255.250", ttl = 4}}' in place.said, place.said
 
 
-@line("The tools want Python")
+@line("The tools need Python")
 def pythons(place):
     """One that is too old is told so, what tools share is found in `share`, a router needs sh and cat, and captures are
     read elsewhere."""
@@ -206,6 +207,16 @@ def pythons(place):
     collected(place, ["r1=!plain r1; :", "r2=!plain r2; :"])
 
 
+@line("`audit --strict` ends with 1 too")
+def strict_and_wants(place):
+    """Where a LAN asks for a group of no flow beside a yes, until a range leaves it aside."""
+    place.site()
+    place.write("site/igmp-l2", place.read("site/igmp-l2") + p.wants("239.9.9.9").hex() + "\n")
+    for words, status in (((), 0), (("--strict",), 1), (("--strict", "--ignore", "239.9.0.0/16"), 0)):
+        done = subprocess.run([PROGRAM, "audit", *words, place.at("site")], capture_output=True, text=True, check=False)
+        assert done.stdout.endswith("verdict yes\n") and done.returncode == status, (words, done)
+
+
 @line("What reads the text or the JSON of `audit`")
 def readers_of_audits(place):
     """The JSON and the text of a fault have what the changelog names, and not what they had."""
@@ -217,7 +228,7 @@ def readers_of_audits(place):
     for new, old in (("wrong: Missed l2", "no certificate"), ("unknown: Missed l2", "found ttl"),
                      ("\nexcluded r2\n", "\nwithout r2\n"), ("  excluded: r2", "  left out: "), ("unknown 1", "row (")):
         assert new in text and old not in text, (new, old, text)
-    for key in ("name", "order", "unknown", "onto", "wanted", "shown_from", "text"):
+    for key in ("name", "order", "unknown", "onto", "wanted", "shown_from", "at_ttl", "behind", "text", "asked"):
         assert f'"{key}":' in said and f"`{key}`" in section, (key, said)
     assert '"format":2' in said and "`format` is 2" in section and '"from_vif":' in place.audited("--json", NETWORK)
 

@@ -30,8 +30,8 @@ def entries_of(copy, router):
     cache = copy.cache(router)
     odd = cache.odd_group()
     if odd is not None:
-        raise Refused(f"{router} has a row of {odd.decode()}, which is no group in the byte order {cache.order}: the "
-                      "order that the topology gives it is wrong, or the table is")
+        raise Refused(f"{router} has a row of {odd.decode()}, which is not a group in the byte order {cache.order}: "
+                      "the order that the topology gives it is wrong, or the table is")
     return cache
 
 
@@ -51,7 +51,7 @@ def entry_of(copy, router, change):
     entry = cache.entry(change.source, change.group)
     if entry is None:
         is_waiting = cache.is_unresolved(change.source, change.group)
-        raise Refused(f"{router} has no entry of this source and group{', but an unresolved one' * is_waiting}")
+        raise Refused(f"{router} has no entry for this source and group{', but an unresolved one' * is_waiting}")
     return entry
 
 

@@ -9,15 +9,32 @@ import sys
 from mcaudit_tools.common import Failed, Refused
 from mcaudit_tools.files import failing, open_regular, whole
 from mcaudit_tools.programs import run
+from mcaudit_tools.wants import Wants
 
 AUDITING = 300  # seconds that an audit may take
 MOST_BYTES = 256 << 20
 MOST_LINE = 16 << 20
 COUNTS = "flows", "right", "wrong", "unknown", "unwanted"
+ASKED = "asked"  # what is counted too, but by programs that were too old to say it
 
 
 class NoAudit(Refused):
     """Why lines are none that an audit printed."""
+
+
+def counted(summary):
+    """Returns the names of what a summary counts, in the order of audit's text."""
+    return [*COUNTS, *([ASKED] if ASKED in summary else [])]
+
+
+def counts_text(summary):
+    """Returns what a summary counts, as audit's text has it."""
+    return " ".join(f"{it} {summary[it]}" for it in counted(summary))
+
+
+def finding_text(finding):
+    """Returns a finding as audit's text has it."""
+    return " ".join(str(finding[it]) for it in ("kind", "lan", "router", "vif") if it in finding)
 
 
 def refuse(text):
@@ -35,6 +52,7 @@ class Lines:
         self.format, self.summary, self.verdict = None, None, None
         self.flows = collections.Counter()  # by whether they are right, or None, where that isn't known
         self.missed = 0  # flows of format 1 that are counted as wrong, of which it isn't known
+        self.wants = Wants()
 
     def read(self, line):
         """Returns the object of the next line."""
@@ -51,7 +69,7 @@ class Lines:
         except NoAudit as fault:
             raise NoAudit(f"line {self.count}: {fault}") from fault
         except (ValueError, KeyError, TypeError, AttributeError, RecursionError) as fault:
-            raise NoAudit(f"line {self.count}: it is no line of audit") from fault
+            raise NoAudit(f"line {self.count}: it is not a line of audit") from fault
 
     def end(self):
         """Sees that there are all lines."""
@@ -63,12 +81,13 @@ class Lines:
         it as format 2 has it."""
         has_place = ("domain" in value) == (self.format is None) and ("verdict" in value) == (self.summary is not None)
         if self.verdict or not has_place:
-            raise NoAudit("no such line stands here in what audit prints")
+            raise NoAudit("audit prints no such line here")
         if "domain" in value:
             self.format = value["format"]
             if self.format not in (1, 2):
                 raise NoAudit("it is of another format")
         found = self.as_format_2(value) if self.format == 1 else value
+        self.wants.take(found)
         if "flow" in found:
             self.flows[found["right"]] += 1
         elif "summary" in found:
@@ -81,14 +100,16 @@ class Lines:
         return found
 
     def check_summary(self):
-        """Sees that the summary counts the flows that were told."""
-        if not all(type(self.summary[it]) is int for it in COUNTS):  # pylint: disable=unidiomatic-typecheck
+        """Sees that the summary counts the flows and the wants that were told."""
+        if any(type(self.summary[it]) is not int for it in counted(self.summary)):  # pylint: disable=C0123
             raise TypeError
         left_out = self.summary["flows"] - sum(self.flows.values())
         if left_out < 0 or self.is_whole and left_out:
-            raise NoAudit("it doesn't tell all flows: it was made with --faults, or lines are missing")
+            raise NoAudit("it doesn't list all flows: it was made with --faults, or lines are missing")
         if [self.summary["wrong"], self.summary["unknown"]] != [self.flows[False], self.flows[None]]:
-            raise NoAudit("it counts other flows as wrong than it tells")
+            raise NoAudit("it counts other flows as wrong than it lists")
+        if not self.wants.is_counted():
+            raise NoAudit("it counts other wants than it lists")
 
     def as_format_2(self, value):
         """Returns an object of format 1 as format 2 has it. There a flow isn't known to be wrong where the search for a

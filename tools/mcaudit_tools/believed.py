@@ -72,7 +72,7 @@ class Beliefs:
         """Returns what counts of a belief that was another one before."""
         if belief.wants is None and not belief.is_torn:
             return belief
-        reason = f"its groups did not hold still in {self.count} readings"
+        reason = f"its groups kept changing during {self.count} readings"
         return Belief(reason=belief.reason if belief.is_torn else reason)
 
     def is_hopeless(self):

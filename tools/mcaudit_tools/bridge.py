@@ -41,7 +41,7 @@ class Bridge:
             raise NoBelief("it filters VLANs, so that its entries are of several LANs")
         for name, (value, reason) in WANTED.items():
             if self.settings.get(name) != value:
-                raise NoBelief(reason if self.settings.get(name) else f"it is no bridge that snoops: no {name}")
+                raise NoBelief(reason if self.settings.get(name) else f"it is not a bridge that snoops: no {name}")
 
     def interval(self):
         """Returns how many seconds a query and its answers may take."""
@@ -56,7 +56,7 @@ class Bridge:
             self.check_settings()
             interval, tables = self.interval(), self.told.json("mdb")
             if not isinstance(tables, list):
-                raise NoBelief(f"its database can't be read: {self.told.fault('mdb') or 'it is no list of JSON'}")
+                raise NoBelief(f"its database can't be read: {self.told.fault('mdb') or 'it is not a list of JSON'}")
             wants = {it for table in tables for entry in table["mdb"] for it in wants_of(entry, device)}
             order = sorted(wants, key=lambda it: (it.group, it.mode, it.sources()))
             return Belief(tuple(it for it in order if it.mode == igmp.EXCLUDE or it.running), interval=interval)
@@ -75,7 +75,7 @@ def wants_of(entry, bridge):
     if "vid" in entry:
         raise NoBelief("it has entries of VLANs, which may be of several LANs")
     if not 224 <= group[0] <= 239:
-        raise NoBelief(f"{entry['grp']} is no group")
+        raise NoBelief(f"{entry['grp']} is not a group")
     rows = entry.get("source_list", [])
     if len(rows) > MOST_SOURCES or not all(TIMER.fullmatch(it["timer"]) for it in rows):
         raise NoBelief(f"the sources of {igmp.dotted(group)} are none of a bridge's")

@@ -111,7 +111,7 @@ class Decoder:
         if struct.unpack_from("<I", data)[0] == SECTION:
             self.read = self.read_block
             return self.read_block(data)
-        raise Broken("it is no capture: neither pcap nor pcapng")
+        raise Broken("it is not a capture: neither pcap nor pcapng")
 
     def read_record(self, data):
         """Reads a packet of pcap."""

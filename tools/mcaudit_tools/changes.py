@@ -11,7 +11,7 @@ from mcaudit_tools.common import Failed, Wrong, is_name
 from mcaudit_tools.files import read_regular
 
 GRAMMAR = """A CHANGE is one argument, in quotes. -f FILE has one on each line, and comments: lines that begin with #,
-and what stands behind # and a blank. DEVICE is what a router calls an interface, S a source, G a group, N a
+and what follows # and a blank. DEVICE is what a router calls an interface, S a source, G a group, N a
 number:
   ROUTER: add DEVICE S G DEVICE ... [ttl N]
       as smcroutectl: makes the entry that comes in by the first device, or adds outgoing devices to it; without
@@ -28,7 +28,7 @@ number:
   LAN: down                          nothing passes by any interface on this LAN
   LAN: join G [S]                    a host of it wants the group, from all sources or from S
   LAN: leave G [S]                   no host of it wants that any more
-  S G: ttl N                         the flow's time to live in the topology
+  S G: ttl N                         the flow's TTL in the topology
   S G: new ttl N                     one flow more in the topology
 `router NAME: down` and `lan NAME: down` say which is meant where both have the name."""
 MOST_BYTES = 1 << 20  # of a file of changes
@@ -81,7 +81,7 @@ def change_of(text, who, words):
         return flow_change(text, who, words)
     kind, name = (who[0], who[1]) if len(who) == 2 else (None, who[0] if len(who) == 1 else "")
     if not is_name(name):
-        raise Wrong("before the colon stands a router, a LAN, or a source and its group")
+        raise Wrong("before the colon comes a router, a LAN, or a source and its group")
     verb_kind = "router" if verb in OF_ROUTERS or verb == "down" and rest else "lan" if verb in OF_LANS else None
     if verb not in READERS:
         raise Wrong(f"there is no `{verb}`")
@@ -95,7 +95,7 @@ def flow_change(text, flow, words):
     if words[0] not in OF_FLOWS or len(words) != (2 if words[0] == "ttl" else 3) or words[-2] != "ttl":
         raise Wrong("of a flow there are `ttl N` and `new ttl N`")
     return Change(text, words[0], source=source_of(flow[0]), group=group_of(flow[1]),
-                  number=number_of(words[-1], MOST_TTL, "a time to live"))
+                  number=number_of(words[-1], MOST_TTL, "a TTL"))
 
 
 def add_or_remove(verb, words):
@@ -153,14 +153,14 @@ READERS: "dict[str, typing.Callable[[str, list[str]], Change]]" = {
 def source_of(word):
     """Returns the word, which has to be the address of a source."""
     if igmp.host_of(word) is None:
-        raise Wrong(f"{word} is no address of a source")
+        raise Wrong(f"{word} is not a valid source address")
     return word
 
 
 def group_of(word):
     """Returns the word, which has to be a group that routers forward."""
     if igmp.group_of(word) is None:
-        raise Wrong(f"{word} is no group that routers forward")
+        raise Wrong(f"{word} is not a group that routers forward")
     return word
 
 

@@ -21,28 +21,28 @@ from mcaudit_tools.programs import RUNNING, side_by_side
 from mcaudit_tools.reading import Collected, Reading
 from mcaudit_tools.sets import Site
 
-ABOUT = """Brings the multicast tables of each router NAME into SITE, as vif-NAME and cache-NAME.
+ABOUT = """Collects the multicast tables of each router NAME into SITE, as vif-NAME and cache-NAME.
 Give each router the name that the topology gives it: letters, digits, `-`, `_`, `.`.
 
-The WAY to a router is one of:
+The ADDRESS of a router is one of:
   HOST       over ssh; HOST is a host's name or address, or USER@HOST
   (nothing)  this machine: NAME=
-  !COMMAND   a command of yours: `COMMAND sh` is run, and has to run that sh on the router with
-             its standard input and output, as `ssh HOST sh` does
-No way has a terminal: it can ask for no password."""
-MORE = """Each router is read until two readings one after the other are equal but for counters. Its line
-comes when that is so. It says how many vifs and rows it has, and its byte order, which the
-topology has to name where it is big. What could not be read, or did not hold still, is named.
-So are two names of one router: each is asked for its boot's id and its network namespace.
+  !COMMAND   any command that runs a shell on the router: `COMMAND sh` has to run sh there, with its
+             standard input and output connected, as `ssh HOST sh` does
+None of them has a terminal, so no password can be asked."""
+MORE = """Each router is read until two consecutive readings agree, counters aside; then its line is printed. It says
+how many vifs and rows it has, and its byte order, which the topology has to name where it is big. What could not be
+read, or kept changing, is named. So are two names of one router: each is asked for its boot's id and its network
+namespace.
 
 What is read at one time is a set, SITE.sets/TIME: the new tables, each other file of the last set
-(hidden ones and audit.json aside), and collected.json, which says where each file comes from and
+(except hidden ones and audit.json), and collected.json, which says where each file comes from and
 how old it is. SITE is a symbolic link to the newest set. A router that was not collected has no
-tables in it, so that no earlier one is judged in their place. Earlier sets stay until you remove
+tables in it, so that no earlier ones are judged in their place. Earlier sets stay until you remove
 them.
 
 Statuses: 0 all collected, 1 some router was not, or SITE's topology doesn't list it, 3 SITE can't be
-written and is as it was, or a signal ended it, 5 wrong words.
+written and is unchanged, or a signal ended it, 5 usage error.
 
 Examples:
   mcaudit-collect --adopt site r1=10.9.0.1 r2=admin@r2.example.net
@@ -50,25 +50,23 @@ Examples:
   mcaudit-collect --ssh 'ssh -p 2222' site r1=10.9.0.1
   mcaudit-collect site here= 'r1=!ip netns exec r1' 'r2=!docker exec -i frr2'"""
 OPTIONS = [
-    ("--routers", "FILE", "take the routers of FILE too: NAME=WAY, a line each; empty lines and those that begin with "
-     "# are left aside"),
+    ("--routers", "FILE", "take the routers of FILE too: NAME=ADDRESS, a line each; empty lines and those that begin "
+     "with # are ignored"),
     ("--adopt", None, "if SITE is a plain folder, make it the first set; without routers do just that"),
     ("--readings", "N", "read a router at most N times, 2 to 100 (5)", 2, 100, 5),
     ("--pause", "SECONDS", "wait so long between two readings of a router (1)", 0, 999, 1),
     ("--timeout", "SECONDS", "give a router up when a reading takes longer (60)", 1, 999, 60),
     ("--at-once", "N", "read at most N routers side by side, 1 to 100 (8)", 1, 100, 8),
     ("--ssh", "COMMAND", f"reach a HOST by `COMMAND HOST sh` ({ways.SSH})"),
-    ("--facts", None, "bring what else decides what a router forwards too, as facts-NAME, which mcaudit-premises "
+    ("--facts", None, "also bring what else decides what a router forwards, as facts-NAME, which mcaudit-premises "
      "judges (rp_filter, links, filters, counters ..; as root it has the filters), and those of the last set as "
-     "earlier-NAME; addresses and routes for mcaudit-draft, as address-NAME and route-NAME. What a router has not is "
-     "left out"),
-    ("--from-daemon", None, "bring the lists of the LANs too, right behind the tables, as the routers' daemons believe "
-     "them (FRR's pimd, by vtysh): mcaudit-reports --help says when one counts. A LAN without keeps its last list, and "
-     "is named"),
-    ("--empty-lan", "LAN", "with --from-daemon, write an empty list of this LAN too; may be given again for another "
-     "one"),
-    ("--shell", "NAME", "collect nothing: run a shell on the router NAME by its way, with this standard input and "
-     "output")]
+     "earlier-NAME; addresses and routes for mcaudit-draft, as address-NAME and route-NAME. What a router doesn't have "
+     "is left out"),
+    ("--from-daemon", None, "also bring the lists of the LANs, right after the tables, as the routers' daemons believe "
+     "them (FRR's pimd, by vtysh): mcaudit-reports --help says when one counts. A LAN without one keeps its last list, "
+     "and is named"),
+    ("--empty-lan", "LAN", "with --from-daemon, also write an empty list of this LAN; may be repeated"),
+    ("--shell", "NAME", "collect nothing: run a shell on the router NAME, with this standard input and output")]
 FILES = {  # the tables that a set has
     "ip_mr_vif": "vif", "ip_mr_cache": "cache", "route": "route", "address": "address"}
 
@@ -80,9 +78,9 @@ PRINTING = threading.Lock()
 def read_arguments():
     """Reads the arguments."""
     parser = Parser(description=ABOUT, epilog=MORE,
-                    usage="mcaudit-collect [option ...] SITE [NAME=WAY ...]\n"
-                          "       mcaudit-collect [option ...] --shell NAME [NAME=WAY ...]")
-    parser.add_argument("words", nargs="*", metavar="SITE [NAME=WAY ...]", help="the folder, and the routers")
+                    usage="mcaudit-collect [option ...] SITE [NAME=ADDRESS ...]\n"
+                          "       mcaudit-collect [option ...] --shell NAME [NAME=ADDRESS ...]")
+    parser.add_argument("words", nargs="*", metavar="SITE [NAME=ADDRESS ...]", help="the folder, and the routers")
     parser.add_options(OPTIONS, ["--empty-lan"])
     parser.add_version()
     found = parser.parse_intermixed_args()
@@ -99,13 +97,13 @@ def take_words(parser, found):
         found.site = None
         if found.shell is None:
             if not found.words:
-                parser.error("a site and a router are wanted")
+                parser.error("SITE and at least one router are required")
             found.site = Site(found.words.pop(0))
         found.all = ways.read_routers(found.words, [found.routers] if found.routers else [])
     except Wrong as fault:
         parser.error(str(fault))
     if not found.all and not found.adopt and found.shell is None:
-        parser.error("a site and a router are wanted")
+        parser.error("SITE and at least one router are required")
     if found.shell is not None and found.shell not in [it.name for it in found.all]:
         parser.error(f"{found.shell} is none of the routers")
 

@@ -7,6 +7,7 @@ import sys
 import types
 
 CUT = " .."  # stands for what is left out
+SHOWN_NAMES = 8  # of a list of names, as mcaudit has it
 NAME = re.compile(r"[A-Za-z0-9_.-]{1,32}")  # of a router or a LAN, as mcaudit has it; but for `.` and `..`
 
 
@@ -61,6 +62,19 @@ def clean(text, without=""):
 def printable(text):
     """Returns the text with each character as `?` that may command a terminal, or has no bytes."""
     return "".join(it if it.isprintable() else "?" for it in text)
+
+
+def some(names, between=" "):
+    """Returns a list of names as mcaudit shows it."""
+    rest = len(names) - SHOWN_NAMES
+    return between.join(map(str, names[:SHOWN_NAMES])) + (f" and {rest} more" if rest > 0 else "")
+
+
+def names_change(change, old, new):
+    """Yields the change of a list of names, as what has gone and what has come."""
+    gone, come = ([it for it in of if it not in others] for of, others in ((old, set(new)), (new, set(old))))
+    if gone or come:
+        yield change, gone, come
 
 
 def clean_lines(data):
@@ -153,9 +167,10 @@ def options_of(words, *names):
 
 def sentence_of(message):
     """Returns what argparse says is wrong in the words of the tools."""
-    for pattern, sentence in ((r"unrecognized arguments: (.*)", r"there is no option \1"),
-                              (r"argument (?:-\w/)?([-\w]+)(?:/[-\w]+)*: expected one argument", r"\1 wants a value"),
-                              (r"argument ([-\w]+): (takes .*)", r"\1 \2")):
+    for pattern, sentence in (
+            (r"unrecognized arguments: (.*)", r"there is no option \1"),
+            (r"argument (?:-\w/)?([-\w]+)(?:/[-\w]+)*: expected one argument", r"\1 requires a value"),
+            (r"argument ([-\w]+): (takes .*)", r"\1 \2")):
         found = re.fullmatch(pattern, message, re.DOTALL)
         if found:
             return found.expand(sentence)

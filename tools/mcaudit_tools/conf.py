@@ -65,11 +65,11 @@ def network_of(word):
     """Returns the addresses of a word ADDRESS[/LENGTH]."""
     address, has_length, length = word.partition("/")
     if has_length and not re.fullmatch(r"[1-9]|[12][0-9]|3[0-2]", length):
-        raise Skipped(f"{word} is no range of addresses")
+        raise Skipped(f"{word} is not a range of addresses")
     try:
         return ipaddress.IPv4Network(f"{address}/{length or 32}", strict=False)
     except ValueError as fault:
-        raise Skipped(f"{word} is no address or range of addresses") from fault
+        raise Skipped(f"{word} is not an address or a range of addresses") from fault
 
 
 class Daemon:
@@ -144,7 +144,7 @@ class Daemon:
             raise Skipped("it is not understood")
         groups = network_of(pairs["group"])
         if not groups.subnet_of(GROUPS):
-            raise Skipped(f"{pairs['group']} is no group")
+            raise Skipped(f"{pairs['group']} is not a group")
         sources = network_of(pairs["source"]) if "source" in pairs else ANY
         return pairs["from"], sources, groups
 
@@ -177,7 +177,7 @@ class Daemon:
                 vif, threshold = self.vifs[device]
                 found[vif] = threshold
                 if is_comment:
-                    self.skip(line, f"smcrouted 2.5 takes {device} for a device, although it stands behind #")
+                    self.skip(line, f"smcrouted 2.5 takes {device} for a device, although it is behind #")
             elif not is_comment:
                 self.skip(line, f"{device} has no vif here, so smcrouted leaves it out")
         return found

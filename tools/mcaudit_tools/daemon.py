@@ -96,7 +96,7 @@ def source_of(text):
     """Reads the address of a source."""
     address = address_of(text)
     if not 0 < address[0] < 224 or address[0] == 127:
-        raise NoBelief(f"{text} is no source's address")
+        raise NoBelief(f"{text} is not a valid source address")
     return address
 
 
@@ -127,7 +127,7 @@ class Daemon:
         value = self.values[name]
         if isinstance(value, dict):
             return value
-        reason = self.told.failed() or self.told.fault(name) or "the answer is no object of JSON"
+        reason = self.told.failed() or self.told.fault(name) or "the answer is not an object of JSON"
         raise NoBelief(f"{COMMANDS[name]}: {reason}")
 
     def interface(self, device):
@@ -191,12 +191,12 @@ def wants_of(groups, sources):
 def group_rows(value):
     """Returns what is said of each group that routers forward."""
     if not isinstance(value, dict) or not isinstance(value.get("groups"), list):
-        raise NoBelief("its groups are no list")
+        raise NoBelief("its groups are not a list")
     found = {}
     for it in value["groups"]:
         group = address_of(it["group"])
         if not 224 <= group[0] <= 239:
-            raise NoBelief(f"{it['group']} is no group")
+            raise NoBelief(f"{it['group']} is not a group")
         if group in found:
             raise NoBelief(f"it names {it['group']} twice")
         if group >= igmp.FIRST_FORWARDED:
@@ -207,7 +207,7 @@ def group_rows(value):
 def source_rows(value):
     """Returns what is said of the sources of each group that routers forward. Other keys stand among the groups."""
     if not isinstance(value, dict):
-        raise NoBelief("its sources are no object")
+        raise NoBelief("its sources are not an object")
     found = {}
     for name, it in value.items():
         if isinstance(it, dict) and "sources" in it:

@@ -10,18 +10,19 @@ import os
 import sys
 
 from mcaudit_tools import audit as audits
-from mcaudit_tools.common import Failed, Parser, Refused, find_tool, say
+from mcaudit_tools.common import Failed, Parser, Refused, find_tool, names_change, say
 from mcaudit_tools.files import printing
+from mcaudit_tools.wants import ANY, Wants, changes_of_wants
 
 NO_FAULT = "no fault known"  # of a flow without a fault, where routers are excluded
 UNKNOWN = "unknown: "  # before what is found of a flow that isn't known to be wrong
-ABOUT = """Tells what changed from OLD to NEW, a line each: faults that came or went, which stand first, flows that are
-listed now or no longer, the LANs that a flow reaches and who forwards onto them, how many LANs carry a copy, which LANs
-want the flow, and the sources and groups that stand in the caches and are no flow's.
+ABOUT = """Prints what changed from OLD to NEW, a line each: first new and cleared faults, then flows that are listed
+now or no longer, the LANs that a flow reaches and who forwards onto them, how many LANs carry a copy, which LANs want
+the flow, the (S,G) in the caches that belong to no listed flow, and what hosts ask for and no flow answers.
 
 OLD and NEW are folders, which are audited, or files of what `mcaudit audit --json --unlisted` printed."""
-MORE = """Statuses: 0 nothing changed, 1 something did, 2 OLD or NEW is refused, 3 a read or a write failed, 5 wrong
-words.
+MORE = """Statuses: 0 nothing changed, 1 something did, 2 OLD or NEW is refused, 3 a read or a write failed, 5 usage
+error.
 
 Examples:
   mcaudit-diff site.sets/20261124T160619Z site
@@ -35,12 +36,14 @@ class Audit:
     ways: dict = dataclasses.field(default_factory=dict)  # by tree: what `sender` says of each LAN
     flows: dict = dataclasses.field(default_factory=dict)  # by source and group
     unlisted: dict = dataclasses.field(default_factory=dict)  # by group and source: routers
+    wants: Wants = dataclasses.field(default_factory=Wants)
     excluded: list = dataclasses.field(default_factory=list)
     is_whole: bool = True  # whether it tells all pairs that are no flow's
     verdict: "str | None" = None
 
     def take(self, line):
         """Takes one line."""
+        self.wants.take(line)
         if "domain" in line:
             self.devices = {(typed(str, it["router"]), typed(int, it["vif"])): it["device"] and typed(str, it["device"])
                             for it in line["domain"]["interfaces"] if it["vif"] is not None}
@@ -83,7 +86,15 @@ class Audit:
         place = self.vif(finding["router"], finding["vif"]) if "vif" in finding else typed(str, finding["lan"])
         told = without_vifs([line["found_ttl"], line["also"], line["why"]])
         return {**common, "fault": UNKNOWN * (line["right"] is None) + f"{typed(str, finding['kind'])} {place}",
-                "told": told}
+                "told": told, "behind": self.behind(line)}
+
+    def behind(self, line):
+        """Returns what is told of a fault beside that, None where the program was too old to say it."""
+        if "behind" not in line:
+            return None
+        behind, at_ttl = line["behind"] or {}, line["at_ttl"] or {}
+        strays = [self.vif(it["router"], it["vif"]) for it in [*behind.get("strays", []), at_ttl] if "vif" in it]
+        return without_vifs([{**behind, "strays": [], "shown_from": None}, {**at_ttl, "vif": None}]), strays
 
 
 def typed(kind, value):
@@ -137,12 +148,12 @@ def audit_of(objects):
         except Refused as fault:
             raise Refused(f"line {count}: {fault}") from fault
         except (ValueError, KeyError, TypeError, AttributeError, RecursionError) as fault:
-            raise Refused(f"line {count}: it is no line of audit") from fault
+            raise Refused(f"line {count}: it is not a line of audit") from fault
     return audit
 
 
 def judged(path):
-    """Returns what mcaudit says of the set that the folder leads to now. What it refuses it has told by itself."""
+    """Returns what mcaudit says about the set that the folder leads to now. What it refuses it has told by itself."""
     folder = os.path.realpath(path)
     command = [find_tool("mcaudit"), "audit", "--json", "--unlisted", folder]
     status, objects = audits.run_audit(command, f"{path}: mcaudit")
@@ -163,13 +174,6 @@ def read_audit(path):
 
 # What changed
 
-def names_change(change, old, new):
-    """Yields the change of a list of names, as what has gone and what has come."""
-    gone, come = ([it for it in of if it not in others] for of, others in ((old, set(new)), (new, set(old))))
-    if gone or come:
-        yield change, gone, come
-
-
 def way_changes(old, new):
     """Yields what changed of a way: each change, what was and what is."""
     def sends(way, lan):
@@ -186,13 +190,18 @@ def way_changes(old, new):
             yield change, [tell(old, lan) for lan in found], [tell(new, lan) for lan in found]
 
 
+def both_say_otherwise(old, new):
+    """Whether two audits say it, and not the same."""
+    return None not in (old, new) and old != new
+
+
 def flow_changes(old, new):
     """Yields what changed of a flow: each change, what was and what is."""
     if old["ttl"] != new["ttl"]:
         yield "ttl", old["ttl"], new["ttl"]
     if old["fault"] != new["fault"]:
         yield "fault", old["fault"], new["fault"] or (NO_FAULT if new["said"] == NO_FAULT else None)
-    elif new["fault"] and old["told"] != new["told"]:
+    elif new["fault"] and (old["told"] != new["told"] or both_say_otherwise(old["behind"], new["behind"])):
         yield "explanation", new["fault"], new["fault"]
     if not old["fault"] and not new["fault"]:
         yield from way_changes(old["way"], new["way"])
@@ -232,6 +241,7 @@ def all_changes(old, new):
             whose = {"unlisted": {"source": source, "group": group}}
             change = "routers" if was and now else "pair"
             yield from ((whose, *it) for it in names_change(change, was, now))
+    yield from changes_of_wants(old.wants, new.wants)
     if old.verdict != new.verdict:
         yield {}, "verdict", old.verdict, new.verdict
 
@@ -268,12 +278,16 @@ def change_text(change, was, now):
     if change == "pair":
         return f"come: in the caches of {' '.join(now)}" if now else f"gone: it was in the caches of {' '.join(was)}"
     if change == "explanation":
-        return f"fault stays and is told otherwise: {now}"
+        return f"same fault, new cause: {now}"
     if change in ("unwanted", "left_out"):
         said = "no LAN wants it" if change == "unwanted" else "excluded"
         return f"{said} now" if now else f"{said} no longer" if change == "left_out" else "some LAN wants it again"
-    if change in ("reached", "wanted", "routers"):
-        return sides(change, was, now)
+    if change in ("reached", "wanted", "routers", "lans"):
+        return sides("LANs" if change == "lans" else change, was, now)
+    if change == "forwarding":
+        return f"{now}, was {was}"
+    if change == "asked":
+        return f"come: asked for on {' '.join(now)}" if now else f"gone: it was asked for on {' '.join(was)}"
     if change in ("forwarder", "least_ttl", "incoming_interface"):
         pairs = zip(now, was)
         return f"{change.replace('_', ' ')} " + ", ".join(f"{new}, was {old.split(' ', 1)[1]}" for new, old in pairs)
@@ -285,7 +299,7 @@ def tell(whose, change, was, now):
     if change == "verdict":
         return f"verdict {now}, was {was}"
     (kind, of), = whose.items()
-    name = f"{of['source']} {of['group']}" if isinstance(of, dict) else of
+    name = f"{of['source'] or ANY} {of['group']}" if isinstance(of, dict) else of
     return f"{kind} {name}: {change_text(change, was, now)}"
 
 
@@ -309,7 +323,9 @@ def main():
     words = read_arguments()
     old, new = read_audit(words.old), read_audit(words.new)
     if not (old.is_whole and new.is_whole):
-        say("only the lowest sources and groups that are no flow's are compared: --unlisted tells all")
+        say("only the lowest (S,G) that belong to no listed flow are compared: --unlisted lists all")
+    if (old.wants.more or new.wants.more) and None not in (old.wants.count, new.wants.count):
+        say("only the lowest wants that no flow answers are compared: --unlisted lists all")
     changes = faults_first(all_changes(old, new))
     with printing():
         for it in changes:

@@ -142,8 +142,8 @@ section legacy older_rules
 if has bridge; then section mdb bridge -j -d mdb show; fi
 if has tc; then section tc queues; fi
 if has vtysh; then
-    told frr_igmp asked 'show ip igmp interface json'
-    told frr_neighbors asked 'show ip pim neighbor json'
+    answered frr_igmp asked 'show ip igmp interface json'
+    answered frr_neighbors asked 'show ip pim neighbor json'
 fi
 echo '@end'
 echo "$word end"

@@ -30,7 +30,7 @@ def open_regular(path, named=None):
         if stat.S_ISREG(os.fstat(opened).st_mode):
             return os.fdopen(opened, "rb")
         os.close(opened)
-        raise Failed(f"{named or path} can't be read: it is no regular file")
+        raise Failed(f"{named or path} can't be read: it is not a regular file")
 
 
 def read_regular(path, most, named=None):
@@ -99,7 +99,7 @@ def copy(path, target, named):
 def copy_file(path, target, named=None):
     """Copies a file, of a folder or of this name, which is a regular one: what is none may have no end."""
     if not stat.S_ISREG(os.lstat(path).st_mode):
-        raise Failed(f"{named or path} is no regular file")
+        raise Failed(f"{named or path} is not a regular file")
     shutil.copy2(path, target)
 
 
@@ -126,7 +126,7 @@ def beside(path, mode=None, is_new=False):
             if is_new:
                 os.link(made, path)
             elif os.path.lexists(path) and not os.path.isfile(path):
-                raise Failed(f"{path} is no plain file")
+                raise Failed(f"{path} is not a plain file")
             else:
                 os.replace(made, os.path.join(folder, name))
         finally:

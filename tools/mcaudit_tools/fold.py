@@ -120,7 +120,7 @@ def without_many(found, sender, group):
 def check_sender(heard, group):
     """Fails where it isn't known whose a message is that lowers what is wanted."""
     if heard.sender == NOBODY and group >= igmp.FIRST_FORWARDED:
-        raise NotFollowed(f"0.0.0.0 no longer wants {dotted(group)}, or less of it: such hosts can't be told apart")
+        raise NotFollowed(f"0.0.0.0 no longer wants {dotted(group)}, or less of it: such hosts can't be distinguished")
 
 
 @dataclasses.dataclass

@@ -121,7 +121,7 @@ class BridgeAsking:
             RUNNING.rest(belief.interval)
             found, sentences = self.ask_once()
         if self.settings is not None and found.settings != self.settings:
-            raise Failed("the bridge was made anew, or set otherwise, meanwhile")
+            raise Failed("the bridge was recreated, or its settings changed, meanwhile")
         return found, sentences
 
 

@@ -134,8 +134,8 @@ class Live:
         if not self.task.is_asking:
             self.say(f"no General Query came on {device} in {wait} s; by default one comes every 125 s")
             if self.task.others:
-                self.say(f"{self.task.others} routers lie on this LAN, and a switch that snoops could keep streams "
-                         "from one of them while another asks: --ask-routers asks here all the same")
+                self.say(f"{self.task.others} routers are on this LAN, and a switch that snoops could keep streams "
+                         "from one of them while another asks: --ask-routers asks here anyway")
             return False
         if self.gathering.others:
             querier = igmp.dotted(self.gathering.others)

@@ -99,7 +99,7 @@ class Reading:
             earlier = self.shape
         if kept is None:
             return Collected(fault, self.sentences) if fault else Collected(
-                f"did not hold still in {self.words.readings} readings")
+                f"kept changing during {self.words.readings} readings")
         self.folder = kept.folder
         kept.beliefs = self.beliefs.found if self.beliefs else {}
         return self.ask_more(kept)

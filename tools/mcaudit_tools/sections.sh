@@ -7,7 +7,7 @@ PATH=$PATH:/sbin:/usr/sbin:/usr/local/sbin
 export LC_ALL PATH
 set -f
 most=4194305 # bytes of a section, and one
-most_told=8388609 # bytes of what a daemon answers, and one
+most_answered=8388609 # bytes of what a daemon answers, and one
 
 has() { command -v "$1" > /dev/null 2>&1; }
 
@@ -36,9 +36,9 @@ section() {
     shift
     { { "$@" < /dev/null 2> /dev/null || printf '\n!%s\n' "$?"; } | bounded "$most"; echo; } | indented
 }
-told() {
+answered() {
     whole=$most
-    most=$most_told
+    most=$most_answered
     section "$@"
     most=$whole
 }

@@ -34,7 +34,7 @@ class Site:
         """Takes the path of the link."""
         stripped = path.rstrip("/")
         if os.path.basename(stripped) in ("", ".", ".."):
-            raise Wrong("the site is wanted by its folder's name")
+            raise Wrong("SITE has to be a folder's name")
         self.path = stripped if stripped.startswith(("/", "./", "../")) else f"./{stripped}"
         self.sets = f"{self.path}.sets"
         self.states = {}  # of the last set's files, as they were before they were copied
@@ -56,7 +56,7 @@ class Site:
         """Fails unless the site is a link to a set, or can become one."""
         if os.path.islink(self.path):
             if not os.path.isdir(self.path) or os.path.dirname(self.folder()) != os.path.realpath(self.sets):
-                raise Failed(f"{self.path} is no link to a set in {self.sets}")
+                raise Failed(f"{self.path} is not a link to a set in {self.sets}")
         elif os.path.isdir(self.path):
             if not may_adopt:
                 raise Failed(f"{self.path} is a plain folder: --adopt makes it the first set")

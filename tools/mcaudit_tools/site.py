@@ -14,27 +14,27 @@ from mcaudit_tools.programs import RUNNING
 from mcaudit_tools.topology import MOST_BYTES, read_topology
 from mcaudit_tools.ways import REACH
 
-ABOUT = """Makes the whole folder of a domain in one go, or tells the LANs of its topology.
+ABOUT = """Makes the whole folder of a domain in one go, or lists the LANs of its topology.
 
 `init` drafts the topology (mcaudit-draft), collects the routers' tables (mcaudit-collect --adopt), gathers the
-reports of all LANs (mcaudit-reports --all) and judges the folder (mcaudit audit --travel). Below the verdict stands
-what it rests on: how old the tables and the lists are, and what was not looked at. A topology that is there stays as it
-is. What could not be had of a router or a LAN is named, and the next step is done all the same."""
+reports of all LANs (mcaudit-reports --all) and judges the folder (mcaudit audit --travel). The line below the verdict
+is what it rests on: how old the tables and the lists are, and what was not looked at. An existing topology is kept.
+Anything that couldn't be obtained is named, and the next step runs anyway."""
 MORE = """Statuses of init: 0 verdict yes, 1 verdict no or something is missing; else that of the step that ended it.
-Of lans: 0 printed, 3 the topology can't be read. 5 wrong words.
+Of lans: 0 printed, 3 the topology can't be read. 5 usage error.
 
 Examples:
   mcaudit-site init site --facts --routers routers --ssh 'ssh -l root'
   mcaudit-site lans site"""
 OPTIONS = [*REACH,
-           ("--facts", None, "bring the routers' facts too, and look whether one of their own settings drops what its "
+           ("--facts", None, "also bring the routers' facts, and look whether one of their own settings drops what its "
             "tables forward (mcaudit-premises)"),
-           ("--ttl", "N", "the time to live of all flows; without it each is measured"),
+           ("--ttl", "N", "the TTL of all flows; without it each is measured"),
            ("--wait", "SECONDS", "wait so long for a General Query on each LAN"),
            ("--listen", "SECONDS", "capture on each LAN for so long at least, for who speaks as a router"),
            ("--tries", "N", "gather a LAN's reports so often, where they changed meanwhile"),
            ("--static", "LAN:GROUP[,SOURCE]", "what a host wants that can't be asked"),
-           ("--empty-lan", "LAN", "where no host of this LAN answers, nobody on it wants anything")]
+           ("--empty-lan", "LAN", "if no host of this LAN answers, nobody on it wants anything")]
 REPEATED = "--static", "--empty-lan"
 GRACE = 5  # seconds that a step has to end what it began
 
@@ -64,14 +64,15 @@ def read_arguments():
     init = commands.add_parser("init", prog="mcaudit-site init", help="draft, collect, gather and judge",
                                description="Makes the folder SITE of the routers, and judges it.")
     init.add_argument("site", metavar="SITE")
-    init.add_argument("ways", metavar="NAME=WAY", nargs="*", help="a router and the way to it, as for mcaudit-collect")
+    init.add_argument("ways", metavar="NAME=ADDRESS", nargs="*",
+                      help="a router and its address, as for mcaudit-collect")
     init.add_options(OPTIONS, REPEATED)
     init.add_argument("--ask", action="store_true", help="ask the hosts where no querier does, as mcaudit-reports")
-    init.add_argument("--ask-routers", action="store_true", help="on LANs that two routers lie on, too")
+    init.add_argument("--ask-routers", action="store_true", help="also on LANs with two listed routers")
     init.add_argument("--from-daemon", action="store_true",
                       help="take the lists of what the routers' daemons believe, as mcaudit-reports")
     init.add_argument("--empty", action="store_true",
-                      help="as --empty-lan of every LAN, also of one whose hosts just weren't heard")
+                      help="--empty-lan for every LAN, even if its hosts just went unheard")
     lans = commands.add_parser("lans", prog="mcaudit-site lans", help="print each LAN with each interface on it",
                                description="Prints LAN ROUTER DEVICE for each interface, or a LAN without one alone.")
     lans.add_argument("site", metavar="SITE")
@@ -92,7 +93,7 @@ def steps_of(words):
               [find_tool("mcaudit-reports"), *reach, *gather, "--all", words.site, *words.ways]),
              ("audit", "judge the folder", [find_tool("mcaudit"), "audit", "--travel"])]
     if os.path.lexists(os.path.join(words.site, "topology")):
-        print(f"{printable(words.site)}/topology is there, and stays as it is", flush=True)
+        print(f"{printable(words.site)}/topology exists, and is kept", flush=True)
         tell_missing(words.site)
         return steps[1:]
     return steps
@@ -149,7 +150,7 @@ def init_site(words):
         if status == 1:
             partly.append(name)
     if partly:
-        say(f"something is missing, as was said above: {' '.join(partly)}")
+        say(f"something is missing, see above: {' '.join(partly)}")
     return status or (1 if partly else 0)
 
 

@@ -1,5 +1,5 @@
 """Who on a LAN speaks as a multicast router: by PIM (RFC 7761), by queries, or as a member of routers' own groups. One
-whose address is no listed router's forwards what the verdict knows nothing of.
+whose address belongs to no listed router forwards what the verdict knows nothing of.
 
 Any host can say such things, so what is kept and told is bounded.
 """
@@ -81,7 +81,7 @@ class Speakers:
         for address in self.strangers(listed, own):
             hardware = " ".join(":".join(f"{byte:02x}" for byte in it) for it in self.hardware[address])
             yield (f"{igmp.dotted(address)}{f' ({hardware})' if hardware else ''} speaks as a multicast router "
-                   f"({', '.join(self.words[address])}) and is no listed router's address")
+                   f"({', '.join(self.words[address])}) and belongs to no listed router")
         if self.more:
             yield f"more than {MOST_SPEAKERS} addresses speak as multicast routers: packets of more {self.more}"
 

@@ -71,7 +71,7 @@ def run(name, version):
     program = "mcaudit-" + name
     open_closed()
     if sys.version_info < LEAST:
-        return fail(program, "python3 of {}.{} or later is wanted, and this is {}.{}".format(*LEAST, *sys.version_info))
+        return fail(program, "python3 of {}.{} or later is required, this is {}.{}".format(*LEAST, *sys.version_info))
     try:
         common = importlib.import_module("mcaudit_tools.common")
         running = importlib.import_module("mcaudit_tools.programs").RUNNING

@@ -68,7 +68,7 @@ class Told:
     def fault(self, name):
         """Returns why a section isn't there, or not whole: None where it is."""
         if name not in self.sections:
-            return "there is nothing that says it"
+            return "nothing shows it"
         for line in self.sections[name]:
             if line.startswith(b"!"):
                 reason = clean(line[1:].decode("ascii", "replace"))[:80]

@@ -65,7 +65,7 @@ def tables_of(path, topology, key):
     """Returns the list of tables that the topology has under the key."""
     found = topology.get(key, [])
     if not isinstance(found, list) or not all(isinstance(it, dict) for it in found):
-        raise Failed(f"{path}: {key} is no list of tables")
+        raise Failed(f"{path}: {key} is not a list of tables")
     return found
 
 
@@ -73,7 +73,7 @@ def checked_name(path, kind, name):
     """Returns the name, where mcaudit would take it, or of a device the kernel."""
     is_device = isinstance(name, str) and DEVICE.fullmatch(name) and len(os.fsencode(name)) <= MOST_DEVICE
     if not (is_device if kind == "device" else is_name(name)):
-        raise Failed(f"{path}: {name!r} is no name of a {kind}")
+        raise Failed(f"{path}: {name!r} is not a valid name of a {kind}")
     return name
 
 
@@ -82,7 +82,7 @@ def read_topology(folder, named):
     topology, path = read_toml(folder, named), os.path.join(named, "topology")
     lans = topology.get("lans", [])
     if not isinstance(lans, list):
-        raise Failed(f"{path}: lans is no list")
+        raise Failed(f"{path}: lans is not a list")
     interfaces = [tuple(checked_name(path, kind, it.get(kind.lower())) for kind in ("LAN", "router", "device"))
                   for it in tables_of(path, topology, "interface")]
     return Topology(router_names(path, topology), [checked_name(path, "LAN", it) for it in lans], interfaces)

@@ -145,7 +145,7 @@ class Copy:
     # The judge
 
     def audit(self, *options):
-        """Writes what was changed, and yields the objects of what mcaudit says of the copy then."""
+        """Writes what was changed, and yields the objects of what mcaudit says about the copy then."""
         self.write()
         command = [find_tool("mcaudit"), "audit", "--json", *options, self.folder]
         self.status, objects = audits.run_audit(command, f"{self.named}: mcaudit")
@@ -168,7 +168,7 @@ class Copy:
             self.summary = line.get("summary", self.summary)
             self.verdict = line.get("verdict", self.verdict)
         except (KeyError, TypeError, AttributeError) as fault:
-            raise Failed(f"what mcaudit says of {self.named} can't be read") from fault
+            raise Failed(f"what mcaudit says about {self.named} can't be read") from fault
 
     def check(self):
         """Fails unless the topology is the one that was meant."""

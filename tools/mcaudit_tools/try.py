@@ -24,7 +24,7 @@ prints what changes by them, as mcaudit-diff does, and mcaudit's verdict on the 
 {changes.GRAMMAR}"""
 MORE = """Statuses: that of the verdict after the changes, 0 yes or 1 no; 1 too where a file of --conf was not audited
 whole; 2 SITE is refused, or a change that can't be made as it is written; 3 a read or a write failed, or something
-that is needed isn't there; 4 no memory; 5 wrong words.
+that is needed isn't there; 4 out of memory; 5 usage error.
 
 Examples:
   mcaudit-try site 'r2: remove eth0 10.0.0.5 239.1.2.3 eth1'
@@ -34,7 +34,7 @@ Examples:
 OPTIONS = [("-f", "FILE", "take the changes of FILE too, one a line, or of standard input where it is -"),
            ("--conf", "ROUTER=FILE", "before the changes, give the router the vifs and entries that smcrouted makes of "
             "this smcroute.conf"),
-           ("--conf-root", "FOLDER", "what the files of --conf include lies in FOLDER as on the router in /"),
+           ("--conf-root", "FOLDER", "what the files of --conf include is in FOLDER as on the router in /"),
            ("--why", None, "print what mcaudit audit says of the faults after the changes"),
            ("--json", None, "print an object a line"),
            ("--keep", "FOLDER", "keep the changed copy as FOLDER, where nothing is yet"),
@@ -60,7 +60,7 @@ def read_arguments():
     words.add_version()
     found = words.parse_intermixed_args()
     if not found.changes and not found.f and not found.conf:
-        words.error("a CHANGE, -f FILE or --conf ROUTER=FILE is wanted")
+        words.error("a CHANGE, -f FILE or --conf ROUTER=FILE is required")
     if found.conf_root is not None and not found.conf:
         words.error("--conf-root goes with --conf")
     return found
@@ -88,7 +88,7 @@ def audit_twice(words, copy, confs, made):
 
 
 def why_lines(copy):
-    """Returns the lines of what mcaudit says of the faults of the copy."""
+    """Returns the lines of what mcaudit says about the faults of the copy."""
     words = [find_tool("mcaudit"), "audit", "--faults", copy.folder]
     came = run(words, seconds=audits.AUDITING, most=audits.MOST_BYTES)
     if came.is_late or came.is_long or came.status != copy.status:
@@ -100,8 +100,7 @@ def text_lines(words, copy, changed, tried):
     """Returns the lines of the answer."""
     lines = [diff.tell(*it) for it in changed if it[1] != "verdict"] or ["nothing changes"]
     lines += [f"assumed: {printable(it)}" for it in tried.assumed]
-    counts = [it for it in (*audits.COUNTS, "asked") if it in copy.summary]
-    end = [" ".join(["summary", *(f"{it} {copy.summary[it]}" for it in counts)]), f"verdict {copy.verdict}"]
+    end = [f"summary {audits.counts_text(copy.summary)}", f"verdict {copy.verdict}"]
     lines += why_lines(copy) if words.why else end
     if tried.unaudited:
         lines[-1:] = [*(f"not audited: {printable(it)}" for it in tried.unaudited), "not audited whole"]

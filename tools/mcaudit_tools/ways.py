@@ -1,4 +1,4 @@
-"""Routers and the ways to them: NAME=WAY, in arguments and in files of them."""
+"""Routers and the ways to them: NAME=ADDRESS, in arguments and in files of them."""
 import dataclasses
 import os
 import re
@@ -8,7 +8,7 @@ from mcaudit_tools.common import Wrong, name_fault
 from mcaudit_tools.files import failing, read_regular
 
 SSH = "ssh -o BatchMode=yes -o ConnectTimeout=10"
-REACH = [("--routers", "FILE", "take the routers of FILE too: NAME=WAY, a line each"),
+REACH = [("--routers", "FILE", "take the routers of FILE too: NAME=ADDRESS, a line each"),
          ("--ssh", "COMMAND", "reach a HOST by `COMMAND HOST sh`")]  # options of whoever asks routers
 MOST_BYTES = 1 << 20  # of a file of routers
 HOST = re.compile(r"[A-Za-z0-9@:_.%][A-Za-z0-9@:_.%-]*")
@@ -30,15 +30,15 @@ class Router:
 
 
 def parse_router(word):
-    """Reads NAME=WAY."""
+    """Reads NAME=ADDRESS."""
     name, is_way, way = word.partition("=")
     if not is_way:
-        raise Wrong(f"{word} is no NAME=WAY")
+        raise Wrong(f"{word} is not a valid NAME=ADDRESS")
     fault = name_fault(name)
     if fault:
         raise Wrong(f"{word}: {fault}")
     if way and not COMMAND.fullmatch(way) and not HOST.fullmatch(way):
-        raise Wrong(f"{word}: the way is no host and no !COMMAND")
+        raise Wrong(f"{word}: the address is not a valid host or !COMMAND")
     return Router(name, way)
 
 

@@ -164,7 +164,7 @@ class Gathering:
         if address == NOBODY:
             return f"a switch sends it in a querier's place; where it is the LAN's, say --querier {sender}"
         if self.rules.networks is None:
-            unlike = f"it is no host's address; where it is the LAN's, say --querier {sender}"
+            unlike = f"it is not a host's address; where it is the LAN's, say --querier {sender}"
             return None if igmp.is_host(address) else unlike
         if any(ipaddress.IPv4Address(address) in it for it in self.rules.networks):
             return None
@@ -306,7 +306,7 @@ def list_of(gathering, statics, is_empty_allowed, option):
     say(told + changes)
     for sender, count in window.ignored.items():
         alone = ", and nothing else of it came" if sender in window.silent() else ""
-        say(f"left aside of {dotted(sender)}, too short or with a wrong checksum: {count}{alone}")
+        say(f"ignored of {dotted(sender)}, too short or with a wrong checksum: {count}{alone}")
     remarks = Remarks(say)
     for sender, group in sorted({it for earlier in gathering.done[:-1] for it in earlier.wants} - window.wants):
         remarks.tell("wants of an earlier window",

@@ -120,7 +120,7 @@ shared_pairs-shown all parts =
 
 -- ---- the wants of lists
 
-asked_wants-ascend : (a : AnswersValue) (lan : ℕ) (records : List Record)
+pub asked_wants-ascend : (a : AnswersValue) (lan : ℕ) (records : List Record)
     → IsStrictlySortedBy key_cmp (asked_wants a lan records)
 asked_wants-ascend a lan records =
     IsStrictlySortedBy-filter key_cmp (λ want. is_asked_class (class_of a lan records want)) (wants_in
@@ -263,6 +263,19 @@ further_wants-from all a lists =
     (is_strictly_sorted_by-shown_pairs all (flat_map (λ (part : List (ℕ × ℕ)). part) parts)) a 0 lists in
     omega (arith, wants, lines, others)
 
+-- all are shown or further ones
+pub count_wants-split : (all : Bool) (a : AnswersValue) (lists : List (List Record))
+    → count_wants (lan_wants_from all a 0 lists)
+    ≡ count_shown (asked_lines all (lan_wants_from all a 0 lists)) + further_wants all (lan_wants_from all a 0 lists)
+count_wants-split all a lists =
+    let parts = asked_from a 0 lists in
+    let shown = shown_of_parts all parts in
+    let wants = count_wants-from all a 0 lists in
+    let lines = ap count_shown (asked_lines-from all a 0 lists) ∙ count_shown-shared_pairs all parts in
+    let others = count_all-others shown
+    (is_strictly_sorted_by-shown_pairs all (flat_map (λ (part : List (ℕ × ℕ)). part) parts)) a 0 lists in
+    omega (arith, wants, lines, others)
+
 -- ---- services
 
 in-dedup_from : (k x : ℕ) (xs : List ℕ) → In x (k ∷ xs) → In x (dedup_from nat_eq k xs)
@@ -296,3 +309,19 @@ in-services all a lan records want h is =
     in-dedup want.0 (map (λ (w : Want). w.0) (filter test (wants_in records)))
     (in-map (λ (w : Want). w.0) want (filter test (wants_in records))
     (in-filter test want (wants_in records) h (ap is_service_class is)))
+
+-- ---- LAN by LAN
+
+-- what is kept of one more list
+pub lan_wants_from-push : (all : Bool) (a : AnswersValue) (k : ℕ) (lists : List (List Record))
+    (records : List Record)
+    → lan_wants_from all a k (lists ++ records ∷ [])
+    ≡ lan_wants_from all a k lists ++ lan_wants all a (k + length lists) records ∷ []
+lan_wants_from-push all a k [] records =
+    let same : k ≡ k + 0 = omega arith in
+    ap (λ (n : ℕ). lan_wants all a n records ∷ []) same
+lan_wants_from-push all a k (own ∷ lists) records =
+    let same : suc k + length lists ≡ k + suc (length lists) = omega arith in
+    ap (λ (l : List LanWantsValue). lan_wants all a k own ∷ l)
+    (lan_wants_from-push all a (suc k) lists records
+    ∙ ap (λ (n : ℕ). lan_wants_from all a (suc k) lists ++ lan_wants all a n records ∷ []) same)

@@ -166,7 +166,7 @@ groups_of_wanted-all flows answers numbers all i past before =
     ∙ ap (λ (l : List (ℕ × ℕ)). numbers ++ groups_of_wanted l (drop i answers)) (sym (drop_all i flows past))
     ∙ before
 
-equal-from_decided : (b w : Bool) (P : Type 0) → (IsTrue b ↔ P) → Decides w P → b ≡ w
+pub equal-from_decided : (b w : Bool) (P : Type 0) → (IsTrue b ↔ P) → Decides w P → b ≡ w
 equal-from_decided b w P is decided = grind arith
 
 -- a flow's answer says whether the records want its group from its source

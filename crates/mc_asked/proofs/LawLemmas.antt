@@ -26,7 +26,7 @@ use Rattle.mc_asked.proofs.PartLemmas.{in-in_order, in-from_in_order}
 
 -- ---- lists
 
-any-from_in : {X : Type 0} (p : X → Bool) (x : X) (xs : List X) → In x xs → p x ≡ true → list_any p xs ≡ true
+pub any-from_in : {X : Type 0} (p : X → Bool) (x : X) (xs : List X) → In x xs → p x ≡ true → list_any p xs ≡ true
 any-from_in p x [] h is = absurd h
 any-from_in p x (y ∷ ys) (inl e) is = ap (λ (b : Bool). b || list_any p ys) (ap p e ∙ is)
 any-from_in p x (y ∷ ys) (inr h) is = or_true (p y) (any-from_in p x ys h is)
@@ -35,7 +35,7 @@ any-from_in p x (y ∷ ys) (inr h) is = or_true (p y) (any-from_in p x ys h is)
     or_true true e = refl
     or_true false e = e
 
-in-from_any : {X : Type 0} (p : X → Bool) (xs : List X) → list_any p xs ≡ true
+pub in-from_any : {X : Type 0} (p : X → Bool) (xs : List X) → list_any p xs ≡ true
     → (x : X) × In x xs × (p x ≡ true)
 in-from_any p [] e = absurd cc
 in-from_any {X} p (y ∷ ys) e =
@@ -44,12 +44,12 @@ in-from_any {X} p (y ∷ ys) e =
       | false ↦ λ is e. let later = in-from_any p ys e in (later.0, inr later.1, later.2)
     ] refl e
 
-in-from_has : (xs : List ℕ) (s : ℕ) → has xs s ≡ true → In s xs
+pub in-from_has : (xs : List ℕ) (s : ℕ) → has xs s ≡ true → In s xs
 in-from_has xs s is =
     let found = in-from_any (λ a. a == s) xs is in
     subst (λ (x : ℕ). In x xs) (eqb-true found.0 s found.2) found.1
 
-has-from_in : (xs : List ℕ) (s : ℕ) → In s xs → has xs s ≡ true
+pub has-from_in : (xs : List ℕ) (s : ℕ) → In s xs → has xs s ≡ true
 has-from_in xs s h = any-from_in (λ a. a == s) s xs h (eq-eqb s s refl)
 
 -- ---- what a record asks for
@@ -121,16 +121,21 @@ single_asked (kind.Unknown type) group g s sources is other admits =
 
 -- ---- the wants of a list
 
--- an EXCLUDE record for the group makes it a want of any source
+-- a want of any source is asked for by an EXCLUDE record for the group
+pub has_exclude-from_any : (records : List Record) (g : ℕ) → In (g, 0) (wants_in records)
+    → has_exclude records g ≡ true
+has_exclude-from_any records g h =
+    let kept = in-filter_cases (is_of_merged_filter records) (g, 0) (in_order (flat_map asked_by records)) h in
+    let found = in-flat_map_cases asked_by (g, 0) records
+    (in-from_in_order (g, 0) (flat_map asked_by records) kept.0) in
+    any-from_in (is_exclude_for g) found.0 records found.1
+    (asked_any found.0.kind found.0.group g found.0.sources found.2)
+
+-- and each such record makes it one
 pub in-wants_in-any : (records : List Record) (g : ℕ) → is_forwarded_group g ≡ true
     → In (g, 0) (wants_in records) ↔ (has_exclude records g ≡ true)
 in-wants_in-any records g forwarded = (
-  λ h. let kept = in-filter_cases (is_of_merged_filter records) (g, 0) (in_order (flat_map asked_by
-      records)) h in
-      let found = in-flat_map_cases asked_by (g, 0) records
-      (in-from_in_order (g, 0) (flat_map asked_by records) kept.0) in
-      any-from_in (is_exclude_for g) found.0 records found.1
-      (asked_any found.0.kind found.0.group g found.0.sources found.2),
+  has_exclude-from_any records g,
   λ is. let found = in-from_any (is_exclude_for g) records is in
       in-filter (is_of_merged_filter records) (g, 0) (in_order (flat_map asked_by records))
       (in-in_order (g, 0) (flat_map asked_by records) (in-flat_map asked_by found.0 (g, 0) records found.1

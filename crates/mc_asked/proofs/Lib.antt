@@ -4,6 +4,12 @@ pub mod ForwardingLemmas
 pub mod LowestOfParts
 pub mod MergeLemmas
 pub mod PartLemmas
+pub mod UnadmittedLemmas
+pub mod OneKeyLemmas
+pub mod GroupRunLemmas
+pub mod WantStateLemmas
 pub mod SharedPairLemmas
 pub mod LawLemmas
 pub mod AskedLawLemmas
+pub mod NoFilterLemmas
+pub mod LanByLanLemmas

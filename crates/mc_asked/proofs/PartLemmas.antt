@@ -26,7 +26,7 @@ use Rattle.mc_asked.proofs.LowestOfParts.{lowest}
 
 -- ---- the first ones of two merged lists
 
-in-from_take : (k : ℕ) (p : ℕ × ℕ) (xs : List (ℕ × ℕ)) → In p (take k xs) → In p xs
+pub in-from_take : (k : ℕ) (p : ℕ × ℕ) (xs : List (ℕ × ℕ)) → In p (take k xs) → In p xs
 in-from_take zero p xs h = absurd h
 in-from_take (suc k) p [] h = absurd h
 in-from_take (suc k) p (x ∷ xs) (inl e) = inl e

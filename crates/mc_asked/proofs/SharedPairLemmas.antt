@@ -1,35 +1,56 @@
 -- Pairs of parts with the numbers of the parts, part by part.
 use Rattle.std.proofs.Common.{◌≡◌, ℕ, zero, suc, ◌+◌, ◌-◌, ◌<◌, ◌≤◌, inl, inr, Bool, true, false, cond}
-use Rattle.std.proofs.Common.{List, [], ◌∷◌, ◌++◌, map, filter, length, set, get_or, Option, Some}
+use Rattle.std.proofs.Common.{List, [], ◌∷◌, ◌++◌, map, filter, length, set, get_or, take, Option, Some}
+use Rattle.std.proofs.Common.{Result, Ok, Err}
 use Rattle.std.proofs.Common.{refl, sym, ap, ap₂, subst, ◌∙◌, arith, append-nil, length-append, sum_by}
 use Rattle.std.specs.Prelude.{◌≢◌, slice_get}
 use Rattle.std.specs.List.{fold, insert}
 use Rattle.std.specs.List.Sorted.{IsStrictlySortedBy, IsNonDecreasingBy, IsPartitionPoint}
+use Rattle.std.specs.List.Sorted.{IsBinarySearchResult, IsSearchInRange}
+use Rattle.std.specs.Result.{is_ok}
 use Rattle.std.specs.Cmp.{tied_itself}
 use Rattle.std.specs.Ordering.{ordering_index}
 use Rattle.std.specs.declared.cmp.Ordering.TheVariants.{Less, Equal, Greater}
-use Rattle.std.proofs.lemmas.Bool.{ne_eqb, eq-eqb}
+use Rattle.std.proofs.lemmas.Bool.{ne_eqb, eq-eqb, true≢false}
 use Rattle.std.proofs.lemmas.List.Edits.{length-insert}
 use Rattle.std.proofs.lemmas.List.Elements.{filter-append}
 use Rattle.mc_tables.specs.CacheTable.{key_cmp}
 use Rattle.mc_tables.specs.ListedRows.{is_listed}
 use Rattle.mc_tables.specs.Summary.{in_order, shown_pairs}
 use Rattle.mc_tables.proofs.CacheLemmas.{key_cmp-total}
+use Rattle.mc_tables.proofs.CacheMapLemmas.{key_cmp-antisymmetric}
 use Rattle.mc_tables.proofs.LowestLemmas.{put_pair-member, put_pair-at_search_place}
 use Rattle.mc_theory.specs.Lists.{In, below}
 use Rattle.mc_theory.proofs.ListLemmas.{in-append_cases, in-append_left, in-below_cases, in-filter_cases}
 use Rattle.mc_theory.proofs.ListLemmas.{in-push}
 use Rattle.mc_asked.specs.PairParts.{is_last, push_unless_last, parts_with, with_parts}
-use Rattle.mc_asked.proofs.LowestOfParts.{is_strictly_sorted_by-lowest}
-use Rattle.mc_asked.proofs.MergeLemmas.{is_strictly_sorted_by-in_order}
+use Rattle.mc_asked.proofs.MergeLemmas.{AreAbove, is_strictly_sorted_by-in_order}
 use Rattle.mc_asked.proofs.PartLemmas.{key_cmp-from_are_above, is_listed-from_in, in-from_is_listed}
 use Rattle.mc_asked.proofs.PartLemmas.{key_cmp-not_less_itself, equal_bools-from_both}
 
--- the shown pairs ascend
+-- the first of ascending pairs ascend
+is_strictly_sorted_by-take : (n : ℕ) (ps : List (ℕ × ℕ)) → IsStrictlySortedBy key_cmp ps
+    → IsStrictlySortedBy key_cmp (take n ps)
+unfolding IsStrictlySortedBy
+is_strictly_sorted_by-take zero ps up = tt
+is_strictly_sorted_by-take (suc n) [] up = tt
+is_strictly_sorted_by-take (suc n) (p ∷ ps) up = (are_above-take n ps up.0, is_strictly_sorted_by-take n ps up.1)
+  where
+    are_above-take : (n : ℕ) (qs : List (ℕ × ℕ)) → AreAbove p qs → AreAbove p (take n qs)
+    are_above-take zero qs all = tt
+    are_above-take (suc n) [] all = tt
+    are_above-take (suc n) (q ∷ qs) all = (all.0, are_above-take n qs all.1)
+
+-- the shown ones of ascending pairs ascend
+pub is_strictly_sorted_by-shown : (all : Bool) (ps : List (ℕ × ℕ)) → IsStrictlySortedBy key_cmp ps
+    → IsStrictlySortedBy key_cmp (shown_pairs all ps)
+is_strictly_sorted_by-shown true ps up = up
+is_strictly_sorted_by-shown false ps up = is_strictly_sorted_by-take 20 ps up
+
 pub is_strictly_sorted_by-shown_pairs : (all : Bool) (ps : List (ℕ × ℕ))
     → IsStrictlySortedBy key_cmp (shown_pairs all (in_order ps))
-is_strictly_sorted_by-shown_pairs true ps = is_strictly_sorted_by-in_order ps
-is_strictly_sorted_by-shown_pairs false ps = is_strictly_sorted_by-lowest ps
+is_strictly_sorted_by-shown_pairs all ps =
+    is_strictly_sorted_by-shown all (in_order ps) (is_strictly_sorted_by-in_order ps)
 
 -- ---- a part after others
 
@@ -107,6 +128,12 @@ parts_with-less parts pair x h =
     in-below_cases x (length parts)
     (in-filter_cases (λ n. is_listed (slice_get parts n) pair) x (below (length parts)) h).0
 
+-- the pairs themselves
+pub map-with_parts : (parts : List (List (ℕ × ℕ))) (ps : List (ℕ × ℕ))
+    → map (λ (line : (ℕ × ℕ) × List ℕ). line.0) (map (with_parts parts) ps) ≡ ps
+map-with_parts parts [] = refl
+map-with_parts parts (p ∷ ps) = ap (λ l. p ∷ l) (map-with_parts parts ps)
+
 -- ---- a part's pairs, one by one
 
 -- a pair with the parts before, and with this one if the pair is among its first ones
@@ -159,7 +186,7 @@ with_part_so_far-other_pair parts own q p other =
     ap (λ (b : Bool). (p, parts_with parts p ++ cond b (length parts ∷ []) []))
     (is_listed-push_other own q p other)
 
-in-get_or : (xs : List (ℕ × ℕ)) (k : ℕ) (d : ℕ × ℕ) → k < length xs → In (get_or xs k d) xs
+pub in-get_or : (xs : List (ℕ × ℕ)) (k : ℕ) (d : ℕ × ℕ) → k < length xs → In (get_or xs k d) xs
 in-get_or [] k d lt = absurd (omega (arith, lt))
 in-get_or (x ∷ xs) zero d lt = inl refl
 in-get_or (x ∷ xs) (suc k) d lt = inr (in-get_or xs k d (omega (arith, lt)))
@@ -218,7 +245,35 @@ index-from_in q (p ∷ ps) (inr h) =
     let later = index-from_in q ps h in
     (suc later.0, (omega (arith, later.1.0), later.1.1))
 
--- a pair for which the binary search finds only a place between others
+-- a pair for which the binary search finds only a place between others isn't among them
+pub not_in-from_search : (ps seen : List (ℕ × ℕ)) (i : ℕ) (q : ℕ × ℕ) → seen ≡ ps
+    → IsStrictlySortedBy key_cmp ps → i ≤ length seen
+    → (IsNonDecreasingBy (λ p. ordering_index (key_cmp p q)) seen
+    → IsPartitionPoint (λ p. key_cmp p q ≡ Less) (λ p. key_cmp p q ≡ Greater) seen i)
+    → In q ps → ⊥
+not_in-from_search ps seen i q same up le found there =
+    let at = index-from_in q ps there in
+    let equal : key_cmp (get_or ps at.0 q) q ≡ Equal =
+    ap (λ (x : ℕ × ℕ). key_cmp x q) at.1.1 ∙ tied_itself key_cmp-total q in
+    let whole : insert ps i q ≡ ps =
+    sym (put_pair-at_search_place q ps seen i same up le found) ∙ put_pair-member q q ps at.0 up at.1.0
+    equal in
+    let size = ap length whole in
+    let grown = length-insert ps i q (subst (λ (l : List (ℕ × ℕ)). i ≤ length l) same le) in
+    absurd (omega (arith, size, grown))
+
+-- a binary search finds the pairs that are listed
+pub is_ok-search : (ps : List (ℕ × ℕ)) (q : ℕ × ℕ) (r : Result ℕ ℕ) → IsStrictlySortedBy key_cmp ps
+    → IsSearchInRange r (length ps) → IsBinarySearchResult (λ p. key_cmp p q) ps r
+    → is_ok r ≡ is_listed (Some ps) q
+is_ok-search ps q (Ok i) up within found =
+    let same : get_or ps i q ≡ q = key_cmp-antisymmetric (get_or ps i q) q (found q) in
+    sym (is_listed-from_in q ps (subst (λ (p : ℕ × ℕ). In p ps) same (in-get_or ps i q within)))
+is_ok-search ps q (Err i) up within found =
+    equal_bools-from_both false (is_listed (Some ps) q) (λ e. absurd (true≢false (sym e)))
+    (λ e. absurd (not_in-from_search ps ps i q refl up within found (in-from_is_listed q ps e)))
+
+-- so it changes nothing
 pub with_part_so_far-absent : (parts : List (List (ℕ × ℕ))) (own ps seen : List (ℕ × ℕ)) (i : ℕ) (q : ℕ × ℕ)
     → seen ≡ ps → IsStrictlySortedBy key_cmp ps → i ≤ length seen
     → (IsNonDecreasingBy (λ p. ordering_index (key_cmp p q)) seen
@@ -227,15 +282,7 @@ pub with_part_so_far-absent : (parts : List (List (ℕ × ℕ))) (own ps seen : 
 with_part_so_far-absent parts own ps seen i q same up le found =
     map-equal_on_list (with_part_so_far parts own) (with_part_so_far parts (own ++ q ∷ [])) ps (λ p h.
     with_part_so_far-other_pair parts own q p (λ e.
-    let at = index-from_in q ps (subst (λ (x : ℕ × ℕ). In x ps) e h) in
-    let equal : key_cmp (get_or ps at.0 q) q ≡ Equal =
-    ap (λ (x : ℕ × ℕ). key_cmp x q) at.1.1 ∙ tied_itself key_cmp-total q in
-    let whole : insert ps i q ≡ ps =
-    sym (put_pair-at_search_place q ps seen i same up le found) ∙ put_pair-member q q ps at.0 up at.1.0
-    equal in
-    let size = ap length whole in
-    let grown = length-insert ps i q (subst (λ (l : List (ℕ × ℕ)). i ≤ length l) same le) in
-    absurd (omega (arith, size, grown))))
+    not_in-from_search ps seen i q same up le found (subst (λ (x : ℕ × ℕ). In x ps) e h)))
 
 -- ---- how many
 

@@ -1,7 +1,9 @@
 -- The wants of all LANs that nothing answers, each with its LANs, and the services.
 use Rattle.std.specs.Prelude.{◌≡◌, ℕ, ◌-◌, Bool, List, filter, length, map, sum_by, Some}
 use Rattle.std.specs.Prelude.{true, not, suc, [], ◌∷◌}
+use Rattle.std.specs.List.Sorted.{IsStrictlySortedBy}
 use Rattle.mc_igmp.specs.declared.record.Record.{Record}
+use Rattle.mc_tables.specs.CacheTable.{key_cmp}
 use Rattle.mc_tables.specs.ListedRows.{is_listed}
 use Rattle.mc_asked.specs.Answers.{AnswersValue}
 use Rattle.mc_asked.specs.declared.asked_lines.AskedLines.{AskedLines}
@@ -45,9 +47,10 @@ service_lines lans = shared_pairs true (services_of_lans lans)
 
 -- ---- what is made of them
 
--- the lines and how many more there are
+-- the lines, by their wants, and how many more there are
 pub record AreAskedLines (all : Bool) (lans : List LanWantsValue) (a : AskedLines) : Type 0 where
   pub lines : a.lines.items ≡ asked_lines all lans
+  pub ascending : IsStrictlySortedBy key_cmp (map (λ line. line.0) a.lines.items)
   pub further : a.further ≡ further_wants all lans
 
 -- ---- by the lists of all LANs

@@ -1,5 +1,6 @@
 -- What a router has for a want: whether it forwards an entry that counts, and if not, what it has instead.
-use Rattle.std.specs.Prelude.{ℕ, ◌==◌, ◌&&◌, ◌||◌, not, Bool, false, is_some, List, Option, None, Some}
+use Rattle.std.specs.Prelude.{ℕ, ◌==◌, ◌&&◌, ◌||◌, not, Bool, false, true, is_some, List, Option, None, Some}
+use Rattle.std.specs.Prelude.{filter, length, slice_get}
 use Rattle.std.specs.Prelude.{if◌then◌else◌}
 use Rattle.std.specs.FinMap.{FinMap, get}
 use Rattle.std.specs.List.{list_any}
@@ -11,6 +12,7 @@ use Rattle.mc_tables.specs.VifTable.{VifValue, has_device}
 use Rattle.mc_asked.specs.declared.forwarding.RouterState.{RouterState}
 use Rattle.mc_asked.specs.declared.forwarding.RouterState.TheVariants.{Nothing, EverySource, NoneOut}
 use Rattle.mc_asked.specs.declared.forwarding.RouterState.TheVariants.{Forwards}
+use Rattle.mc_theory.specs.Lists.{below}
 use Rattle.mc_asked.specs.ListWants.{Want, any_source}
 
 -- copies that go out by the vif can reach a LAN: it has a line and a device, and isn't PIM's register vif
@@ -65,3 +67,20 @@ greater EverySource NoneOut = NoneOut
 greater EverySource EverySource = EverySource
 greater EverySource Nothing = EverySource
 greater Nothing other = other
+
+-- ---- the routers by their states
+
+abbrev pub is_same_state : RouterState → RouterState → Bool
+is_same_state Nothing Nothing = true
+is_same_state EverySource EverySource = true
+is_same_state NoneOut NoneOut = true
+is_same_state Forwards Forwards = true
+is_same_state state other = false
+
+abbrev pub has_state : RouterState → Option RouterState → Bool
+has_state state None = false
+has_state state (Some own) = is_same_state state own
+
+-- the routers that are in a state, by the state of each, in order
+abbrev pub routers_in : RouterState → List RouterState → List ℕ
+routers_in state states = filter (λ r. has_state state (slice_get states r)) (below (length states))

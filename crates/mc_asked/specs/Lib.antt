@@ -1,4 +1,6 @@
 pub mod ListWants
+pub mod Unadmitted
+pub mod UnadmittedSoFar
 pub mod Services
 pub mod Answers
 pub mod LanWants
@@ -6,6 +8,8 @@ pub mod Indexes
 pub mod AskedLines
 pub mod PairParts
 pub mod Forwarding
+pub mod GroupRun
+pub mod WantStates
 pub use Rattle.mc_text.specs.Addr
 pub use Rattle.mc_text.specs.GroupRange
 pub use Rattle.mc_text.specs.Pair

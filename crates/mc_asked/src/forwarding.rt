@@ -101,7 +101,11 @@ pub fn state_with_row(
     entry: &Entry<'_>,
 ) -> RouterState
     requires ascending { IsStrictlyIncreasing unadmitted.now }
-    ensures { (rows : List RowValue) → state ≡ router_state vifs.now unadmitted.now want.now rows →
+    // The greater one of what was and of what the row alone has.
+    ensures value { result ≡ greater state
+        (router_state vifs.now unadmitted.now want.now (row_of key.now entry.now ∷ [])) }
+    // So it is what the rows before and this one have.
+    ensures rows { (rows : List RowValue) → state ≡ router_state vifs.now unadmitted.now want.now rows →
         result ≡ router_state vifs.now unadmitted.now want.now (rows ++ row_of key.now entry.now ∷ []) }
 {
     greater(state, state_of_row(vifs, unadmitted, want, key, entry))

@@ -3,6 +3,8 @@
 ghost use Rattle.std.specs.Prelude.{◌≡◌, ◌∷◌, ◌++◌, [], List, IfOk, OnOk, length, nat_eq};
 ghost use Rattle.mc_igmp.specs.declared.record.Record.{Record};
 ghost use Rattle.mc_asked.specs.Indexes.{AreFlowsWanted, IsClassified, IsIndexOfWantedGroups};
+ghost use Rattle.std.specs.List.Sorted.{IsStrictlySortedBy};
+ghost use Rattle.mc_tables.specs.CacheTable.{key_cmp};
 ghost use Rattle.mc_tables.specs.Summary.{shown_pairs};
 ghost use Rattle.std.specs.Prelude.{if◌then◌else◌};
 ghost use Rattle.std.specs.List.{dedup};
@@ -32,6 +34,8 @@ pub struct LanWants {
 }
 
 impl Model for LanWants {
+    ghost use Rattle.std.specs.List.Sorted.{IsStrictlySortedBy};
+    ghost use Rattle.mc_tables.specs.CacheTable.{key_cmp};
     ghost use Rattle.mc_asked.specs.LanWants.{LanWantsValue};
 
     ghost Value = { LanWantsValue };
@@ -41,13 +45,16 @@ impl Model for LanWants {
       count = s.count;
       services = s.services.items;
     } };
+
+    ghost invariant = { λ s. IsStrictlySortedBy key_cmp s.lowest.items };
 }
 
 impl LanWants {
     /// The wants that nothing answers, all or the 20 lowest, each a group and a source, which is 0.0.0.0
     /// for any.
     pub fn lowest(&self) -> &[(Addr, Addr)]
-        ensures { result.now ≡ self.now.lowest }
+        ensures value { result.now ≡ self.now.lowest }
+        ensures ascending { IsStrictlySortedBy key_cmp result.now }
     {
         &self.lowest
     }
@@ -157,6 +164,7 @@ impl ClassifiedWants {
 
     /// What is kept of them: all, or the first.
     fn into_kept(self, all: bool) -> LanWants
+        requires ascending { IsStrictlySortedBy key_cmp self.asked.items }
         ensures { result ≡ kept_wants all self.asked.items self.services.items }
     {
         let ClassifiedWants { asked, services } = self;

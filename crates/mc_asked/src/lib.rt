@@ -6,11 +6,15 @@
 mod answers;
 mod asked_lines;
 mod forwarding;
+mod group_run;
 mod lan_wants;
 pub mod laws;
 mod services;
 mod shared_pairs;
+mod unadmitted;
+mod unadmitted_sources;
 mod want_class;
+mod want_states;
 mod wants;
 
 pub use answers::WantAnswers;
@@ -19,4 +23,6 @@ pub use forwarding::{RouterState, state_with_row};
 pub use lan_wants::LanWants;
 pub use services::service_name;
 pub use shared_pairs::SharedPair;
+pub use unadmitted_sources::UnadmittedSources;
 pub use want_class::WantClass;
+pub use want_states::{AskedWant, StatedWant, WantStates};

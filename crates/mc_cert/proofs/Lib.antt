@@ -15,3 +15,5 @@ pub mod TreeLemmas
 pub mod TextDenotation
 pub mod CertificateTexts
 pub mod WrittenCertificates
+pub mod TokenLemmas
+pub mod FieldLemmas

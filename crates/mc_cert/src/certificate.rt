@@ -8,6 +8,7 @@ use crate::compact::compact_certificate;
 use crate::fault::CertFault;
 use crate::reached::{FlowCert, Reached};
 use crate::read::parse_certificate;
+use crate::tokens::certificate_of_tokens;
 use crate::trees::Trees;
 use mc_text::Memory;
 use mc_topology::Topology;
@@ -69,8 +70,12 @@ impl Certificate {
         // The fault is the first one of the text, unless memory runs out.
         ensures fault { Gives (λ c. c) result (parse_certificate topology.now text.now) }
     {
-        // What `to_json` writes is read without a tree of JSON values, every other text with one.
+        // What `to_json` writes is read by its bytes, a certificate in another form by its tokens, and a
+        // text that is none through a tree of JSON values, which finds the fault.
         if let Ok(certificate) = compact_certificate(alloc, topology, text) {
+            return Ok(certificate);
+        }
+        if let Ok(certificate) = certificate_of_tokens(alloc, topology, text) {
             return Ok(certificate);
         }
         parse_certificate(alloc, topology, text)

@@ -1,5 +1,5 @@
 //! Reads a text in the form that `Certificate::to_json` writes, in one pass and without a tree of JSON
-//! values. Every other text is left to the reader of JSON, which finds its fault.
+//! values. Every other text is left to the reader of JSON's tokens.
 
 ghost use Rattle.std.specs.Prelude.{◌≡◌, ◌++◌, ◌<◌, ◌≤◌, ◌⊎◌, [], ◌∷◌, true, All, length, vec_len};
 ghost use Rattle.std.specs.Prelude.{map, codes, decimal, IfSome, IfOk};
@@ -240,7 +240,7 @@ fn read_flows<'a>(
 }
 
 /// Whether each number is below the count.
-fn are_below(numbers: &[u32], count: usize) -> bool
+pub(crate) fn are_below(numbers: &[u32], count: usize) -> bool
     ensures { result ≡ true → All (λ n. n < count) numbers.now }
 {
     numbers.iter().all(|number| (*number as usize) < count)

@@ -14,6 +14,7 @@ mod pieces;
 mod reached;
 mod read;
 mod rows;
+mod tokens;
 mod trees;
 mod version;
 mod version_one;

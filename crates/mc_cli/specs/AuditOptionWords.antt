@@ -20,3 +20,7 @@ json_word = codes "--json"
 -- the word before an excluded router
 abbrev pub without_word : List ℕ
 without_word = codes "--without"
+
+-- the word before a range of groups that is left aside
+abbrev pub ignore_word : List ℕ
+ignore_word = codes "--ignore"

@@ -1,17 +1,26 @@
 -- The arguments that the words after `audit` give.
 use Rattle.std.specs.Prelude.{◌≡◌, ℕ, ◌&&◌, not, Bool, true, false, List, [], ◌∷◌, ◌++◌, map, take, drop}
-use Rattle.std.specs.Prelude.{codes, if◌then◌else◌, Option, Some, None, is_some, option_map}
+use Rattle.std.specs.Prelude.{codes, if◌then◌else◌, Option, Some, None, is_some, option_map, IsSome}
 use Rattle.std.specs.Bool.{then_some}
-use Rattle.std.specs.List.{list_any}
+use Rattle.std.specs.List.{All, list_any}
+use Rattle.std.specs.List.Sorted.{IsPermutation, IsSorted}
+use Rattle.std.specs.Ordering.{nat_cmp, ordering_then}
+use Rattle.std.specs.declared.cmp.Ordering.{Ordering}
 use Rattle.std.specs.Str.{bytes_eq}
 use Rattle.mc_topology.specs.Names.{is_name}
 use Rattle.mc_cli.specs.AuditOptionWords.{faults_word, json_word, strict_word, travel_word, unlisted_word}
-use Rattle.mc_cli.specs.AuditOptionWords.{without_word}
+use Rattle.mc_cli.specs.AuditOptionWords.{ignore_word, without_word}
+use Rattle.mc_text.specs.GroupRange.{IsGroupRange, range_text}
 use Rattle.mc_cli.specs.declared.audit_options.AuditOptions.{AuditOptions}
 use Rattle.mc_cli.specs.declared.audit_words.AuditWords.{AuditWords}
+use Rattle.mc_cli.specs.declared.audit_words.WholeWords.{WholeWords}
 use Rattle.mc_cli.specs.declared.draft.Draft.{Draft}
 use Rattle.mc_cli.specs.declared.draft.NextWord.{NextWord}
-use Rattle.mc_cli.specs.declared.draft.NextWord.TheVariants.{Options, Router, FolderOnly}
+use Rattle.mc_cli.specs.declared.draft.NextWord.TheVariants.{Options, Router, Range, FolderOnly}
+
+-- ranges are ordered by address, and then by length
+abbrev pub range_cmp : ℕ × ℕ → ℕ × ℕ → Ordering
+range_cmp x y = ordering_then (nat_cmp x.0 y.0) (nat_cmp x.1 y.1)
 
 -- the word is one of these
 abbrev pub is_among : List ℕ → List (List ℕ) → Bool
@@ -33,6 +42,7 @@ pub record Given : Type 0 where
   pub folder : Option (List ℕ)
   pub options : AuditOptions
   pub without : List (List ℕ)
+  pub ignored : List (List ℕ)
   pub next_word : NextWord
 
 abbrev pub nothing_given : Given
@@ -46,6 +56,7 @@ nothing_given = record {
     json = false;
   };
   without = [];
+  ignored = [];
   next_word = Options;
 }
 
@@ -73,28 +84,43 @@ abbrev pub with_router : List ℕ → Given → Given
 with_router word given =
     record given { without = given.without ++ word ∷ []; next_word = Options }
 
+abbrev pub with_range : List ℕ → Given → Given
+with_range word given =
+    record given { ignored = given.ignored ++ word ∷ []; next_word = Options }
+
 -- the router of `--without=ROUTER`
 abbrev pub router_after_equals : List ℕ → Option (List ℕ)
 router_after_equals word =
     if bytes_eq (take 10 word) (codes "--without=") then Some (drop 10 word) else None
 
-abbrev pub with_router_or_other : Option (List ℕ) → List ℕ → Given → Option Given
-with_router_or_other (Some router) word given = Some (with_router router given)
-with_router_or_other None word given = if is_option word
+-- the range of `--ignore=RANGE`
+abbrev pub range_after_equals : List ℕ → Option (List ℕ)
+range_after_equals word =
+    if bytes_eq (take 9 word) (codes "--ignore=") then Some (drop 9 word) else None
+
+abbrev pub with_range_or_other : Option (List ℕ) → List ℕ → Given → Option Given
+with_range_or_other (Some range) word given = Some (with_range range given)
+with_range_or_other None word given = if is_option word
     then option_map (λ options. record given { options = options }) (with_option word given.options)
     else with_folder word given
 
--- with a word that follows neither `--without` nor `--`
+abbrev pub with_router_or_other : Option (List ℕ) → List ℕ → Given → Option Given
+with_router_or_other (Some router) word given = Some (with_router router given)
+with_router_or_other None word given = with_range_or_other (range_after_equals word) word given
+
+-- with a word that follows none of `--without`, `--ignore` and `--`
 abbrev pub with_option_or_folder : List ℕ → Given → Option Given
 with_option_or_folder word given =
     if bytes_eq word (codes "--") then Some (record given { next_word = FolderOnly })
     else (if bytes_eq word without_word then Some (record given { next_word = Router })
-    else with_router_or_other (router_after_equals word) word given)
+    else (if bytes_eq word ignore_word then Some (record given { next_word = Range })
+    else with_router_or_other (router_after_equals word) word given))
 
 -- what is given with the next word; none where it isn't valid there
 abbrev pub with_word : NextWord → List ℕ → Given → Option Given
 with_word Options word given = with_option_or_folder word given
 with_word Router word given = Some (with_router word given)
+with_word Range word given = Some (with_range word given)
 with_word FolderOnly word given = with_folder word given
 
 -- what is given with the next words
@@ -109,6 +135,7 @@ given_of draft = record {
   folder = option_map (λ folder. folder.now) draft.folder;
   options = draft.options;
   without = map (λ router. router.now) draft.without.items;
+  ignored = map (λ range. range.now) draft.ignored.items;
   next_word = draft.next_word;
 }
 
@@ -116,18 +143,59 @@ given_of draft = record {
 abbrev pub IsNextGiven : Bool → Option Given → Given → Type 0
 IsNextGiven right next given = next ≡ then_some right given
 
--- the next word is the router of the `--without` before it
-abbrev pub is_router_expected : NextWord → Bool
-is_router_expected Router = true
-is_router_expected Options = false
-is_router_expected FolderOnly = false
+-- the next word is the router of the `--without`, or the range of the `--ignore`, before it
+abbrev pub is_value_expected : NextWord → Bool
+is_value_expected Router = true
+is_value_expected Range = true
+is_value_expected Options = false
+is_value_expected FolderOnly = false
+
+-- each word is there once
+abbrev pub are_distinct : List (List ℕ) → Bool
+are_distinct [] = true
+are_distinct (word ∷ words) = not (is_among word words) && are_distinct words
+
+-- the words are those of valid ranges, each once, and these are the ranges, which ascend
+pub record AreRanges (words : List (List ℕ)) (ranges : List (ℕ × ℕ)) : Type 0 where
+  pub given : List (ℕ × ℕ)
+  pub written : words ≡ map range_text given
+  pub valid : All IsGroupRange given
+  pub once : are_distinct words ≡ true
+  pub same : IsPermutation given ranges
+  pub ascending : IsSorted range_cmp ranges
+
+-- a folder was given, and no option waits for its value
+pub record IsComplete (given : Given) : Type 0 where
+  pub next_word : is_value_expected given.next_word ≡ false
+  pub folder : IsSome given.folder
+
+-- the words are valid, and complete
+pub record AreComplete (words : List (List ℕ)) : Type 0 where
+  pub given : Given
+  pub all : with_words (Some nothing_given) words ≡ Some given
+  pub complete : IsComplete given
+
+-- what was given is complete, and is this
+pub record IsWholeDraft (given : Given) (parts : WholeWords) : Type 0 where
+  pub next_word : is_value_expected given.next_word ≡ false
+  pub folder : given.folder ≡ Some parts.folder.now
+  pub options : given.options ≡ parts.options
+  pub without : given.without ≡ map (λ router. router.now) parts.without.items
+  pub ignored : given.ignored ≡ map (λ range. range.now) parts.ignored.items
+
+-- the words are valid and complete, and give this
+pub record AreWholeWords (words : List (List ℕ)) (parts : WholeWords) : Type 0 where
+  pub given : Given
+  pub all : with_words (Some nothing_given) words ≡ Some given
+  pub whole : IsWholeDraft given parts
 
 -- what was given is complete, and makes these arguments
 pub record IsCompleteDraft (given : Given) (audit : AuditWords) : Type 0 where
-  pub next_word : is_router_expected given.next_word ≡ false
+  pub next_word : is_value_expected given.next_word ≡ false
   pub folder : given.folder ≡ Some audit.folder.now
   pub options : given.options ≡ audit.options
   pub without : given.without ≡ map (λ router. router.now) audit.without.items
+  pub ignored : AreRanges given.ignored audit.ignored.items
 
 -- the words are valid and complete, and give these arguments
 pub record AreCompleteAuditWords (words : List (List ℕ)) (audit : AuditWords) : Type 0 where
@@ -136,8 +204,8 @@ pub record AreCompleteAuditWords (words : List (List ℕ)) (audit : AuditWords) 
   pub whole : IsCompleteDraft given audit
 
 -- The words after `audit` give these arguments: one folder, which doesn't begin with `-`; before and
--- after it any options, each once, but none after `--`; and after each `--without` a router, each once,
--- whatever its name begins with.
+-- after it any options, each once, but none after `--`; after each `--without` a router, each once,
+-- whatever its name begins with; and after each `--ignore` a range of groups, each once.
 pub record AreAuditWords (words : List (List ℕ)) (audit : AuditWords) : Type 0 where
   pub whole : AreCompleteAuditWords words audit
   pub folder : is_option audit.folder.now ≡ false

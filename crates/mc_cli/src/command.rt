@@ -8,7 +8,7 @@ ghost use Rattle.mc_cli.specs.Commands.{flag_rule, make_shape, option_rule, pack
 ghost use Rattle.mc_cli.specs.Commands.{is_command, program_shape, replay_shape, required_rule, wants_shape};
 
 use crate::audit_options::{
-    FAULTS_WORD, JSON_WORD, STRICT_WORD, TRAVEL_WORD, UNLISTED_WORD, WITHOUT_WORD,
+    FAULTS_WORD, IGNORE_WORD, JSON_WORD, STRICT_WORD, TRAVEL_WORD, UNLISTED_WORD, WITHOUT_WORD,
 };
 use clap::{Arg, ArgAction, Command};
 use std::alloc::{AllocError, Global};
@@ -136,7 +136,7 @@ pub fn wants_command<'a>(alloc: Global) -> Result<Command<'a>, AllocError>
 }
 
 const AUDIT_USAGE: &str = "\
-mcaudit audit <folder> [--travel] [--faults] [--unlisted] [--strict] [--json] [--without <router>]...";
+mcaudit audit <folder> [--travel] [--faults] [--unlisted] [--strict] [--json] [--without <router>]... [--ignore <range>]...";
 
 /// The command `audit` and its arguments.
 pub fn audit_command<'a>(alloc: Global) -> Result<Command<'a>, AllocError> {
@@ -152,15 +152,20 @@ pub fn audit_command<'a>(alloc: Global) -> Result<Command<'a>, AllocError> {
     let strict = "Ends with status 1 where a flow that is right is wanted by nobody";
     let json = "Writes one JSON object a line";
     let without = "Audits without the router's tables, and then can't say yes";
+    let ignore = "Leaves aside what hosts ask for of a range of groups, as 239.0.0.0/8";
     let command = command.arg(required(alloc, "folder", FOLDER));
     let command = with_argument(command, flag_of_word(alloc, TRAVEL_WORD, travel));
     let command = with_argument(command, flag_of_word(alloc, FAULTS_WORD, faults));
     let command = with_argument(command, flag_of_word(alloc, UNLISTED_WORD, unlisted));
     let command = with_argument(command, flag_of_word(alloc, STRICT_WORD, strict));
     let command = with_argument(command, flag_of_word(alloc, JSON_WORD, json));
-    with_argument(
+    let command = with_argument(
         command,
         repeated(alloc, name_in_word(WITHOUT_WORD), "router", without),
+    );
+    with_argument(
+        command,
+        repeated(alloc, name_in_word(IGNORE_WORD), "range", ignore),
     )
 }
 

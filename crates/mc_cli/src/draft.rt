@@ -3,10 +3,11 @@
 ghost use Rattle.std.specs.Prelude.{◌≡◌, map, IfOk, Some, OnOk, option_map};
 ghost use Rattle.mc_cli.specs.AuditWords.{IsNextGiven, given_of, router_after_equals, nothing_given};
 ghost use Rattle.mc_cli.specs.AuditWords.{with_folder, with_option, with_option_or_folder, with_router};
+ghost use Rattle.mc_cli.specs.AuditWords.{range_after_equals, with_range, with_range_or_other};
 ghost use Rattle.mc_cli.specs.AuditWords.{with_word, with_words};
 
 use crate::audit_options::{
-    AuditOptions, FAULTS_WORD, JSON_WORD, STRICT_WORD, TRAVEL_WORD, UNLISTED_WORD, WITHOUT_WORD,
+    AuditOptions, FAULTS_WORD, IGNORE_WORD, JSON_WORD, STRICT_WORD, TRAVEL_WORD, UNLISTED_WORD, WITHOUT_WORD,
 };
 use std::alloc::{AllocError, Global};
 
@@ -17,6 +18,8 @@ pub enum NextWord {
     Options,
     /// The router of the `--without` before it, whatever it begins with.
     Router,
+    /// The range of the `--ignore` before it.
+    Range,
     /// The folder, and no option: `--` came before it.
     FolderOnly,
 }
@@ -30,6 +33,8 @@ pub struct Draft<'a> {
     pub options: AuditOptions,
     /// The routers to exclude, in the order of the words.
     pub without: Vec<&'a str>,
+    /// The ranges to leave aside, in the order of the words.
+    pub ignored: Vec<&'a str>,
     /// What the next word may be.
     pub next_word: NextWord,
 }
@@ -39,6 +44,13 @@ fn router_after_equals(word: &str) -> Option<&str>
     ensures { option_map (λ router. router.now) result ≡ router_after_equals word.now }
 {
     word.strip_prefix("--without=")
+}
+
+/// The range of the word `--ignore=RANGE`.
+fn range_after_equals(word: &str) -> Option<&str>
+    ensures { option_map (λ range. range.now) result ≡ range_after_equals word.now }
+{
+    word.strip_prefix("--ignore=")
 }
 
 /// The options with the one that the word names. None where it names none, or one given before.
@@ -85,6 +97,7 @@ impl<'a> Draft<'a> {
                 json: false,
             },
             without: Vec::new(alloc),
+            ignored: Vec::new(alloc),
             next_word: NextWord::Options,
         }
     }
@@ -95,6 +108,16 @@ impl<'a> Draft<'a> {
             (given_of self.new ≡ with_router router.now (given_of self.old)) }
     {
         self.without.push(router)?;
+        self.next_word = NextWord::Options;
+        Ok(())
+    }
+
+    /// Adds a range to leave aside.
+    fn add_range(&mut self, range: &'a str) -> Result<(), AllocError>
+        ensures { OnOk result
+            (given_of self.new ≡ with_range range.now (given_of self.old)) }
+    {
+        self.ignored.push(range)?;
         self.next_word = NextWord::Options;
         Ok(())
     }
@@ -123,8 +146,25 @@ impl<'a> Draft<'a> {
             self.next_word = NextWord::Router;
             return Ok(true);
         }
+        if word == IGNORE_WORD {
+            self.next_word = NextWord::Range;
+            return Ok(true);
+        }
         if let Some(router) = router_after_equals(word) {
             self.add_router(router)?;
+            return Ok(true);
+        }
+        self.add_range_or_other(word)
+    }
+
+    /// Adds a range behind `--ignore=`, an option or the folder. False where the word isn't valid there.
+    fn add_range_or_other(&mut self, word: &'a str) -> Result<bool, AllocError>
+        ensures { IfOk result (λ right. IsNextGiven right
+            (with_range_or_other (range_after_equals word.now) word.now (given_of self.old))
+            (given_of self.new)) }
+    {
+        if let Some(range) = range_after_equals(word) {
+            self.add_range(range)?;
             return Ok(true);
         }
         if !word.starts_with('-') {
@@ -146,6 +186,10 @@ impl<'a> Draft<'a> {
             NextWord::Options => self.add_option_or_folder(word),
             NextWord::Router => {
                 self.add_router(word)?;
+                Ok(true)
+            }
+            NextWord::Range => {
+                self.add_range(word)?;
                 Ok(true)
             }
             NextWord::FolderOnly => Ok(self.add_folder(word)),

@@ -99,6 +99,14 @@ causes-two_senders lan x y a b r ts us vs ws e₁ e₂ e₃ e₄ p q = e₄ ∙
     (append_assoc (sender_causes lan a) (sender_causes lan b) (r ∷ []) ∙
     ap₂ (λ (c d : Option Interface). sender_causes lan c ++ (sender_causes lan d ++ r ∷ [])) p q))
 
+-- two senders, without a remedy
+pub causes-two_senders_alone : (k lan : ℕ) (x y a b : Option Interface) (ts us vs : List Cause) → ts ≡ [] →
+    us ≡ ts ++ sender_causes k a → vs ≡ us ++ sender_causes k b → k ≡ lan → a ≡ x → b ≡ y →
+    vs ≡ sender_causes lan x ++ sender_causes lan y
+causes-two_senders_alone k lan x y a b ts us vs e₁ e₂ e₃ same p q = e₃ ∙ ap (λ (zs : List Cause). zs ++ sender_causes k b)
+    (e₂ ∙ ap (λ (zs : List Cause). zs ++ sender_causes k a) e₁) ∙
+    ap₂ (λ (us vs : List Cause). us ++ vs) (ap₂ sender_causes same p) (ap₂ sender_causes same q)
+
 -- two causes
 pub causes-two_pushed : (r s : Cause) (ts us vs : List Cause) → ts ≡ [] → us ≡ ts ++ r ∷ [] →
     vs ≡ us ++ s ∷ [] → vs ≡ r ∷ s ∷ []

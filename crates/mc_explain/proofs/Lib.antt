@@ -3,6 +3,7 @@ pub mod LineFeedLemmas
 pub mod IndentedLemmas
 pub mod NameListLemmas
 pub mod FilterLemmas
+pub mod AskedLemmas
 pub mod BackLemmas
 pub mod NeedLemmas
 pub mod FoundCopyLemmas
@@ -11,6 +12,9 @@ pub mod StrayLemmas
 pub mod CauseLemmas
 pub mod RemedyLemmas
 pub mod ShownNeedLemmas
+pub mod BehindLemmas
+pub mod BehindFactLemmas
+pub mod BehindTextLemmas
 pub mod UniqueCauseLemmas
 pub mod ProbeLemmas
 pub mod GroupLemmas
@@ -26,3 +30,4 @@ pub mod UnlistedPairLemmas
 pub mod ExcludedLemmas
 pub mod SearchNameLemmas
 pub mod UnlistedLineLemmas
+pub mod AskedLineLemmas

@@ -136,7 +136,7 @@ no_feed-device_text d router vif = no_feed-device_text_of vif (d.vifs router vif
 
 -- ---- rows
 
-no_feed-address_text : (a : ℕ) → HasNoByte 10 (address_text a)
+pub no_feed-address_text : (a : ℕ) → HasNoByte 10 (address_text a)
 no_feed-address_text a = no_feed-cond (a == 0) (codes "*") (dotted a) (no_feed-from_list_all (codes "*")
     refl) (no_feed-dotted a)
 

@@ -1,14 +1,11 @@
 -- What is worked out is the TTL from which on packets show the finding.
-use Rattle.std.proofs.Common.{◌≡◌, ℕ, ◌+◌, ◌<◌, ◌≤◌, max, inl, inr, ◌⊎◌, Bool, false, List, [], length}
-use Rattle.std.proofs.Common.{Option, Some, None, Result, Ok, Err, refl, ap, ap₂, sym, subst, ◌∙◌, arith}
+use Rattle.std.proofs.Common.{◌≡◌, ℕ, ◌≤◌, max, inl, inr, ◌⊎◌, false, List, [], length}
+use Rattle.std.proofs.Common.{Option, Some, Result, Ok, Err, refl, ap, ap₂, sym, subst, ◌∙◌, arith}
 use Rattle.std.specs.Prelude.{IfOk, IfSome}
 use Rattle.mc_theory.specs.Lists.{In}
 use Rattle.mc_theory.specs.Nets.{Net, IsNet, Row, WantsBelow}
-use Rattle.mc_theory.specs.Nets.Row.{Exact, Open}
 use Rattle.mc_theory.specs.Flights.{Copy, Flight, run, start}
-use Rattle.mc_theory.specs.CertificateOfCopies.{threshold_of}
-use Rattle.mc_theory.specs.ExcludedRouters.{IsSecondCopyOrStray}
-use Rattle.mc_theory.specs.Findings.{Finding, IsTravel, first_copy_on, first_double, handles}
+use Rattle.mc_theory.specs.Findings.{Finding, IsTravel, handles}
 use Rattle.mc_theory.specs.Findings.Finding.{Clean, Duplicate, Loop, Stray, Missed}
 use Rattle.mc_theory.specs.Paths.{Hop, CameByHops, need}
 use Rattle.mc_theory.specs.Hops.{hops_of_copy}
@@ -33,7 +30,7 @@ use Rattle.mc_explain.proofs.LastFlightLemmas.{first_double-from_is_first_double
 -- ---- hops
 
 -- the hops by which a copy came are at most as many as the carried ones
-abbrev HaveFewHops : Net → List Copy → Type 0
+abbrev pub HaveFewHops : Net → List Copy → Type 0
 HaveFewHops n cs = (c : Copy) (hs : List Hop) → In c cs → CameByHops n cs c hs → length hs ≤ length cs
 
 hops_of_copy-came_by_hops : (n : Net) (cs : List Copy) (c : Copy) (hs : List Hop) → IsNet n →
@@ -55,7 +52,7 @@ hops_from_lan-came_by_hops n cs o lan hs net few same came =
 
 -- ---- needs
 
-need_of_two_copies-is_need : (n : Net) (cs : List Copy) (lan k : ℕ) → IsNet n → HaveFewHops n cs →
+pub need_of_two_copies-is_need : (n : Net) (cs : List Copy) (lan k : ℕ) → IsNet n → HaveFewHops n cs →
     RestsOnTwoCopies n cs lan k → k ≡ need_of_two_copies n cs lan
 need_of_two_copies-is_need n cs lan k net few r =
     let first = hops_to_lan-came_by_hops n cs lan r.first_path net few r.first in

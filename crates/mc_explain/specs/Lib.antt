@@ -5,6 +5,9 @@ pub mod Indented
 pub mod WantedText
 pub mod LastFlights
 pub mod CauseFacts
+pub mod Behind
+pub mod BehindText
+pub mod BehindFacts
 pub mod ShownNeed
 pub mod TopologyLans
 pub mod BucketsAndMarks
@@ -15,6 +18,7 @@ pub mod SearchNames
 pub mod ShownNames
 pub mod ExpectingRouters
 pub mod ShownLines
+pub mod AskedText
 pub mod UnlistedText
 pub mod UnlistedLines
 pub mod UnlistedPairs
@@ -28,4 +32,5 @@ pub use Rattle.mc_theory.specs.ShownFrom
 pub use Rattle.mc_forward.specs.Domains
 pub use Rattle.mc_forward.specs.ListedTables
 pub use Rattle.mc_replay.specs.FindingValues
+pub use Rattle.mc_replay.specs.PastStrays
 pub use Rattle.mc_maker.specs.ExaminedFlights

@@ -1,5 +1,5 @@
 -- From which TTL on packets show the finding of a travel, worked out from the copies that its flight carried.
-use Rattle.std.specs.Prelude.{◌≡◌, ℕ, ◌+◌, max, List, [], length, Option, Some, None}
+use Rattle.std.specs.Prelude.{ℕ, ◌+◌, max, List, [], length, Option, Some, None}
 use Rattle.mc_theory.specs.Nets.{Net, Row}
 use Rattle.mc_theory.specs.Nets.Row.{Exact, Open, NoRow}
 use Rattle.mc_theory.specs.Flights.{Copy}

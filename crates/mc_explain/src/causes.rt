@@ -1,5 +1,7 @@
 //! A cause of a flow's fault.
 
+pub(crate) mod behind;
+mod behind_text;
 mod explained;
 mod explanation;
 pub(crate) mod first_copies;
@@ -7,8 +9,10 @@ mod hop;
 mod path;
 mod shown_need;
 
+pub use behind::{Behind, behind_stray};
+pub use behind_text::push_leaks_behind;
 pub use explained::explain;
-pub use explanation::{Certainty, Explanation};
+pub use explanation::{Certainty, Explanation, ShownBy};
 use mc_topology::{LanNo, RouterNo};
 pub use shown_need::shown_from;
 

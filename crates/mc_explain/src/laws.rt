@@ -1,5 +1,6 @@
 //! Theorems: the causes that are reported are true.
 
+mod behind_laws;
 mod excluded_laws;
 mod line_laws;
 mod search_laws;
@@ -27,6 +28,7 @@ ghost use Rattle.mc_explain.specs.CauseFacts.{IsMissedOrClean, IsRemedyForTtl, I
 ghost use Rattle.mc_explain.specs.CauseFacts.{ReachesAsMuch, ReachesEverySourceRow, SendsOnto, StaysReached};
 ghost use Rattle.mc_explain.specs.CauseFacts.{StopsShortOfLan, final_finding};
 
+pub use behind_laws::what_is_behind_a_stray_is_of_a_run;
 pub use excluded_laws::excluded_lines_have_prefix;
 pub use line_laws::wanted_lines_begin_with_two_spaces;
 pub use search_laws::{a_search_ends, a_search_names_each_router};

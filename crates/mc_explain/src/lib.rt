@@ -1,6 +1,7 @@
 //! Why a flow isn't right: the causes and remedies that follow from the tables.
 #![tactic(auto)]
 
+mod asked;
 mod causes;
 mod excluded;
 pub mod laws;
@@ -9,7 +10,11 @@ mod shown;
 mod unlisted;
 mod wanted;
 
-pub use causes::{Cause, Certainty, Explanation, explain, shown_from};
+pub use asked::{AskedLine, RoutersByState, push_asked, push_asked_more, push_asked_services};
+pub use causes::{
+    Behind, Cause, Certainty, Explanation, ShownBy, behind_stray, explain, push_leaks_behind,
+    shown_from,
+};
 pub use excluded::{list_excluded_routers, push_excluded_routers, push_verdict_reason};
 pub use searches::{
     ExpectingRouters, InterfacesOfLans, LanSearch, Reach, SearchLine, ShownLine, ShownLines,

@@ -2,7 +2,8 @@
 
 mod device_text;
 mod every_source_row;
-mod row_text;
+pub(crate) mod row_text;
+pub(crate) mod shown_leaks;
 pub(crate) mod shown_names;
 
 pub use device_text::{ShownDevice, ShownDeviceName};

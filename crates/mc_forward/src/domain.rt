@@ -137,6 +137,14 @@ impl Domain {
         vif_of_router(&self.vifs, router, vif)
     }
 
+    /// The vifs of a router.
+    pub fn vifs(&self, router: RouterNo) -> &VifTable
+        requires listed_router { router < length self.now.topology.routers }
+        ensures { slice_get self.now.vifs router ≡ Some result.now }
+    {
+        &self.vifs[router.0 as usize]
+    }
+
     /// What a router's forwarding cache has for a flow.
     pub fn entry(&self, router: RouterNo, flow: u32) -> RowFor<'_>
         requires router { router < length self.now.topology.routers }

@@ -20,11 +20,25 @@ impl<T> Model for Items<T> {
 }
 
 impl<T: Drop> Items<T> {
+    /// These items.
+    pub fn of(items: Vec<T>) -> Items<T>
+        ensures { result ≡ items.items }
+    {
+        Items { items }
+    }
+
     /// Adds an item behind the others.
     pub(crate) fn push(&mut self, item: T) -> Result<(), Memory>
         ensures { OnOk result (self.new ≡ self.old ++ item ∷ []) }
     {
         self.items.push(item)?;
         Ok(())
+    }
+
+    /// The items.
+    pub fn as_slice(&self) -> &[T]
+        ensures { result.now ≡ self.now }
+    {
+        &self.items
     }
 }

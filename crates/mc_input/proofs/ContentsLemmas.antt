@@ -26,17 +26,17 @@ use Rattle.mc_input.specs.declared.fault.InputFault.{InputFault}
 use Rattle.mc_input.specs.declared.source_fault.SourceFault.{SourceFault}
 use Rattle.mc_input.specs.declared.source_fault.SourceFault.TheVariants.{Input}
 
-abbrev TablesAndRest : Type 0
+abbrev pub TablesAndRest : Type 0
 TablesAndRest = Result (List TablesValue × NextParts) SourceFault
 
-abbrev RoutersAndRest : Type 0
+abbrev pub RoutersAndRest : Type 0
 RoutersAndRest = Result (List RouterRead × NextParts) SourceFault
 
 abbrev ReportsAndRest : Type 0
 ReportsAndRest = Result (List (List Record) × NextParts) SourceFault
 
 -- the tables alone
-abbrev tables_alone : RoutersAndRest → TablesAndRest
+abbrev pub tables_alone : RoutersAndRest → TablesAndRest
 tables_alone found = found >>= λ reads. Ok (map (λ (read : RouterRead). read.tables) reads.0, reads.1)
 
 tables_alone-in_front : (own : RouterRead) (found : RoutersAndRest)

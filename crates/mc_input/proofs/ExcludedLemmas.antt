@@ -4,7 +4,6 @@ use Rattle.std.specs.Prelude.{Option, Some, Result, Ok, Err, Contains, get_or, i
 use Rattle.std.specs.Prelude.{length, map, option_map}
 use Rattle.std.specs.Prelude.{drop, refl}
 use Rattle.std.proofs.Common.{add-one, cond, ap, arith, sym, ◌∙◌}
-use Rattle.std.specs.FinMap as map_of
 use Rattle.std.specs.List.{find, list_any, position_from}
 use Rattle.std.specs.Str.{bytes_eq}
 use Rattle.std.proofs.lemmas.Iterator.Adapters.{position_from-zero}

@@ -29,4 +29,8 @@ mod SourceOfPartsLemmas
 mod CollectedPartLemmas
 mod FinishLemmas
 mod FolderLemmas
+mod ListsOfFilesLemmas
+mod FileAgainLemmas
+mod StateLemmas
 pub mod WithCertificate
+pub mod AskedOfFilesLemmas

@@ -12,6 +12,9 @@ pub mod FilesInput
 pub mod FilesReading
 pub mod ExcludedRouters
 pub mod SummariesOfFiles
+pub mod ListsOfFiles
+pub mod StatesOfFiles
+pub mod AskedOfFiles
 pub mod Meaning
 pub mod ReadAsMeant
 pub use Rattle.mc_text.specs.Bundle

@@ -17,6 +17,7 @@ ghost use Rattle.mc_input.specs.Stream.{read_after_topology, read_stream};
 use crate::bundle_part::certificate_in;
 use crate::fault::InputFault;
 use crate::fed_part::feed_part;
+use crate::list_keeper::NoLists;
 use crate::part_result::listed_pairs;
 use crate::piece_reader::PieceReader;
 use crate::slot_part::{check_names_to_end, open_slot};
@@ -163,7 +164,7 @@ pub(crate) fn read_bundle_contents<R: Input>(
         ≡ failures_after is_read result slots.old.parts.failed }
 {
     let mut listed = listed_pairs(alloc, topology)?;
-    let kept = read_contents(alloc, slots, buffer, topology, &mut listed)?;
+    let kept = read_contents(alloc, slots, buffer, topology, &mut listed, &mut NoLists)?;
     let certified = slots.certified;
     let certificate = read_certificate_and_end(
         alloc,

@@ -18,6 +18,8 @@ ghost use Rattle.mc_input.specs.ExcludedRouters.{input_of_files_without, input_o
 ghost use Rattle.mc_input.specs.ExcludedRouters.{is_possible_for_files_without, is_read_without, names_of};
 ghost use Rattle.mc_input.specs.Meaning.{FilesMeanDomain, MeansDomain};
 ghost use Rattle.mc_input.specs.ReadAsMeant.{AreFilesReadAsMeant, IsBundleReadAsMeant};
+ghost use Rattle.mc_input.specs.AskedOfFiles.{IsAskedOf};
+ghost use Rattle.mc_input.specs.ListsOfFiles.{AreWantsOf};
 ghost use Rattle.mc_input.specs.SummariesOfFiles.{AreSummariesOf};
 ghost use Rattle.mc_input.specs.PartsOneByOne.{ReadsDomain, IsFaultOf, read_all_parts};
 ghost use Rattle.mc_input.specs.SourceFault.{IsReadOrMemory, is_possible_for_files, is_read};
@@ -28,14 +30,17 @@ use crate::bundle_slots::{BundleSlots, read_bundle_contents};
 use crate::cache_keeper::SummaryKeeper;
 use crate::excluded::check_names;
 use crate::file_slots::{FileSlots, topology_in as topology_of_files};
+use crate::list_keeper::{NoLists, WantKeeper};
 use crate::part_result::summary_pairs;
 use crate::source_fault::SourceFault;
+use crate::unanswered::{UnansweredWants, read_unanswered};
 use crate::walk::read_contents;
 use crate::without_fault::WithoutFault;
+use mc_asked::{LanWants, WantAnswers};
 use mc_files::PieceSource;
-use mc_forward::Domain;
+use mc_forward::{Domain, source_group_pairs};
 use mc_tables::CacheSummary;
-use mc_text::{Input, Parts};
+use mc_text::{GroupRange, Input, Parts};
 use mc_topology::Topology;
 use std::alloc::Global;
 
@@ -148,24 +153,46 @@ pub fn read_bundle_domain<R: Input>(
     read_with_buffer(alloc, input, &mut buffer, certified)
 }
 
-/// A domain, and a summary of each router's cache.
+/// A domain, a summary of each router's cache, and what hosts ask for and no flow answers.
 #[derive(Drop)]
 pub struct FolderDomain {
     /// The domain.
     pub domain: Domain,
     /// The summary of each router's cache, in the order of the topology.
     pub summary: Vec<CacheSummary>,
+    /// What hosts ask for and no flow answers.
+    pub asked: UnansweredWants,
 }
 
-/// Reads the slots after the topology's, in pieces through the buffer, as the domain of this topology, and
-/// the summaries of the caches.
+/// What is made of a folder's files when each is read for the first time.
+#[derive(Drop)]
+struct FilesOnce {
+    /// The domain.
+    domain: Domain,
+    /// The summary of each router's cache, in the order of the topology.
+    summary: Vec<CacheSummary>,
+    /// What is kept of the wants of each LAN's list, in the order of the topology.
+    wants: Vec<LanWants>,
+}
+
+/// What a folder is read for.
+#[derive(Debug, Drop)]
+pub struct FolderOptions {
+    /// Whether all sources and groups that no flow has are kept, and all wants that nothing answers.
+    pub all: bool,
+    /// The ranges of groups whose wants are left aside.
+    pub ignored: Vec<GroupRange>,
+}
+
+/// Reads the slots after the topology's, in pieces through the buffer, as the domain of this topology, with
+/// the summaries of the caches and what is kept of the wants of the lists.
 fn read_rest_of_slots<F: PieceSource>(
     alloc: Global,
     slots: &mut FileSlots<'_, F>,
     buffer: &mut [u8],
     topology: Topology,
-    all: bool,
-) -> Result<FolderDomain, SourceFault>
+    options: FolderOptions,
+) -> Result<FilesOnce, SourceFault>
     requires room { 0 < length buffer.old }
     requires reads { F.failed slots.old.files < u64.MAX }
     ensures same { F.borrows slots.new.files ≡ F.borrows slots.old.files }
@@ -175,33 +202,88 @@ fn read_rest_of_slots<F: PieceSource>(
     ensures topology { IfOk result (λ read. read.domain.topology ≡ topology) }
     ensures rules { IfOk result (λ read. IsDomain read.domain) }
     ensures summary { (contents : List FileText) → F.contents slots.old.files ≡ Some contents →
-        IfOk result (λ read. AreSummariesOf all (files_without slots.old.without.now contents)
+        IfOk result (λ read. AreSummariesOf options.all (files_without slots.old.without.now contents)
         read.domain.topology read.summary.items) }
+    ensures wants { (contents : List FileText) → F.contents slots.old.files ≡ Some contents →
+        IfOk result (λ read. AreWantsOf options.all options.ignored.items
+        (files_without slots.old.without.now contents) read.domain.topology read.wants.items) }
+    ensures count { IfOk result (λ read. length read.wants.items ≡ length read.domain.topology.lans) }
     ensures faults { IfErr result (λ fault. is_possible_for_files fault ≡ true) }
     ensures failures { F.failed slots.new.files
         ≡ failures_after is_read result (F.failed slots.old.files) }
 {
+    let FolderOptions { all, ignored } = options;
     let mut keeper = SummaryKeeper {
         listed: summary_pairs(alloc, &topology)?,
         all,
         summary: Vec::new(alloc),
     };
-    let kept = read_contents(alloc, slots, buffer, &topology, &mut keeper)?;
+    let flows = source_group_pairs(alloc, &topology)?;
+    let answers = WantAnswers::of(alloc, &topology, flows, ignored)?;
+    let mut list_keeper = WantKeeper {
+        answers,
+        all,
+        wants: Vec::new(alloc),
+    };
+    let kept = read_contents(
+        alloc,
+        slots,
+        buffer,
+        &topology,
+        &mut keeper,
+        &mut list_keeper,
+    )?;
     let domain = Domain::from_wants(alloc, topology, kept.tables, kept.wants)?;
-    Ok(FolderDomain {
+    Ok(FilesOnce {
         domain,
         summary: keeper.summary,
+        wants: list_keeper.wants,
     })
 }
 
-/// Reads the files after the topology's as the domain of this topology with some routers excluded.
+/// Reads each file after the topology's for the first time, as the domain of this topology with some routers
+/// excluded.
+fn read_rest_once<F: PieceSource>(
+    alloc: Global,
+    files: &mut F,
+    buffer: &mut [u8],
+    topology: Topology,
+    without: &[&str],
+    options: FolderOptions,
+) -> Result<FilesOnce, SourceFault>
+    requires room { 0 < length buffer.old }
+    requires reads { F.failed files.old < u64.MAX }
+    ensures count { IfOk result (λ read. length read.wants.items ≡ length read.domain.topology.lans) }
+    ensures same { F.borrows files.new ≡ F.borrows files.old }
+    ensures kept { F.contents files.new ≡ F.contents files.old }
+    ensures domain { GivesKeptFromContents (F.contents files.old) (λ read. IsDomainOf read.domain) result
+        (input_of_other_files topology (names_of without.now)) }
+    ensures topology { IfOk result (λ read. read.domain.topology ≡ topology) }
+    ensures rules { IfOk result (λ read. IsDomain read.domain) }
+    ensures summary { (contents : List FileText) → F.contents files.old ≡ Some contents → IfOk result (λ read.
+        AreSummariesOf options.all (files_without without.now contents)
+        read.domain.topology read.summary.items) }
+    ensures wants { (contents : List FileText) → F.contents files.old ≡ Some contents → IfOk result (λ read.
+        AreWantsOf options.all options.ignored.items (files_without without.now contents)
+        read.domain.topology read.wants.items) }
+    ensures faults { IfErr result (λ fault. is_possible_for_files fault ≡ true) }
+    ensures failures { F.failed files.new ≡ failures_after is_read result (F.failed files.old) }
+{
+    let mut slots = FileSlots { files, without };
+    let read = read_rest_of_slots(alloc, &mut slots, buffer, topology, options);
+    let _files = slots.into_files();
+    read
+}
+
+/// Reads the files after the topology's as the domain of this topology with some routers excluded, and what
+/// hosts ask for and no flow answers.
 fn read_rest_with_buffer<F: PieceSource>(
     alloc: Global,
     files: &mut F,
     buffer: &mut [u8],
     topology: Topology,
     without: &[&str],
-    all: bool,
+    options: FolderOptions,
 ) -> Result<FolderDomain, SourceFault>
     requires room { 0 < length buffer.old }
     requires reads { F.failed files.old < u64.MAX }
@@ -212,14 +294,27 @@ fn read_rest_with_buffer<F: PieceSource>(
     ensures topology { IfOk result (λ read. read.domain.topology ≡ topology) }
     ensures rules { IfOk result (λ read. IsDomain read.domain) }
     ensures summary { (contents : List FileText) → F.contents files.old ≡ Some contents → IfOk result (λ read.
-        AreSummariesOf all (files_without without.now contents) read.domain.topology read.summary.items) }
+        AreSummariesOf options.all (files_without without.now contents)
+        read.domain.topology read.summary.items) }
+    ensures asked { (contents : List FileText) → F.contents files.old ≡ Some contents → IfOk result (λ read.
+        IsAskedOf options.all options.ignored.items (files_without without.now contents)
+        read.domain read.asked) }
     ensures faults { IfErr result (λ fault. is_possible_for_files fault ≡ true) }
     ensures failures { F.failed files.new ≡ failures_after is_read result (F.failed files.old) }
 {
-    let mut slots = FileSlots { files, without };
-    let read = read_rest_of_slots(alloc, &mut slots, buffer, topology, all);
-    let _files = slots.into_files();
-    read
+    let all = options.all;
+    let once = read_rest_once(alloc, files, buffer, topology, without, options)?;
+    let FilesOnce {
+        domain,
+        summary,
+        wants,
+    } = once;
+    let asked = read_unanswered(alloc, files, buffer, &domain, without, &wants, all)?;
+    Ok(FolderDomain {
+        domain,
+        summary,
+        asked,
+    })
 }
 
 /// Reads the domain that files mean with some routers excluded, and the summaries of the caches.
@@ -228,7 +323,7 @@ fn read_files_with_buffer<F: PieceSource>(
     files: &mut F,
     buffer: &mut [u8],
     without: &[&str],
-    all: bool,
+    options: FolderOptions,
 ) -> Result<FolderDomain, WithoutFault>
     requires room { 0 < length buffer.old }
     requires reads { F.failed files.old < u64.MAX }
@@ -239,7 +334,11 @@ fn read_files_with_buffer<F: PieceSource>(
     ensures routers { IfOk result (λ read. AreRouterNames read.domain.topology (names_of without.now)) }
     ensures rules { IfOk result (λ read. IsDomain read.domain) }
     ensures summary { (contents : List FileText) → F.contents files.old ≡ Some contents → IfOk result (λ read.
-        AreSummariesOf all (files_without without.now contents) read.domain.topology read.summary.items) }
+        AreSummariesOf options.all (files_without without.now contents)
+        read.domain.topology read.summary.items) }
+    ensures asked { (contents : List FileText) → F.contents files.old ≡ Some contents → IfOk result (λ read.
+        IsAskedOf options.all options.ignored.items (files_without without.now contents)
+        read.domain read.asked) }
     ensures fault { (contents : List FileText) → F.contents files.old ≡ Some contents → IfErr result (λ fault.
         ¬ IsReadOrMemoryWithout fault →
         input_of_files_without (names_of without.now) contents ≡ Err fault) }
@@ -248,7 +347,7 @@ fn read_files_with_buffer<F: PieceSource>(
 {
     let topology = topology_of_files(alloc, files)?;
     check_names(&topology, without)?;
-    Ok(read_rest_with_buffer(alloc, files, buffer, topology, without, all)?)
+    Ok(read_rest_with_buffer(alloc, files, buffer, topology, without, options)?)
 }
 
 /// Reads the domain that a folder's files mean with the routers of these names excluded: `topology`,
@@ -257,19 +356,21 @@ fn read_files_with_buffer<F: PieceSource>(
 /// Each file may have up to 16,777,216 bytes, and is parsed before the next one is opened. Tables and
 /// report lists are read in pieces. Of a cache the rows of listed flows are kept, with a summary of
 /// all its rows: of the sources and groups that no flow has, the summary holds all or the lowest
-/// ones. The source's count of failures has to be below `u64::MAX`.
+/// ones. So it is with the wants that no flow answers. Where there are any, the lists of their LANs and
+/// the caches are read once more: what the first reading leaves is too little to say who forwards them.
+/// The source's count of failures has to be below `u64::MAX`.
 ///
 /// # Errors
 ///
 /// The first fault in this order: of the topology's file, `NoSuchRouter` for the first name that no
-/// router has, and of the other files. A file's fault is `Read` where it isn't there or can't be
-/// read, `Input` with `TooLarge` where it has too many bytes, and else `Input` with its parser's
-/// fault. `Input` with `Memory` where memory ran out.
+/// router has, of the other files, and of those that are read once more, if they are others by then. A
+/// file's fault is `Read` where it isn't there or can't be read, `Input` with `TooLarge` where it has too
+/// many bytes, and else `Input` with its parser's fault. `Input` with `Memory` where memory ran out.
 pub fn read_folder_domain<F: PieceSource>(
     alloc: Global,
     files: &mut F,
     without: &[&str],
-    all: bool,
+    options: FolderOptions,
 ) -> Result<FolderDomain, WithoutFault>
     requires failures { F.failed files.old < u64.MAX }
     ensures same { F.borrows files.new ≡ F.borrows files.old }
@@ -286,7 +387,12 @@ pub fn read_folder_domain<F: PieceSource>(
         (λ read. read.domain) result }
     // Each router's summary is that of the rows in its file, or of no row if it is excluded.
     ensures summary { IfOk result (λ read. IfSome (F.contents files.old) (λ contents.
-        AreSummariesOf all (files_without without.now contents) read.domain.topology read.summary.items)) }
+        AreSummariesOf options.all (files_without without.now contents)
+        read.domain.topology read.summary.items)) }
+    // What hosts ask for and no flow answers is that of the lists and the caches in the files.
+    ensures asked { IfOk result (λ read. IfSome (F.contents files.old) (λ contents.
+        IsAskedOf options.all options.ignored.items (files_without without.now contents)
+        read.domain read.asked)) }
     // The fault is the one of the definition, unless the source fails or memory runs out.
     ensures fault { IfErr result (λ fault. IfSome (F.contents files.old) (λ contents.
         ¬ IsReadOrMemoryWithout fault →
@@ -297,5 +403,5 @@ pub fn read_folder_domain<F: PieceSource>(
     ensures failures { F.failed files.new ≡ failures_after is_read_without result (F.failed files.old) }
 {
     let mut buffer = Vec::from_elem(alloc, 0u8, PIECE)?;
-    read_files_with_buffer(alloc, files, &mut buffer, without, all)
+    read_files_with_buffer(alloc, files, &mut buffer, without, options)
 }

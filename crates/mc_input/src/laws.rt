@@ -6,7 +6,8 @@ ghost use Rattle.mc_tables.specs.Summary.{SummaryValue};
 ghost use Rattle.mc_topology.specs.Topology.{TopologyValue};
 ghost use Rattle.mc_files.specs.Files.{FileText};
 ghost use Rattle.mc_files.specs.Packing.{IsPacked};
-ghost use Rattle.mc_forward.specs.Domains.{DomainValue};
+ghost use Rattle.mc_forward.specs.Domains.{DomainValue, IsDomain};
+ghost use Rattle.mc_input.specs.AskedOfFiles.{IsAskedOf, UnansweredWantsValue};
 ghost use Rattle.mc_input.specs.FilesInput.{FilesDenoteInput};
 ghost use Rattle.mc_input.specs.Input.{InputValue, DenotesInput};
 ghost use Rattle.mc_input.specs.ExcludedRouters.{ExcludesRoutersPerFlow, HasExcludedName, HasNoVifOrRow};
@@ -35,6 +36,13 @@ pub fn files_denote_one_input()
 pub fn summaries_are_unique()
     ensures { (all : Bool) (files : List FileText) (t : TopologyValue) (a b : List SummaryValue) →
         AreSummariesOf all files t a → AreSummariesOf all files t b → a ≡ b }
+{}
+
+/// By the files of a folder that mean a domain there is one answer to what hosts ask for and no flow answers.
+pub fn asked_is_unique()
+    ensures { (all : Bool) (ignored : List (ℕ × ℕ)) (files : List FileText) (d : DomainValue)
+        (a b : UnansweredWantsValue) → IsDomain d → IsAskedOf all ignored files d a →
+        IsAskedOf all ignored files d b → a ≡ b }
 {}
 
 /// The bundle that is packed of files without a certificate denotes the input that the files denote.

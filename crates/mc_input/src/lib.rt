@@ -1,5 +1,6 @@
 //! Reads a domain from the parts of a bundle or from the files of a folder, each text by its reader, in
-//! the order in which faults are reported. From a folder it also reads a summary of each cache.
+//! the order in which faults are reported. From a folder it also reads a summary of each cache, and what
+//! hosts ask for that no flow answers.
 #![tactic(auto)]
 
 mod bundle_part;
@@ -11,20 +12,27 @@ mod excluded;
 mod fault;
 mod fed_file;
 mod fed_part;
+mod file_again;
 mod file_slots;
 pub mod laws;
+mod list_keeper;
 mod part_reader;
 mod part_result;
 mod piece_reader;
 mod slot_part;
 mod slots;
 mod source_fault;
+mod states;
+mod unanswered;
 mod walk;
 mod without_fault;
 
-pub use domain::{BundleDomain, FolderDomain, PIECE, read_bundle_domain, read_folder_domain};
+pub use domain::{
+    BundleDomain, FolderDomain, FolderOptions, PIECE, read_bundle_domain, read_folder_domain,
+};
 pub use each_file::{Refusal, RefusedFile, refused_files};
 pub use excluded::is_excluded;
 pub use fault::InputFault;
 pub use source_fault::SourceFault;
+pub use unanswered::UnansweredWants;
 pub use without_fault::WithoutFault;

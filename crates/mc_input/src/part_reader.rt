@@ -11,7 +11,10 @@ use crate::fault::InputFault;
 use crate::part_result::{cache_or_fault, reports_or_fault, vifs_or_fault};
 use crate::piece_reader::PieceReader;
 use mc_igmp::{ListReader, ReportList};
-use mc_tables::{CacheReader, CacheTable, SummarizedCache, SummaryReader, VifReader, VifTable};
+use mc_tables::{
+    CacheReader, CacheTable, EachRowReader, RowFold, SummarizedCache, SummaryReader, VifReader,
+    VifTable,
+};
 use mc_text::PartName;
 
 /// A reader of a part, which is fed it in pieces.
@@ -68,6 +71,20 @@ impl PartReader for SummaryReader {
     ghost part_result = { λ s part. map_fault (Cache part.name) (summary_if s part.bytes) };
 
     fn finished(self, name: PartName) -> Result<SummarizedCache, InputFault> {
+        cache_or_fault(name, self.finish())
+    }
+}
+
+impl<V: RowFold> PartReader for EachRowReader<V> {
+    ghost use Rattle.mc_text.specs.Steps.{map_fault};
+    ghost use Rattle.mc_tables.specs.EachRow.{each_row_if};
+    ghost use Rattle.mc_input.specs.declared.fault.InputFault.TheVariants.{Cache};
+
+    type Out = V;
+
+    ghost part_result = { λ s part. map_fault (Cache part.name) (each_row_if V.after s part.bytes) };
+
+    fn finished(self, name: PartName) -> Result<V, InputFault> {
         cache_or_fault(name, self.finish())
     }
 }

@@ -6,7 +6,9 @@ ghost use Rattle.mc_text.specs.Lines.{max_text};
 ghost use Rattle.mc_tables.specs.Steps.{out_of_memory};
 
 use mc_igmp::ListReader;
-use mc_tables::{CacheReader, SummaryReader, TableFault, TableFaultKind, VifReader};
+use mc_tables::{
+    CacheReader, EachRowReader, RowFold, SummaryReader, TableFault, TableFaultKind, VifReader,
+};
 use mc_text::Memory;
 
 /// A reader that is fed its text in pieces.
@@ -92,6 +94,22 @@ impl PieceReader for SummaryReader {
     ghost ReadResult = { Result SummarizedCache FaultOfTable };
 
     ghost result_after = { summary_if };
+
+    // after a fault none
+    ghost size = { λ s. if is_some s.fault then 0 else s.lines.size };
+
+    fn take(&mut self, piece: &[u8]) -> Result<(), Memory> {
+        memory_fault_only(self.feed(piece))
+    }
+}
+
+impl<V: RowFold> PieceReader for EachRowReader<V> {
+    ghost use Rattle.mc_tables.specs.EachRow.{each_row_if};
+    ghost use Rattle.mc_tables.specs.declared.fault.TableFault.{TableFault as FaultOfTable};
+
+    ghost ReadResult = { Result V FaultOfTable };
+
+    ghost result_after = { each_row_if V.after };
 
     // after a fault none
     ghost size = { λ s. if is_some s.fault then 0 else s.lines.size };

@@ -1,7 +1,7 @@
 //! One walk over the slots of a domain, whatever gives their parts.
 
 ghost use Rattle.std.specs.Prelude.{◌≡◌, ◌<◌, ◌≤◌, ◌+◌, ◌*◌, [], List, Some, Ok, Err, IfOk};
-ghost use Rattle.std.specs.Prelude.{IfErr, false, true, length, map, Result};
+ghost use Rattle.std.specs.Prelude.{IfErr, OnOk, false, true, length, map, Result};
 ghost use Rattle.mc_text.specs.Bundle.{PartText};
 ghost use Rattle.mc_text.specs.Device.{failures_after};
 ghost use Rattle.mc_igmp.specs.declared.record.Record.{Record};
@@ -21,13 +21,14 @@ ghost use Rattle.mc_input.specs.declared.source_fault.SourceFault.TheVariants.{I
 
 use crate::cache_keeper::CacheKeeper;
 use crate::fault::InputFault;
+use crate::list_keeper::ListKeeper;
 use crate::part_reader::PartReader;
 use crate::slots::Slots;
 use crate::source_fault::SourceFault;
 use mc_forward::{FlowChannels, Items, RouterTables, Tables};
 use mc_igmp::ListReader;
 use mc_tables::VifReader;
-use mc_topology::{RouterNo, Topology};
+use mc_topology::{LanNo, RouterNo, Topology};
 use std::alloc::Global;
 
 /// The value of a part, or what is answered for its fault. The next part is that of the slot with a
@@ -123,13 +124,16 @@ fn read_tables<S: Slots, K: CacheKeeper>(
     Ok(tables)
 }
 
-/// Reads which flows each LAN wants.
-fn read_wants<S: Slots>(
+/// Reads which flows each LAN wants, and keeps of the lists what the keeper does.
+fn read_wants<S: Slots, L: ListKeeper>(
     alloc: Global,
     slots: &mut S,
     buffer: &mut [u8],
     topology: &Topology,
+    keeper: &mut L,
 ) -> Result<Vec<Items<bool>>, SourceFault>
+    requires ready { L.is_ready keeper.old topology.now.flows }
+    requires none_kept { L.has_kept keeper.old [] }
     requires room { 0 < length buffer.old }
     requires failures { S.failed slots.old < u64.MAX }
     ensures wants { IfOk result (λ wants. (stream : Stream) →
@@ -137,8 +141,13 @@ fn read_wants<S: Slots>(
         (later : Stream) × (reports : List (List Record))
         × (S.gives slots.new topology.now (certificate_number topology.now) ≡ Some later)
         × AreWantedBy topology.now reports wants.items
+        × L.has_kept keeper.new reports
         × (read_stream (read_lans topology.now.lans) stream ≡ value_and_rest reports later)) }
     ensures answers { IfOk result (λ wants. AreAnswers topology.now wants.items) }
+    // Whatever the source gives, something of a list for each LAN is kept.
+    ensures lists { OnOk result ((lists : List (List Record)) × (length lists ≡ length topology.now.lans)
+        × L.has_kept keeper.new lists) }
+    ensures settings { L.settings keeper.new ≡ L.settings keeper.old }
     ensures fault { IfErr result
         (IsFaultOfStream (S.gives slots.old topology.now (first_lan_number topology.now))
         (read_lans topology.now.lans)) }
@@ -152,7 +161,9 @@ fn read_wants<S: Slots>(
     for lan in 0..topology.lans() {
         let reader = ListReader::new(alloc);
         let reports = read_slot(alloc, slots, buffer, topology, first + lan, reader)?;
-        wants.push(channels.wanted(alloc, &reports)?)?;
+        let wanted = channels.wanted(alloc, &reports)?;
+        keeper.keep_list(alloc, topology, LanNo(lan), &reports, wanted.as_slice())?;
+        wants.push(wanted)?;
     }
     Ok(wants)
 }
@@ -167,15 +178,18 @@ pub(crate) struct Contents {
 }
 
 /// Reads the tables of the routers and the reports of the LANs.
-pub(crate) fn read_contents<S: Slots, K: CacheKeeper>(
+pub(crate) fn read_contents<S: Slots, K: CacheKeeper, L: ListKeeper>(
     alloc: Global,
     slots: &mut S,
     buffer: &mut [u8],
     topology: &Topology,
     keeper: &mut K,
+    list_keeper: &mut L,
 ) -> Result<Contents, SourceFault>
     requires listed { AreFlowPairs topology.now.flows (K.settings keeper.old).0 }
     requires none_kept { K.has_kept keeper.old topology.now.flows [] }
+    requires ready { L.is_ready list_keeper.old topology.now.flows }
+    requires no_lists { L.has_kept list_keeper.old [] }
     requires room { 0 < length buffer.old }
     requires failures { S.failed slots.old < u64.MAX }
     ensures read { IfOk result (λ kept. (stream : Stream) →
@@ -183,11 +197,14 @@ pub(crate) fn read_contents<S: Slots, K: CacheKeeper>(
         (later : Stream) × (read : ContentsRead)
         × (S.gives slots.new topology.now (certificate_number topology.now) ≡ Some later)
         × AreContentsOf topology.now kept.tables kept.wants.items (input_of_contents topology.now read)
-        × K.has_kept keeper.new topology.now.flows read.0
+        × K.has_kept keeper.new topology.now.flows read.0 × L.has_kept list_keeper.new read.1
         × (read_stream (read_contents topology.now) stream ≡ value_and_rest read later)) }
     ensures counts { IfOk result (λ kept. AreTablesFor topology.now kept.tables) }
     ensures answers { IfOk result (λ kept. AreAnswers topology.now kept.wants.items) }
+    ensures lists { OnOk result ((lists : List (List Record)) × (length lists ≡ length topology.now.lans)
+        × L.has_kept list_keeper.new lists) }
     ensures settings { K.settings keeper.new ≡ K.settings keeper.old }
+    ensures list_settings { L.settings list_keeper.new ≡ L.settings list_keeper.old }
     ensures fault { IfErr result (IsFaultOfStream (S.gives slots.old topology.now 1)
         (read_contents topology.now)) }
     ensures faults { IfErr result (λ fault. S.is_possible fault ≡ true) }
@@ -195,6 +212,6 @@ pub(crate) fn read_contents<S: Slots, K: CacheKeeper>(
     ensures failures { S.failed slots.new ≡ failures_after is_read result (S.failed slots.old) }
 {
     let tables = read_tables(alloc, slots, buffer, topology, keeper)?;
-    let wants = read_wants(alloc, slots, buffer, topology)?;
+    let wants = read_wants(alloc, slots, buffer, topology, list_keeper)?;
     Ok(Contents { tables, wants })
 }

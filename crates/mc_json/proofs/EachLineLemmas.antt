@@ -1,5 +1,6 @@
 -- Each line except the verdict's is an object whose first key isn't the verdict's.
 use Rattle.std.proofs.Common.{◌==◌, ℕ, Bool, true, false, cond, List, [], ◌∷◌, flat_map, map, refl}
+use Rattle.std.specs.Prelude.{codes}
 use Rattle.mc_tables.specs.Summary.{SummaryValue}
 use Rattle.mc_topology.specs.Topology.{TopologyValue}
 use Rattle.mc_topology.specs.declared.flow.Flow.{Flow}
@@ -14,13 +15,16 @@ use Rattle.mc_explain.specs.UnlistedText.{further_rows, shown_unlisted_pairs}
 use Rattle.mc_explain.specs.declared.causes.explanation.Certainty.{Certainty}
 use Rattle.serde_json.specs.Data.{Data}
 use Rattle.json.specs.Print.{escape_byte}
+use Rattle.mc_asked.specs.ListWants.{Want}
+use Rattle.mc_json.specs.AskedData.{asked_more_data, asked_more_line, asked_object, asked_services_line}
+use Rattle.mc_json.specs.AskedData.{service_data}
 use Rattle.mc_json.specs.DomainData.{domain_data}
-use Rattle.mc_json.specs.EndData.{summary_data, unlisted_data, unlisted_line, unlisted_lines}
-use Rattle.mc_json.specs.EndData.{unlisted_more_data, unlisted_more_line, without_data, without_line}
+use Rattle.mc_json.specs.EndData.{routers_data, single_member, summary_data, unlisted_data, unlisted_line}
+use Rattle.mc_json.specs.EndData.{unlisted_lines, unlisted_more_data, unlisted_more_line, without_line}
 use Rattle.mc_json.specs.EndData.{without_line_of}
 use Rattle.mc_json.specs.FlowData.{WrongFlow, right_data, tree_data, wrong_data, wrong_line, wrong_flow_of}
 use Rattle.mc_json.specs.ObjectLines.{AreObjectLines}
-use Rattle.mc_json.specs.RowData.{line_of}
+use Rattle.mc_json.specs.RowData.{line_of, list_data}
 use Rattle.mc_json.proofs.ObjectLemmas.{are_object_lines-append, are_object_lines-flat_map}
 use Rattle.mc_json.proofs.ObjectLemmas.{are_object_lines-none, are_object_lines-one}
 
@@ -50,10 +54,10 @@ unfolding escape_byte
 are_object_lines-wrong_flow number f w = are_object_lines-one (wrong_data number f w) refl refl
 
 pub are_object_lines-wrong : (d : DomainFacts) (number : ℕ) (f : Flow) (certainty : Certainty) (found_ttl : ℕ)
-    (finding : Finding) (events : List Event) (also : List ℕ) (why : List Data) (events_asked : Bool)
-    → AreObjectLines (wrong_line d number f certainty found_ttl finding events also why events_asked)
-are_object_lines-wrong d number f certainty found_ttl finding events also why events_asked =
-    are_object_lines-wrong_flow number f (wrong_flow_of d number certainty found_ttl finding events also why
+    (finding : Finding) (events : List Event) (also : List ℕ) (behind : Data) (why : List Data) (events_asked : Bool)
+    → AreObjectLines (wrong_line d number f certainty found_ttl finding events also behind why events_asked)
+are_object_lines-wrong d number f certainty found_ttl finding events also behind why events_asked =
+    are_object_lines-wrong_flow number f (wrong_flow_of d number certainty found_ttl finding events also behind why
     events_asked)
 
 -- ---- after the flows
@@ -85,14 +89,38 @@ are_object_lines-without_line_of : (t : TopologyValue) (routers : List ℕ)
 unfolding escape_byte
 are_object_lines-without_line_of t [] = are_object_lines-none
 are_object_lines-without_line_of t (router ∷ routers) = are_object_lines-one
-    (without_data t (router ∷ routers)) refl refl
+    (single_member (codes "without") (routers_data t (router ∷ routers))) refl refl
 
 pub are_object_lines-without : (t : TopologyValue) (excluded : List Bool)
     → AreObjectLines (without_line t excluded)
 are_object_lines-without t excluded = are_object_lines-without_line_of t (excluded_routers t excluded)
 
-pub are_object_lines-summary : (right unknown unwanted wrong : ℕ)
-    → AreObjectLines (line_of (summary_data right unknown unwanted wrong))
+pub are_object_lines-summary : (asked right unknown unwanted wrong : ℕ)
+    → AreObjectLines (line_of (summary_data asked right unknown unwanted wrong))
 unfolding escape_byte
-are_object_lines-summary right unknown unwanted wrong =
-    are_object_lines-one (summary_data right unknown unwanted wrong) refl refl
+are_object_lines-summary asked right unknown unwanted wrong =
+    are_object_lines-one (summary_data asked right unknown unwanted wrong) refl refl
+
+-- ---- what hosts ask for
+
+pub are_object_lines-asked : (t : TopologyValue) (line : Want × List ℕ) (listed none_out forwards star : List ℕ)
+    → AreObjectLines (line_of (asked_object t line listed none_out forwards star))
+unfolding escape_byte
+are_object_lines-asked t line listed none_out forwards star =
+    are_object_lines-one (asked_object t line listed none_out forwards star) refl refl
+
+are_object_lines-asked_more_if : (more : ℕ) (none : Bool)
+    → AreObjectLines (cond none [] (line_of (asked_more_data more)))
+unfolding escape_byte
+are_object_lines-asked_more_if more true = are_object_lines-none
+are_object_lines-asked_more_if more false = are_object_lines-one (asked_more_data more) refl refl
+
+pub are_object_lines-asked_more : (more : ℕ) → AreObjectLines (asked_more_line more)
+are_object_lines-asked_more more = are_object_lines-asked_more_if more (more == 0)
+
+pub are_object_lines-asked_services : (t : TopologyValue) (lines : List (Want × List ℕ))
+    → AreObjectLines (asked_services_line t lines)
+unfolding escape_byte
+are_object_lines-asked_services t [] = are_object_lines-none
+are_object_lines-asked_services t (line ∷ lines) = are_object_lines-one
+    (single_member (codes "asked_services") (list_data (map (service_data t) (line ∷ lines)))) refl refl

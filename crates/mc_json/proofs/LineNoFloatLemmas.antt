@@ -1,5 +1,5 @@
 -- No value of why a flow isn't right has a fraction.
-use Rattle.std.proofs.Common.{◌≡◌, ℕ, false, List, [], ◌∷◌, ◌++◌, Option, Some, None, codes, flat_map, refl}
+use Rattle.std.proofs.Common.{◌≡◌, ℕ, false, List, [], ◌∷◌, Option, Some, None, codes, flat_map, map, refl}
 use Rattle.std.specs.Cmp.Lexicographic.{slice_cmp}
 use Rattle.std.specs.Ordering.{nat_cmp, match_ordering}
 use Rattle.std.specs.declared.cmp.Ordering.{Ordering}
@@ -21,12 +21,18 @@ use Rattle.mc_lines.specs.Lines.{FactValue, Line}
 use Rattle.mc_lines.specs.Lines.FactValue.{Lan, Router, Device, Interface, IncomingDevice, IncomingVif, Row}
 use Rattle.mc_lines.specs.Lines.FactValue.{EverySourceRow, Flag, Number, Routers}
 use Rattle.mc_lines.specs.SearchLines.{reach_items, reach_lines, search_items, shown_items, shown_line}
+use Rattle.mc_theory.specs.Nets.{Interface as NetInterface}
+use Rattle.mc_topology.specs.Topology.{TopologyValue}
+use Rattle.mc_explain.specs.declared.causes.behind.Behind.{Behind}
+use Rattle.mc_json.specs.BehindData.{behind_data, stray_data}
 use Rattle.mc_json.specs.FactData.{fact_data}
 use Rattle.mc_json.specs.LineData.{line_data, line_values, with_facts}
 use Rattle.mc_json.specs.WhyData.{causes_data, search_data_if_any, why_data}
 use Rattle.mc_json.proofs.NoFloatLemmas.{HaveNoFloat, no_float-append, no_float-device_data}
 use Rattle.mc_json.proofs.NoFloatLemmas.{no_float-every_source_row_data, no_float-incoming_device}
 use Rattle.mc_json.proofs.NoFloatLemmas.{no_float-incoming_vif, no_float-flow_row_data, no_float-routers}
+use Rattle.mc_json.proofs.NoFloatLemmas.{no_float-lans, no_float-map, no_float-optional_finding}
+use Rattle.mc_json.proofs.NoFloatLemmas.{no_float-shown_from}
 
 -- ---- members
 
@@ -110,3 +116,23 @@ no_float-why_data d summary flow causes search =
     no_float-append (causes_data d summary flow causes) (search_data_if_any d summary flow search)
     (no_float-flat_map (cause_items line_values c) (no_float-cause_items c) causes)
     (no_float-search_data_if_any d summary flow search)
+
+-- ---- what is behind a stray
+
+no_float-strays : (t : TopologyValue) (strays : List NetInterface) → HaveNoFloat (map (stray_data t) strays)
+no_float-strays t strays = no_float-map (stray_data t) (λ i. refl) strays
+
+pub no_float-behind_data : (d : DomainFacts) (summary : List SummaryValue) (flow : ℕ) (behind : Option Behind)
+    → has_float (behind_data d summary flow behind) ≡ false
+no_float-behind_data d summary flow None = refl
+no_float-behind_data d summary flow (Some b) =
+    let t = d.topology in
+    rw (
+      no_float-optional_finding t b.finding,
+      no_float-lans t b.missed.items,
+      no_float-routers t b.open_routers.items,
+      no_float-shown_from b.shown_from,
+      no_float-strays t b.strays.items,
+      no_float-flat_map (cause_items line_values (context_of d summary flow))
+          (no_float-cause_items (context_of d summary flow)) b.causes.items,
+    )

@@ -1,9 +1,8 @@
 -- No value of a line has a fraction.
-use Rattle.std.proofs.Common.{◌≡◌, ℕ, Bool, true, false, List, [], ◌∷◌, ◌++◌, Option, Some, None, map}
+use Rattle.std.proofs.Common.{◌≡◌, ℕ, Bool, true, false, List, [], ◌∷◌, ◌++◌, Option, Some, None, map, ◌==◌, cond}
 use Rattle.std.proofs.Common.{refl}
 use Rattle.std.proofs.lemmas.Bool.{or_parts}
 use Rattle.mc_tables.specs.CacheTable.{EntryValue}
-use Rattle.mc_tables.specs.Summary.{SummaryValue}
 use Rattle.mc_tables.specs.VifTable.{VifValue}
 use Rattle.mc_topology.specs.Topology.{TopologyValue, flow_at}
 use Rattle.mc_topology.specs.declared.flow.Flow.{Flow}
@@ -27,8 +26,12 @@ use Rattle.mc_json.specs.RowData.{incoming_device, incoming_vif}
 use Rattle.mc_json.specs.RowData.{count_data, lan_data, router_data}
 use Rattle.mc_json.specs.FlowData.{event_data, events_if_asked, finding_data, passed_vifs}
 use Rattle.mc_json.specs.FlowData.{interface_router, interface_vif, outcome_data, reached_data, right_data}
-use Rattle.mc_json.specs.EndData.{unlisted_data, without_data}
-use Rattle.mc_json.specs.FlowData.{shown_from_data, tree_data, wrong_data, wrong_flow_of, wrong_mark}
+use Rattle.mc_json.specs.EndData.{unlisted_data}
+use Rattle.serde_json.specs.Data.{null}
+use Rattle.mc_json.specs.AskedData.{address_data, asked_data_of, service_data, source_data}
+use Rattle.mc_asked.specs.ListWants.{Want}
+use Rattle.mc_explain.specs.declared.asked.asked_text.AskedLine.{AskedLine}
+use Rattle.mc_json.specs.FlowData.{optional_finding_data, shown_from_data, tree_data, wrong_data, wrong_flow_of, wrong_mark}
 use Rattle.mc_json.specs.TreeKey.{taking_interface}
 use Rattle.mc_explain.specs.declared.causes.explanation.Certainty.{Certainty}
 
@@ -153,38 +156,50 @@ no_float-wrong_mark : (known : Bool) → has_float (wrong_mark known) ≡ false
 no_float-wrong_mark true = refl
 no_float-wrong_mark false = refl
 
-no_float-shown_from : (shown_from : Option ℕ) → has_float (shown_from_data shown_from) ≡ false
+pub no_float-shown_from : (shown_from : Option ℕ) → has_float (shown_from_data shown_from) ≡ false
 no_float-shown_from None = refl
 no_float-shown_from (Some ttl) = refl
 
-no_float-wrong_data : (number : ℕ) (f : Flow) (certainty : Certainty) (also : List Data) (events : Option (List Data))
-    (finding : Data) (found_ttl : ℕ) (wanted why : List Data) → HaveNoFloat also → EventsHaveNoFloat events
-    → has_float finding ≡ false → HaveNoFloat wanted → HaveNoFloat why
+pub no_float-optional_finding : (t : TopologyValue) (found : Option Finding) → has_float (optional_finding_data t found) ≡ false
+no_float-optional_finding t None = refl
+no_float-optional_finding t (Some finding) = no_float-finding_data t finding
+
+no_float-wrong_data : (number : ℕ) (f : Flow) (certainty : Certainty) (also : List Data) (at_flow_ttl behind : Data)
+    (events : Option (List Data)) (finding : Data) (found_ttl : ℕ) (wanted why : List Data)
+    → HaveNoFloat also → has_float at_flow_ttl ≡ false → has_float behind ≡ false → EventsHaveNoFloat events → has_float finding ≡ false → HaveNoFloat wanted → HaveNoFloat why
     → has_float (wrong_data number f (record {
       certainty = certainty;
       also = also;
+      at_flow_ttl = at_flow_ttl;
+      behind = behind;
       events = events;
       finding = finding;
       found_ttl = found_ttl;
       wanted = wanted;
       why = why;
     })) ≡ false
-no_float-wrong_data number f certainty also None finding found_ttl wanted why plain causes found lans because =
+no_float-wrong_data number f certainty also below past None finding found_ttl wanted why plain own further causes found lans
+    because =
     rw (
       plain,
+      own,
+      further,
       found,
       no_float-wrong_mark certainty.known,
-      no_float-shown_from certainty.shown_from,
+      no_float-shown_from certainty.shown_by.from,
       lans,
       because,
     )
-no_float-wrong_data number f certainty also (Some es) finding found_ttl wanted why plain causes found lans because =
+no_float-wrong_data number f certainty also below past (Some es) finding found_ttl wanted why plain own further causes found lans
+    because =
     rw (
       plain,
+      own,
+      further,
       causes,
       found,
       no_float-wrong_mark certainty.known,
-      no_float-shown_from certainty.shown_from,
+      no_float-shown_from certainty.shown_by.from,
       lans,
       because,
     )
@@ -195,14 +210,15 @@ no_float-events_if_asked t n true es = no_float-events t n es
 no_float-events_if_asked t n false es = tt
 
 pub no_float-wrong_flow_of : (d : DomainFacts) (flow : ℕ) (f : Flow) (certainty : Certainty) (found_ttl : ℕ)
-    (finding : Finding) (events : List Event) (also : List ℕ) (why : List Data) (events_asked : Bool)
-    → HaveNoFloat why → has_float (wrong_data flow f
-    (wrong_flow_of d flow certainty found_ttl finding events also why events_asked)) ≡ false
-no_float-wrong_flow_of d flow f certainty found_ttl finding events also why events_asked because =
+    (finding : Finding) (events : List Event) (also : List ℕ) (behind : Data) (why : List Data) (events_asked : Bool)
+    → has_float behind ≡ false → HaveNoFloat why → has_float (wrong_data flow f
+    (wrong_flow_of d flow certainty found_ttl finding events also behind why events_asked)) ≡ false
+no_float-wrong_flow_of d flow f certainty found_ttl finding events also behind why events_asked further because =
     let t = d.topology in
     no_float-wrong_data flow f certainty (map (lan_data t) also)
-    (events_if_asked t (d.nets flow) events_asked events)
+    (optional_finding_data t certainty.shown_by.at_flow_ttl) behind (events_if_asked t (d.nets flow) events_asked events)
     (finding_data t finding) found_ttl (map (lan_data t) (lans_wanting d flow)) why (no_float-lans t also)
+    (no_float-optional_finding t certainty.shown_by.at_flow_ttl) further
     (no_float-events_if_asked t (d.nets flow) events_asked events) (no_float-finding_data t finding)
     (no_float-lans t (lans_wanting d flow)) because
 
@@ -215,6 +231,30 @@ pub no_float-unlisted_data : (t : TopologyValue) (source group : ℕ) (routers :
     → has_float (unlisted_data t source group routers) ≡ false
 no_float-unlisted_data t source group routers = rw (no_float-routers t routers)
 
-pub no_float-without_data : (t : TopologyValue) (routers : List ℕ) → has_float (without_data t routers)
-    ≡ false
-no_float-without_data t routers = rw (no_float-routers t routers)
+-- ---- wants that no flow answers
+
+no_float-addresses : (addresses : List ℕ) → HaveNoFloat (map address_data addresses)
+no_float-addresses addresses = no_float-map address_data (λ address. refl) addresses
+
+no_float-source_data : (source : ℕ) → has_float (source_data source) ≡ false
+no_float-source_data source = elim (source == 0) as (λ b.
+    has_float (cond b null (address_data source)) ≡ false) [
+      | true ↦ refl
+      | false ↦ refl
+    ]
+
+pub no_float-asked_data : (t : TopologyValue) (line : AskedLine) → has_float (asked_data_of t line) ≡ false
+no_float-asked_data t line = rw (
+  no_float-lans t line.lans.now,
+  no_float-addresses line.listed.now,
+  no_float-routers t line.routers.now.none_out.items,
+  no_float-routers t line.routers.now.forwards.items,
+  no_float-source_data line.want.now.1,
+  no_float-routers t line.routers.now.every_source.items,
+)
+
+no_float-service_data : (t : TopologyValue) (line : Want × List ℕ) → has_float (service_data t line) ≡ false
+no_float-service_data t line = rw (no_float-lans t line.1)
+
+pub no_float-services : (t : TopologyValue) (lines : List (Want × List ℕ)) → HaveNoFloat (map (service_data t) lines)
+no_float-services t lines = no_float-map (service_data t) (no_float-service_data t) lines

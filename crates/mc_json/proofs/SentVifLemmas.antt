@@ -6,7 +6,6 @@ use Rattle.std.proofs.lemmas.Grind.{flat_map-append}
 use Rattle.std.proofs.lemmas.List.{map-append, take_more}
 use Rattle.mc_tables.specs.declared.cache.entry.Oif.{Oif}
 use Rattle.mc_theory.specs.Events.{astray_count, event_of, onto_lan_count, outcome_by_row, outcome_of_sending}
-use Rattle.mc_theory.specs.Events.{Outcome}
 use Rattle.mc_theory.specs.Events.Outcome.{OtherVif, Sent}
 use Rattle.mc_theory.specs.Flights.{Waiting}
 use Rattle.mc_theory.specs.Nets.{Net, Row}

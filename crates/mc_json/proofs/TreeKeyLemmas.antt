@@ -1,10 +1,10 @@
 -- Trees with one key have one line.
 use Rattle.std.proofs.Common.{◌≡◌, ℕ, List, [], ◌∷◌, ◌++◌, length, map, codes, refl, sym, ap, ap₂, ◌∙◌}
-use Rattle.std.proofs.Common.{arith, length-append, Option}
+use Rattle.std.proofs.Common.{arith, length-append}
 use Rattle.std.proofs.lemmas.List.{length-map}
 use Rattle.mc_topology.specs.Topology.{TopologyValue}
 use Rattle.mc_theory.specs.Certificates.{Entry}
-use Rattle.mc_theory.specs.Nets.{Interface, Net}
+use Rattle.mc_theory.specs.Nets.{Net}
 use Rattle.serde_json.specs.Data.{Data}
 use Rattle.mc_json.specs.FlowData.{reached_data, tree_data}
 use Rattle.mc_json.specs.RowData.{count_data, list_data, object_data}

@@ -18,6 +18,11 @@ routers_data t routers = list_data (map (router_data t) routers)
 abbrev pub single_member : (key : List ℕ) → Data → Data
 single_member key d = object_data ((key, d) ∷ [])
 
+-- the line of an object of one list, nothing if that is empty
+abbrev pub list_line : (key : List ℕ) → List Data → List ℕ
+list_line key [] = []
+list_line key (d ∷ ds) = line_of (single_member key (list_data (d ∷ ds)))
+
 -- an unlisted source and group, and the routers that have a row of them
 abbrev pub unlisted_data : TopologyValue → (source group : ℕ) → List ℕ → Data
 unlisted_data t source group routers = single_member (codes "unlisted") (object_data (
@@ -43,24 +48,20 @@ unlisted_lines all t summary =
     flat_map (unlisted_line t) (map (with_routers t summary) (shown_unlisted_pairs all summary))
     ++ unlisted_more_line (further_rows all t summary)
 
--- the excluded routers
-abbrev pub without_data : TopologyValue → List ℕ → Data
-without_data t routers = single_member (codes "without") (routers_data t routers)
-
--- as a line, nothing if there are none
+-- the excluded routers as a line, nothing if there are none
 abbrev pub without_line_of : TopologyValue → List ℕ → List ℕ
-without_line_of t [] = []
-without_line_of t (router ∷ routers) = line_of (without_data t (router ∷ routers))
+without_line_of t routers = list_line (codes "without") (map (router_data t) routers)
 
 -- by a mark for each router
 abbrev pub without_line : TopologyValue → (excluded : List Bool) → List ℕ
 without_line t excluded = without_line_of t (excluded_routers t excluded)
 
 -- how many flows there are, how many are right, of how many that isn't known, how many without a finding no
--- LAN wants, and how many aren't right
-abbrev pub summary_data : (right unknown unwanted wrong : ℕ) → Data
-summary_data right unknown unwanted wrong = single_member (codes "summary") (object_data (
-    (codes "flows", count_data (right + wrong + unknown))
+-- LAN wants, and how many aren't right; and how many wants of LANs no flow answers
+abbrev pub summary_data : (asked right unknown unwanted wrong : ℕ) → Data
+summary_data asked right unknown unwanted wrong = single_member (codes "summary") (object_data (
+    (codes "asked", count_data asked)
+    ∷ (codes "flows", count_data (right + wrong + unknown))
     ∷ (codes "right", count_data right)
     ∷ (codes "unknown", count_data unknown)
     ∷ (codes "unwanted", count_data unwanted)

@@ -1,6 +1,4 @@
 -- The facts of a line as JSON values, with the names of the topology and of the vif tables.
-use Rattle.std.specs.Prelude.{ℕ}
-use Rattle.mc_explain.specs.RowText.{device_name_text}
 use Rattle.serde_json.specs.Data.{Data, boolean, string}
 use Rattle.mc_lines.specs.FactText.{interface_text}
 use Rattle.mc_lines.specs.FlowContext.{FlowContext, flow_of, row_of}

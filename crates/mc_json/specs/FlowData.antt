@@ -152,6 +152,11 @@ abbrev pub shown_from_data : Option ℕ → Data
 shown_from_data None = null
 shown_from_data (Some ttl) = count_data ttl
 
+-- a finding, null where there is none
+abbrev pub optional_finding_data : TopologyValue → Option Finding → Data
+optional_finding_data t None = null
+optional_finding_data t (Some finding) = finding_data t finding
+
 -- the members that each flow has that has a finding, by the TTL of that and the LANs that want the flow
 abbrev pub each_wrong_members : (number : ℕ) → Flow → Certainty → (found_ttl : ℕ) → (wanted why : List Data)
     → List (List ℕ × Data)
@@ -160,17 +165,20 @@ each_wrong_members number f certainty found_ttl wanted why =
     ∷ (codes "found_ttl", count_data found_ttl)
     ∷ (codes "group", string (dotted f.group))
     ∷ (codes "right", wrong_mark certainty.known)
-    ∷ (codes "shown_from", shown_from_data certainty.shown_from)
+    ∷ (codes "shown_from", shown_from_data certainty.shown_by.from)
     ∷ (codes "source", string (dotted f.source))
     ∷ (codes "ttl", count_data f.ttl)
     ∷ (codes "wanted", list_data wanted)
     ∷ (codes "why", list_data why) ∷ []
 
--- A flow with a finding: how certain that is, the finding and its TTL, the LANs that want the flow, those of
--- them that were also missed, the travel's events if they are asked for, and the causes.
+-- A flow with a finding: how certain that is, the finding and its TTL, what a packet with the flow's own TTL
+-- meets, what is behind a stray, the LANs that want the flow, those of them that were also missed, the travel's
+-- events if they are asked for, and the causes.
 pub record WrongFlow : Type 0 where
   pub certainty : Certainty
   pub also : List Data
+  pub at_flow_ttl : Data
+  pub behind : Data
   pub events : Option (List Data)
   pub finding : Data
   pub found_ttl : ℕ
@@ -184,6 +192,8 @@ events_member (Some events) = (codes "events", list_data events) ∷ []
 abbrev pub wrong_members : (number : ℕ) → Flow → WrongFlow → List (List ℕ × Data)
 wrong_members number f w =
     (codes "also", list_data w.also)
+    ∷ (codes "at_ttl", w.at_flow_ttl)
+    ∷ (codes "behind", w.behind)
     ∷ (events_member w.events
     ++ ((codes "finding", w.finding) ∷ each_wrong_members number f w.certainty w.found_ttl w.wanted w.why))
 
@@ -196,10 +206,12 @@ events_if_asked t n events_asked es = if events_asked then Some (map (event_data
 
 -- the flow with this number, by a travel's finding, its events and the LANs that it also missed
 abbrev pub wrong_flow_of : DomainFacts → (flow : ℕ) → Certainty → (found_ttl : ℕ) → Finding → List Event
-    → (also : List ℕ) → (why : List Data) → (events_asked : Bool) → WrongFlow
-wrong_flow_of d flow certainty found_ttl finding events also why events_asked = record {
+    → (also : List ℕ) → (behind : Data) → (why : List Data) → (events_asked : Bool) → WrongFlow
+wrong_flow_of d flow certainty found_ttl finding events also behind why events_asked = record {
   certainty = certainty;
   also = map (lan_data d.topology) also;
+  at_flow_ttl = optional_finding_data d.topology certainty.shown_by.at_flow_ttl;
+  behind = behind;
   events = events_if_asked d.topology (d.nets flow) events_asked events;
   finding = finding_data d.topology finding;
   found_ttl = found_ttl;
@@ -209,6 +221,6 @@ wrong_flow_of d flow certainty found_ttl finding events also why events_asked = 
 
 -- and its line
 abbrev pub wrong_line : DomainFacts → (flow : ℕ) → Flow → Certainty → (found_ttl : ℕ) → Finding → List Event
-    → (also : List ℕ) → (why : List Data) → (events_asked : Bool) → List ℕ
-wrong_line d flow f certainty found_ttl finding events also why events_asked = line_of (wrong_data flow f
-    (wrong_flow_of d flow certainty found_ttl finding events also why events_asked))
+    → (also : List ℕ) → (behind : Data) → (why : List Data) → (events_asked : Bool) → List ℕ
+wrong_line d flow f certainty found_ttl finding events also behind why events_asked = line_of (wrong_data flow f
+    (wrong_flow_of d flow certainty found_ttl finding events also behind why events_asked))

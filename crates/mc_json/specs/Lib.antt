@@ -4,7 +4,9 @@ pub mod LineData
 pub mod TreeKey
 pub mod FlowData
 pub mod EndData
+pub mod AskedData
 pub mod WhyData
+pub mod BehindData
 pub mod DomainData
 pub mod ObjectLines
 pub mod WrongLine

@@ -7,6 +7,7 @@ use Rattle.mc_forward.specs.ListedTables.{facts}
 use Rattle.mc_replay.specs.declared.travel.Travel.{Travel}
 use Rattle.mc_explain.specs.declared.causes.explanation.Explanation.{Explanation}
 use Rattle.mc_json.specs.FlowData.{wrong_line}
+use Rattle.mc_json.specs.BehindData.{behind_data}
 use Rattle.mc_json.specs.WhyData.{why_data}
 
 -- the flow with this number, by the travel that shows its fault, and what explains that
@@ -14,4 +15,5 @@ abbrev pub explained_line : DomainValue → List SummaryValue → (flow : ℕ) �
     → Explanation → (events_asked : Bool) → List ℕ
 explained_line d summary flow travel found_ttl x events_asked =
     wrong_line (facts d) flow (flow_at d.topology flow) x.certainty found_ttl travel.finding
-    travel.events.items x.also.now (why_data (facts d) summary flow x.causes.now x.search.now) events_asked
+    travel.events.items x.also.now (behind_data (facts d) summary flow x.behind.now)
+    (why_data (facts d) summary flow x.causes.now x.search.now) events_asked

@@ -4,12 +4,11 @@ ghost use Rattle.std.specs.Prelude.{◌≡◌, ◌++◌, IfOk, OnOk, flat_map};
 ghost use Rattle.std.specs.String.{string_bytes};
 ghost use Rattle.serde_json.specs.View.{view as data_of};
 ghost use Rattle.mc_json.specs.EndData.{summary_data, unlisted_data, unlisted_line, unlisted_lines};
-ghost use Rattle.mc_json.specs.EndData.{unlisted_more_line, verdict_data, verdict_word, without_data};
-ghost use Rattle.mc_json.specs.EndData.{without_line_of};
+ghost use Rattle.mc_json.specs.EndData.{unlisted_more_line, verdict_data, verdict_word, without_line_of};
 ghost use Rattle.mc_json.specs.RowData.{line_of};
 
 use crate::fields::Fields;
-use crate::line::push_line;
+use crate::line::{push_line, push_list_line};
 use crate::name_values::router_names;
 use mc_explain::{UnlistedPair, UnlistedPairs};
 use mc_tables::CacheSummary;
@@ -100,19 +99,6 @@ pub fn push_unlisted_lines(
     Ok(())
 }
 
-/// The excluded routers.
-fn without_value(
-    alloc: Global,
-    topology: &Topology,
-    routers: &[RouterNo],
-) -> Result<Value, AllocError>
-    ensures { IfOk result (λ value. data_of value ≡ without_data topology.now routers.now) }
-{
-    Fields::new(alloc)
-        .list("without", router_names(alloc, topology, routers))
-        .object()
-}
-
 /// Writes the line of the excluded routers, or nothing if there are none.
 ///
 /// # Errors
@@ -127,26 +113,26 @@ pub fn push_without_line(
     ensures { OnOk result (string_bytes text.new ≡
         string_bytes text.old ++ without_line_of topology.now routers.now) }
 {
-    if routers.is_empty() {
-        return Ok(());
-    }
-    let value = without_value(alloc, topology, routers)?;
-    push_line(alloc, text, &value)?;
+    let names = router_names(alloc, topology, routers)?;
+    push_list_line(alloc, text, "without", names)?;
     Ok(())
 }
 
-/// How many flows there are, and how many are right, unknown, unwanted and wrong.
+/// How many flows there are, how many are right, unknown, unwanted and wrong, and how many wants of LANs no
+/// flow answers.
 fn summary_value(
     alloc: Global,
+    asked: u64,
     right: u32,
     unknown: u32,
     unwanted: u32,
     wrong: u32,
 ) -> Result<Value, AllocError>
-    ensures { IfOk result (λ value. data_of value ≡ summary_data right unknown unwanted wrong) }
+    ensures { IfOk result (λ value. data_of value ≡ summary_data asked right unknown unwanted wrong) }
 {
     let flows = right as u64 + wrong as u64 + unknown as u64;
     let inner = Fields::new(alloc)
+        .count("asked", asked)
         .count("flows", flows)
         .count("right", right as u64)
         .count("unknown", unknown as u64)
@@ -157,7 +143,7 @@ fn summary_value(
 }
 
 /// Writes the line that counts the flows: how many are right, of how many that isn't known, how many
-/// without a finding no LAN wants, and how many aren't right.
+/// without a finding no LAN wants, and how many aren't right; and how many wants of LANs no flow answers.
 ///
 /// # Errors
 ///
@@ -165,15 +151,16 @@ fn summary_value(
 pub fn push_summary_line(
     alloc: Global,
     text: &mut String,
+    asked: u64,
     right: u32,
     unknown: u32,
     unwanted: u32,
     wrong: u32,
 ) -> Result<(), Memory>
     ensures line { OnOk result (string_bytes text.new ≡ string_bytes text.old
-        ++ line_of (summary_data right unknown unwanted wrong)) }
+        ++ line_of (summary_data asked right unknown unwanted wrong)) }
 {
-    let value = summary_value(alloc, right, unknown, unwanted, wrong)?;
+    let value = summary_value(alloc, asked, right, unknown, unwanted, wrong)?;
     push_line(alloc, text, &value)?;
     Ok(())
 }

@@ -7,7 +7,8 @@ ghost use Rattle.mc_forward.specs.Domains.{oif_pairs};
 ghost use Rattle.mc_forward.specs.FlightsInDomain.{net_in};
 ghost use Rattle.mc_replay.specs.declared.finding.Finding.TheVariants.{Stray};
 ghost use Rattle.mc_json.specs.FlowData.{event_data, event_with_copies_data, event_without_copies_data};
-ghost use Rattle.mc_json.specs.FlowData.{finding_at_lan, finding_data, passed_vif, sent_vifs};
+ghost use Rattle.mc_json.specs.FlowData.{finding_at_lan, finding_data, optional_finding_data, passed_vif};
+ghost use Rattle.mc_json.specs.FlowData.{sent_vifs};
 ghost use Rattle.mc_json.specs.RowData.{count_data, object_data};
 
 use crate::fields::Fields;
@@ -182,5 +183,19 @@ pub(crate) fn finding_value(
         Finding::Loop(lan) => finding_at_lan(alloc, topology, "Loop", lan),
         Finding::Stray(router, vif) => stray_finding(alloc, topology, router, vif),
         Finding::Missed(lan) => finding_at_lan(alloc, topology, "Missed", lan),
+    }
+}
+
+/// A finding, null where there is none.
+pub(crate) fn optional_finding_value(
+    alloc: Global,
+    topology: &Topology,
+    found: Option<Finding>,
+) -> Result<Value, AllocError>
+    ensures { IfOk result (λ value. data_of value ≡ optional_finding_data topology.now found) }
+{
+    match found {
+        Some(finding) => finding_value(alloc, topology, finding),
+        None => Ok(Value::Null),
     }
 }

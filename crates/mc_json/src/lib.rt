@@ -1,6 +1,8 @@
 //! The report of an audit as JSON, one object a line.
 #![tactic(auto)]
 
+mod asked_lines;
+mod behind_value;
 mod device_value;
 mod domain_line;
 mod end_lines;
@@ -17,6 +19,7 @@ mod row_value;
 mod tree_keys;
 mod wrong_line;
 
+pub use asked_lines::{push_asked_line, push_asked_more_line, push_asked_services_line};
 pub use domain_line::push_domain_line;
 pub use end_lines::{push_summary_line, push_unlisted_lines, push_verdict_line, push_without_line};
 pub use right_line::{push_right_line, push_tree_line};

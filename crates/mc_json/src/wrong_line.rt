@@ -14,9 +14,10 @@ ghost use Rattle.mc_json.specs.FlowData.{wrong_mark};
 ghost use Rattle.mc_json.specs.RowData.{lan_data, members};
 ghost use Rattle.mc_json.specs.WrongLine.{explained_line};
 
+use crate::behind_value::behind_value;
 use crate::fields::Fields;
 use crate::flow_fields::flow_fields;
-use crate::found_value::{event_values, finding_value};
+use crate::found_value::{event_values, finding_value, optional_finding_value};
 use crate::line::push_line;
 use crate::line_values::LineValues;
 use crate::name_values::lan_names;
@@ -43,7 +44,7 @@ fn with_wrong_mark(fields: Fields, known: bool) -> Fields
 }
 
 /// Adds the TTL from which on packets show a finding, null where none is said.
-fn with_shown_from(fields: Fields, shown_from: Option<u8>) -> Fields
+pub(crate) fn with_shown_from(fields: Fields, shown_from: Option<u8>) -> Fields
     ensures { (ms : Members) → HasMembers fields ms
         → HasMembers result (with_member (codes "shown_from") (shown_from_data shown_from) ms) }
 {
@@ -59,17 +60,17 @@ fn wrong_fields(
     alloc: Global,
     number: u32,
     flow: &Flow,
-    certainty: Certainty,
+    certainty: &Certainty,
     found_ttl: u8,
     wanted: Vec<Value>,
     why: Vec<Value>,
 ) -> Fields
-    ensures { HasMembers result (members (each_wrong_members number flow.now certainty found_ttl
+    ensures { HasMembers result (members (each_wrong_members number flow.now certainty.now found_ttl
         (map data_of wanted.items) (map data_of why.items))) }
 {
     let fields = flow_fields(alloc, number, flow).count("found_ttl", found_ttl as u64);
     let fields = with_wrong_mark(fields, certainty.known);
-    with_shown_from(fields, certainty.shown_from)
+    with_shown_from(fields, certainty.shown_by.from)
         .list("wanted", Ok(wanted))
         .list("why", Ok(why))
 }
@@ -89,20 +90,22 @@ fn wrong_value(
     view: &FlowView<'_>,
     number: u32,
     travel: &Travel,
-    certainty: Certainty,
+    certainty: &Certainty,
     found_ttl: u8,
     also: &[LanNo],
     events_asked: bool,
+    behind: Value,
     why: Vec<Value>,
 ) -> Result<Value, AllocError>
     requires number { number ≡ view.now.flow }
     ensures value { IfOk result (λ value. data_of value
         ≡ wrong_data number (flow_at view.now.domain.topology number) (wrong_flow_of (facts view.now.domain)
-        number certainty found_ttl travel.now.finding travel.now.events.items also.now
+        number certainty.now found_ttl travel.now.finding travel.now.events.items also.now (data_of behind)
         (map data_of why.items) events_asked)) }
 {
     let topology = view.topology();
     let wanted = wanted_values(alloc, view)?;
+    let at_flow_ttl = optional_finding_value(alloc, topology, certainty.shown_by.at_flow_ttl);
     let fields = wrong_fields(
         alloc,
         number,
@@ -113,6 +116,8 @@ fn wrong_value(
         why,
     )
     .list("also", lan_names(alloc, topology, also))
+    .value("at_ttl", at_flow_ttl)
+    .value("behind", Ok(behind))
     .value("finding", finding_value(alloc, topology, travel.finding));
     if !events_asked {
         return fields.object();
@@ -166,16 +171,18 @@ pub fn push_wrong_line(
         view: &view,
         summary,
     };
+    let behind = behind_value(alloc, &context, explanation.behind)?;
     let why = why_values(alloc, &context, explanation)?;
     let value = wrong_value(
         alloc,
         &view,
         flow,
         travel,
-        explanation.certainty,
+        &explanation.certainty,
         found_ttl,
         explanation.also,
         events_asked,
+        behind,
         why,
     )?;
     push_line(alloc, text, &value)?;

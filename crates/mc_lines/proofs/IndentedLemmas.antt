@@ -16,9 +16,11 @@ use Rattle.mc_explain.proofs.IndentedLemmas.{is_line_rest-append, is_line_rest-a
 use Rattle.mc_explain.proofs.IndentedLemmas.{is_line_rest-feed}
 use Rattle.mc_explain.proofs.LineFeedLemmas.{number}
 use Rattle.mc_lines.specs.CauseLines.{cause_items, cause_lines}
-use Rattle.mc_lines.specs.ExplanationText.{causes_text, context_of, first_lines_text, more_lines_text}
+use Rattle.mc_lines.specs.ExplanationText.{causes_text, context_of, deeper_causes_text, first_lines_text}
+use Rattle.mc_lines.specs.ExplanationText.{more_lines_text}
 use Rattle.mc_lines.specs.ExplanationText.{search_text}
-use Rattle.mc_lines.specs.Filled.{has_well_formed_sentences, indented_sentence, is_well_formed, line_text}
+use Rattle.mc_lines.specs.Filled.{deeper_line_text, deeper_sentence, has_well_formed_sentences}
+use Rattle.mc_lines.specs.Filled.{indented_sentence, is_well_formed, line_text}
 use Rattle.mc_lines.specs.Filled.{sentence_text}
 use Rattle.mc_lines.specs.FlowContext.{FlowContext}
 use Rattle.mc_lines.specs.Lines.{FactValue, Line}
@@ -60,6 +62,35 @@ are_indented-causes_text d summary flow causes ok =
     let c = context_of d summary flow in
     are_indented-flat_map (cause_items line_text c) causes
     (λ cause. are_indented-lines c (cause_lines c cause) ok (well_formed-cause_lines c cause))
+
+-- the same after four spaces
+
+are_indented-deeper_sentences : (c : FlowContext) (facts : List (List ℕ × FactValue)) (ss : List (List ℕ))
+    → IsValidTopology c.domain.topology → list_all (is_well_formed facts) ss ≡ true
+    → AreIndented (flat_map (deeper_sentence c facts) ss)
+are_indented-deeper_sentences c facts [] ok well = are_indented-none
+are_indented-deeper_sentences c facts (s ∷ ss) ok well =
+    let parts = and_parts (is_well_formed facts s) (list_all (is_well_formed facts) ss) well in
+    are_indented-append (deeper_sentence c facts s) (flat_map (deeper_sentence c facts) ss)
+    (are_indented-from_line_rest _ (is_line_rest-append_front (codes "  ") _ refl
+    (is_line_rest-append (sentence_text c facts s) _ (no_feed-filled c facts s ok parts.0) is_line_rest-feed)))
+    (are_indented-deeper_sentences c facts ss ok parts.1)
+
+are_indented-deeper_lines : (c : FlowContext) (ls : List Line) → IsValidTopology c.domain.topology
+    → list_all has_well_formed_sentences ls ≡ true → AreIndented (flat_map (deeper_line_text c) ls)
+are_indented-deeper_lines c [] ok well = are_indented-none
+are_indented-deeper_lines c (l ∷ ls) ok well =
+    let parts = and_parts (has_well_formed_sentences l) (list_all has_well_formed_sentences ls) well in
+    are_indented-append (deeper_line_text c l) (flat_map (deeper_line_text c) ls)
+    (are_indented-deeper_sentences c l.facts l.sentences ok parts.0)
+    (are_indented-deeper_lines c ls ok parts.1)
+
+pub are_indented-deeper_causes_text : (d : DomainFacts) (summary : List SummaryValue) (flow : ℕ)
+    (causes : List Cause) → IsValidTopology d.topology → AreIndented (deeper_causes_text d summary flow causes)
+are_indented-deeper_causes_text d summary flow causes ok =
+    let c = context_of d summary flow in
+    are_indented-flat_map (cause_items deeper_line_text c) causes
+    (λ cause. are_indented-deeper_lines c (cause_lines c cause) ok (well_formed-cause_lines c cause))
 
 -- ---- a search
 

@@ -10,7 +10,7 @@ use Rattle.mc_explain.specs.declared.searches.shown_line.ShownLine.{ShownLine}
 use Rattle.mc_explain.specs.Indented.{AreIndented}
 use Rattle.mc_explain.specs.ShownLines.{shown_lines}
 use Rattle.mc_lines.specs.CauseLines.{causes_items}
-use Rattle.mc_lines.specs.Filled.{line_text}
+use Rattle.mc_lines.specs.Filled.{deeper_line_text, line_text}
 use Rattle.mc_lines.specs.FlowContext.{FlowContext}
 use Rattle.mc_lines.specs.SearchLines.{reach_items, shown_items}
 
@@ -22,6 +22,10 @@ context_of d summary flow = record { domain = d; summary = summary; flow = flow 
 
 abbrev pub causes_text : DomainFacts → List SummaryValue → (flow : ℕ) → List Cause → List ℕ
 causes_text d summary flow causes = causes_items line_text (context_of d summary flow) causes
+
+-- the same, after four spaces
+abbrev pub deeper_causes_text : DomainFacts → List SummaryValue → (flow : ℕ) → List Cause → List ℕ
+deeper_causes_text d summary flow causes = causes_items deeper_line_text (context_of d summary flow) causes
 
 -- ---- a search
 

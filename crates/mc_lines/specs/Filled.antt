@@ -38,6 +38,13 @@ indented_sentence c facts sentence = codes "  " ++ (sentence_text c facts senten
 abbrev pub line_text : FlowContext → Line → List ℕ
 line_text c l = flat_map (indented_sentence c l.facts) l.sentences
 
+-- the same behind a line that is indented itself: after four spaces
+abbrev pub deeper_sentence : FlowContext → List (List ℕ × FactValue) → (sentence : List ℕ) → List ℕ
+deeper_sentence c facts sentence = codes "  " ++ indented_sentence c facts sentence
+
+abbrev pub deeper_line_text : FlowContext → Line → List ℕ
+deeper_line_text c l = flat_map (deeper_sentence c l.facts) l.sentences
+
 -- ---- a line as one text, without the spaces
 
 abbrev pub sentence_after_feed : FlowContext → List (List ℕ × FactValue) → (sentence : List ℕ) → List ℕ

@@ -4,13 +4,16 @@ ghost use Rattle.std.specs.Prelude.{◌≡◌, ◌<◌, ◌++◌, IfOk, OnOk, So
 ghost use Rattle.std.specs.String.{string_bytes};
 ghost use Rattle.mc_forward.specs.ListedTables.{facts};
 ghost use Rattle.mc_explain.specs.ShownLines.{shown_lines};
-ghost use Rattle.mc_lines.specs.ExplanationText.{causes_text, first_lines_text, lan_search_text};
-ghost use Rattle.mc_lines.specs.ExplanationText.{more_lines_text};
+ghost use Rattle.mc_lines.specs.CauseLines.{causes_items};
+ghost use Rattle.mc_lines.specs.ExplanationText.{causes_text, context_of, deeper_causes_text};
+ghost use Rattle.mc_lines.specs.ExplanationText.{first_lines_text, lan_search_text, more_lines_text};
 ghost use Rattle.mc_lines.specs.Filled.{line_text};
 ghost use Rattle.mc_lines.specs.FlowContext.{flow_context};
 ghost use Rattle.mc_lines.specs.SearchLines.{shown_items};
 
 use crate::context::LineContext;
+use crate::deeper_text::DeeperText;
+use crate::line_sink::LineSink;
 use crate::sentences::cause_lines::add_causes;
 use crate::sentences::reach_lines::add_reach;
 use crate::sentences::search_lines::add_shown_line;
@@ -43,6 +46,26 @@ impl fmt::Display for ShownMoreLines {
     }
 }
 
+/// Adds the lines of the causes of a flow's fault.
+fn add_causes_of_flow<S: LineSink>(
+    sink: &mut S,
+    domain: &Domain,
+    summary: &[CacheSummary],
+    flow: u32,
+    causes: &[Cause],
+) -> Result<(), Memory>
+    requires { flow < length domain.now.topology.flows }
+    ensures { OnOk result (S.items sink.new ≡ S.items sink.old
+        ++ causes_items S.items_of (context_of (facts domain.now) summary.now flow) causes.now) }
+{
+    let view = FlowView::new(domain, flow);
+    let context = LineContext {
+        view: &view,
+        summary,
+    };
+    add_causes(sink, &context, causes)
+}
+
 /// Writes the causes of a flow's fault, with the names of the topology and of the vif tables: two lines
 /// for a `TakeOut`, an `Unplaced` and an `OnlyEverySource` cause, one for each other. `flow` counts from 0,
 /// and `summary` has the summary of each router's cache, in the topology's order.
@@ -61,12 +84,33 @@ pub fn push_causes(
     ensures lines { OnOk result (string_bytes text.new ≡ string_bytes text.old
         ++ causes_text (facts domain.now) summary.now flow causes.now) }
 {
-    let view = FlowView::new(domain, flow);
-    let context = LineContext {
-        view: &view,
-        summary,
+    add_causes_of_flow(text, domain, summary, flow, causes)
+}
+
+/// Writes the causes of a fault as [`push_causes`] does, but after four spaces: behind a line that is indented
+/// itself.
+///
+/// # Errors
+///
+/// `Memory` if an allocation fails.
+pub fn push_deeper_causes(
+    alloc: Global,
+    text: &mut String,
+    domain: &Domain,
+    summary: &[CacheSummary],
+    flow: u32,
+    causes: &[Cause],
+) -> Result<(), Memory>
+    requires flow { flow < length domain.now.topology.flows }
+    ensures lines { OnOk result (string_bytes text.new ≡ string_bytes text.old
+        ++ deeper_causes_text (facts domain.now) summary.now flow causes.now) }
+{
+    let mut deeper = DeeperText {
+        text: String::new(alloc),
     };
-    add_causes(text, &context, causes)
+    add_causes_of_flow(&mut deeper, domain, summary, flow, causes)?;
+    text.push_str(&deeper.text)?;
+    Ok(())
 }
 
 /// Writes the first 40 lines of a search, and returns how many lines there are.

@@ -11,7 +11,7 @@ ghost use Rattle.mc_explain.specs.declared.searches.shown_line.ShownLine.{ShownL
 ghost use Rattle.mc_explain.specs.Indented.{AreIndented, indented};
 ghost use Rattle.mc_explain.specs.RowText.{device_text, flow_row_text};
 ghost use Rattle.mc_lines.specs.CauseLines.{cause_items, cause_lines};
-ghost use Rattle.mc_lines.specs.ExplanationText.{IsEachSearchIndented, causes_text};
+ghost use Rattle.mc_lines.specs.ExplanationText.{IsEachSearchIndented, causes_text, deeper_causes_text};
 ghost use Rattle.mc_lines.specs.Filled.{has_well_formed_sentences, joined_sentences, line_text};
 ghost use Rattle.mc_lines.specs.FlowContext.{FlowContext};
 ghost use Rattle.mc_lines.specs.Lines.{FactValue, Line, line};
@@ -22,6 +22,8 @@ ghost use Rattle.mc_lines.specs.SearchLines.{reach_lines, shown_line};
 pub fn explained_lines_begin_with_two_spaces()
     ensures causes { (d : DomainFacts) (summary : List SummaryValue) (flow : ℕ) (causes : List Cause) →
         IsValidTopology d.topology → AreIndented (causes_text d summary flow causes) }
+    ensures deeper { (d : DomainFacts) (summary : List SummaryValue) (flow : ℕ) (causes : List Cause) →
+        IsValidTopology d.topology → AreIndented (deeper_causes_text d summary flow causes) }
     ensures search { (d : DomainFacts) → IsValidTopology d.topology → IsEachSearchIndented d }
     // So does each line of any kind whose sentences are well formed.
     ensures each { (c : FlowContext) (l : Line) → IsValidTopology c.domain.topology →

@@ -3,6 +3,7 @@
 #![tactic(auto)]
 
 mod context;
+mod deeper_text;
 mod explanation_text;
 mod facts;
 pub mod laws;
@@ -11,7 +12,7 @@ mod sentences;
 mod text_sink;
 
 pub use context::LineContext;
-pub use explanation_text::{push_causes, push_search};
+pub use explanation_text::{push_causes, push_deeper_causes, push_search};
 pub use facts::Fact;
 pub use line_sink::LineSink;
 pub use sentences::{add_causes, add_search};

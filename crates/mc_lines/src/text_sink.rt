@@ -15,7 +15,7 @@ use mc_text::Memory;
 use std::alloc::AllocError;
 
 /// Writes a sentence as a line.
-fn push_indented(
+pub(crate) fn push_indented(
     text: &mut String,
     context: &LineContext<'_>,
     facts: &[(&str, Fact<'_>)],

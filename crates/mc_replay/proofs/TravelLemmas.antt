@@ -83,7 +83,7 @@ first_copies_recorded-none firsts lans cs count none = record {
   once = refl;
 }
 
-double-none_without_finding : (n : Net) (count : ℕ) (f : Flight) → finding n count f ≡ None
+pub double-none_without_finding : (n : Net) (count : ℕ) (f : Flight) → finding n count f ≡ None
     → first_double [] f.carried ≡ None
 double-none_without_finding n count f h = by (first_double [] f.carried) h
   where
@@ -91,12 +91,12 @@ double-none_without_finding n count f h = by (first_double [] f.carried) h
     by None e = refl
     by (Some c) e = absurd cc
 
--- after all copies of a flight without a finding, and one handling
-pub first_copies_recorded-more : (n : Net) (lans k i : ℕ) (firsts : List (Option Copy)) (f g : Flight)
+-- after all copies of a flight in which no LAN carried two, and one handling
+pub first_copies_recorded-next : (n : Net) (lans k i : ℕ) (firsts : List (Option Copy)) (f g : Flight)
     → length firsts ≡ lans → HoldsFirstOfEachKey (λ (c : Copy). c.lan) firsts f.carried
-    → finding n lans f ≡ None
+    → first_double [] f.carried ≡ None
     → k ≡ length f.carried → g ≡ step n i f → FirstCopiesRecorded firsts lans k g.carried
-first_copies_recorded-more n lans k i firsts f g count filled none seen next =
+first_copies_recorded-next n lans k i firsts f g count filled once seen next =
     let more = extends_carried-step n i f in
     let now : g.carried ≡ f.carried ++ more.0 = ap (λ (h : Flight). h.carried) next ∙ more.1 in
     let front : take k g.carried ≡ f.carried = ap (λ (m : ℕ). take m g.carried) seen
@@ -105,8 +105,17 @@ first_copies_recorded-more n lans k i firsts f g count filled none seen next =
       count = count;
       seen = omega (arith, seen, ap length now, length-append f.carried more.0);
       filled = subst (HoldsFirstOfEachKey (λ (c : Copy). c.lan) firsts) (sym front) filled;
-      once = ap (first_double []) front ∙ double-none_without_finding n lans f none;
+      once = ap (first_double []) front ∙ once;
     }
+
+-- and of one without a finding
+pub first_copies_recorded-more : (n : Net) (lans k i : ℕ) (firsts : List (Option Copy)) (f g : Flight)
+    → length firsts ≡ lans → HoldsFirstOfEachKey (λ (c : Copy). c.lan) firsts f.carried
+    → finding n lans f ≡ None
+    → k ≡ length f.carried → g ≡ step n i f → FirstCopiesRecorded firsts lans k g.carried
+first_copies_recorded-more n lans k i firsts f g count filled none seen next =
+    first_copies_recorded-next n lans k i firsts f g count filled (double-none_without_finding n lans f none) seen
+    next
 
 -- ---- the travel so far
 

@@ -1,6 +1,7 @@
 pub mod FindingValues
 pub mod Travels
 pub mod TravelText
+pub mod PastStrays
 pub use Rattle.mc_theory.specs.Nets
 pub use Rattle.mc_theory.specs.Flights
 pub use Rattle.mc_theory.specs.Events

@@ -16,7 +16,7 @@ use mc_topology::LanNo;
 /// Whether the walk back from a copy to the source visits the copy's own LAN. Each step goes to the
 /// first copy on the LAN that the sender took its copy from. The walk reaches the source's copy in
 /// fewer steps than there are copies.
-fn walk_back_reaches_own_lan(
+pub(crate) fn walk_back_reaches_own_lan(
     view: &FlowView<'_>,
     copies: &[CarriedCopy],
     firsts: &PerLan<CarriedCopy>,

@@ -5,12 +5,14 @@
 mod finding;
 mod first_copies;
 mod flight_finding;
+mod past_strays;
 mod picker;
 mod shown;
 mod travel;
 
 pub use finding::Finding;
 pub use first_copies::sender_on;
+pub use past_strays::{FlightPastStrays, run_past_strays};
 pub use picker::{First, Last, Numbers, Picker};
 pub use shown::{ShownEvent, ShownFinding, shown_event};
 pub use travel::{FinishedTravel, Travel, replay, replay_to_end};

@@ -1,7 +1,7 @@
 -- The lines after those of the flows, part by part.
-use Rattle.std.proofs.Common.{◌≡◌, ℕ, Bool, List, ◌++◌, length, Result, Ok, Err}
+use Rattle.std.proofs.Common.{◌≡◌, ℕ, Bool, true, false, List, ◌++◌, length, Result, Ok, Err}
 use Rattle.std.proofs.Common.{ap, ◌∙◌, append_assoc}
-use Rattle.std.specs.Prelude.{OnOk, flat_map}
+use Rattle.std.specs.Prelude.{OnOk, flat_map, not}
 use Rattle.mc_tables.specs.Summary.{SummaryValue}
 use Rattle.mc_topology.specs.Topology.{TopologyValue}
 use Rattle.mc_explain.specs.ExcludedText.{excluded_routers, excluded_text, verdict_reason}
@@ -9,6 +9,8 @@ use Rattle.mc_explain.specs.ExcludedText.{excluded_line, excluded_lines}
 use Rattle.mc_explain.specs.UnlistedText.{unlisted_text}
 use Rattle.mc_json.specs.EndData.{summary_data, unlisted_lines, without_line, without_line_of}
 use Rattle.mc_json.specs.RowData.{line_of}
+use Rattle.mc_input.specs.AskedOfFiles.{UnansweredWantsValue}
+use Rattle.mc_run.specs.AuditAsked.{asked_lines}
 use Rattle.mc_run.specs.AuditEnd.{end_objects, end_text, strict_lines, summary_line}
 use Rattle.mc_cli.specs.declared.audit_options.AuditOptions.{AuditOptions}
 
@@ -22,41 +24,63 @@ append-two_parts (Ok x) old a b c one two new first second third =
 
 -- as text, by the domain's topology and the excluded routers
 pub end_text-parts : {A X : Type 0} (o : AuditOptions) (t u : TopologyValue) (summary : List SummaryValue)
-    (marks : List Bool) (routers again : List ℕ) (all : Bool) (flows right wrong unknown unwanted : ℕ)
-    (r : Result A X) (old one two three four new : List ℕ) → t ≡ u → flows ≡ length t.flows
-    → routers ≡ excluded_routers t marks → again ≡ excluded_routers t marks
-    → one ≡ old ++ unlisted_text o.unlisted t summary → two ≡ one ++ flat_map (excluded_line t) routers
-    → three ≡ two ++ summary_line flows right wrong unknown unwanted → four ≡ three ++ verdict_reason t again
-    → OnOk r (new ≡ four ++ strict_lines o.strict all unwanted)
-    → OnOk r (new ≡ old ++ end_text o u summary marks all (length u.flows) right wrong unknown unwanted)
-end_text-parts o t u summary marks routers again all flows right wrong unknown unwanted (Err e) old one two three four
-    new same size are are_again first second third fourth last = tt
-end_text-parts {A = A} {X = X} o t u summary marks routers again all flows right wrong unknown unwanted (Ok x) old one
-    two three four new same size are are_again first second third fourth last =
-    let strict = strict_lines o.strict all unwanted in
+    (asked : UnansweredWantsValue) (marks : List Bool) (routers again : List ℕ) (whole all : Bool)
+    (flows right wrong unknown unwanted wants : ℕ) (r : Result A X) (old one two three four five new : List ℕ)
+    → t ≡ u → flows ≡ length t.flows → routers ≡ excluded_routers t marks → again ≡ excluded_routers t marks
+    → wants ≡ asked.count → one ≡ old ++ unlisted_text o.unlisted t summary
+    → two ≡ one ++ asked_lines false u (not whole) asked → three ≡ two ++ flat_map (excluded_line t) routers
+    → four ≡ three ++ summary_line flows right wrong unknown unwanted wants
+    → five ≡ four ++ verdict_reason t again
+    → OnOk r (new ≡ five ++ strict_lines o.strict all unwanted wants)
+    → OnOk r (new ≡ old ++ end_text o u summary asked marks whole all (length u.flows) right wrong unknown
+    unwanted)
+end_text-parts o t u summary asked marks routers again whole all flows right wrong unknown unwanted wants (Err e)
+    old one two three four five new same size are are_again counted first second third fourth fifth last = tt
+end_text-parts {A = A} {X = X} o t u summary asked marks routers again whole all flows right wrong unknown
+    unwanted wants (Ok x) old one two three four five new same size are are_again counted first second third
+    fourth fifth last =
+    let lines = asked_lines false u (not whole) asked in
+    let behind = λ (s : TopologyValue) (n w : ℕ). excluded_lines s marks
+    ++ (summary_line n right wrong unknown unwanted w
+    ++ (excluded_text s marks ++ strict_lines o.strict all unwanted w)) in
     let end : Result A X = Ok x in
-    append-two_parts end old (unlisted_text o.unlisted t summary) (excluded_lines t marks)
-    (summary_line flows right wrong unknown unwanted ++ (excluded_text t marks ++ strict)) one two new first
-    (second ∙ ap (λ (rs : List ℕ). one ++ flat_map (excluded_line t) rs) are)
-    (append-two_parts end two (summary_line flows right wrong unknown unwanted) (excluded_text t marks) strict
-    three four new third (fourth ∙ ap (λ (rs : List ℕ). three ++ verdict_reason t rs) are_again) last)
-    ∙ ap (λ (n : ℕ). old ++ end_text o t summary marks all n right wrong unknown unwanted) size
-    ∙ ap (λ (s : TopologyValue). old ++ end_text o s summary marks all (length s.flows) right wrong
-    unknown unwanted) same
+    let rest : new ≡ two ++ behind t flows wants =
+    append-two_parts end two (excluded_lines t marks) (summary_line flows right wrong unknown unwanted wants)
+    (excluded_text t marks ++ strict_lines o.strict all unwanted wants) three four new
+    (third ∙ ap (λ (rs : List ℕ). two ++ flat_map (excluded_line t) rs) are) fourth
+    (last ∙ ap (λ (xs : List ℕ). xs ++ strict_lines o.strict all unwanted wants)
+    (fifth ∙ ap (λ (rs : List ℕ). four ++ verdict_reason t rs) are_again)
+    ∙ append_assoc four (excluded_text t marks) (strict_lines o.strict all unwanted wants)) in
+    append-two_parts end old (unlisted_text o.unlisted t summary) lines (behind t flows wants) one two new first
+    second rest
+    ∙ ap (λ (w : ℕ). old ++ (unlisted_text o.unlisted t summary ++ (lines ++ behind t flows w))) counted
+    ∙ ap (λ (n : ℕ). old ++ (unlisted_text o.unlisted t summary ++ (lines ++ behind t n asked.count))) size
+    ∙ ap (λ (s : TopologyValue). old ++ (unlisted_text o.unlisted s summary
+    ++ (lines ++ behind s (length s.flows) asked.count))) same
 
 -- in JSON
 pub end_objects-parts : {A X : Type 0} (o : AuditOptions) (t u : TopologyValue) (summary : List SummaryValue)
-    (marks : List Bool) (routers : List ℕ) (right wrong unknown unwanted : ℕ) (r : Result A X)
-    (old one two new : List ℕ) → t ≡ u → routers ≡ excluded_routers t marks
-    → one ≡ old ++ unlisted_lines o.unlisted t summary → two ≡ one ++ without_line_of t routers
-    → OnOk r (new ≡ two ++ line_of (summary_data right unknown unwanted wrong))
-    → OnOk r (new ≡ old ++ end_objects o u summary marks right wrong unknown unwanted)
-end_objects-parts o t u summary marks routers right wrong unknown unwanted (Err e) old one two new same are first
-    second last = tt
-end_objects-parts {A = A} {X = X} o t u summary marks routers right wrong unknown unwanted (Ok x) old one two new
-    same are first second last =
-    (let end : Result A X = Ok x in
-    append-two_parts end old (unlisted_lines o.unlisted t summary) (without_line t marks)
-    (line_of (summary_data right unknown unwanted wrong)) one two new first
-    (second ∙ ap (λ (rs : List ℕ). one ++ without_line_of t rs) are) last)
-    ∙ ap (λ (s : TopologyValue). old ++ end_objects o s summary marks right wrong unknown unwanted) same
+    (asked : UnansweredWantsValue) (marks : List Bool) (whole : Bool) (routers : List ℕ)
+    (right wrong unknown unwanted wants : ℕ) (r : Result A X) (old one two three new : List ℕ) → t ≡ u
+    → routers ≡ excluded_routers t marks → wants ≡ asked.count
+    → one ≡ old ++ unlisted_lines o.unlisted t summary → two ≡ one ++ asked_lines true u (not whole) asked
+    → three ≡ two ++ without_line_of t routers
+    → OnOk r (new ≡ three ++ line_of (summary_data wants right unknown unwanted wrong))
+    → OnOk r (new ≡ old ++ end_objects o u summary asked marks whole right wrong unknown unwanted)
+end_objects-parts o t u summary asked marks whole routers right wrong unknown unwanted wants (Err e) old one two
+    three new same are counted first second third last = tt
+end_objects-parts {A = A} {X = X} o t u summary asked marks whole routers right wrong unknown unwanted wants
+    (Ok x) old one two three new same are counted first second third last =
+    let lines = asked_lines true u (not whole) asked in
+    let behind = λ (s : TopologyValue) (w : ℕ). without_line s marks
+    ++ line_of (summary_data w right unknown unwanted wrong) in
+    let end : Result A X = Ok x in
+    let rest : new ≡ two ++ behind t wants =
+    last ∙ ap (λ (xs : List ℕ). xs ++ line_of (summary_data wants right unknown unwanted wrong))
+    (third ∙ ap (λ (rs : List ℕ). two ++ without_line_of t rs) are)
+    ∙ append_assoc two (without_line t marks) (line_of (summary_data wants right unknown unwanted wrong)) in
+    append-two_parts end old (unlisted_lines o.unlisted t summary) lines (behind t wants) one two new first
+    second rest
+    ∙ ap (λ (w : ℕ). old ++ (unlisted_lines o.unlisted t summary ++ (lines ++ behind t w))) counted
+    ∙ ap (λ (s : TopologyValue). old ++ (unlisted_lines o.unlisted s summary
+    ++ (lines ++ behind s asked.count))) same

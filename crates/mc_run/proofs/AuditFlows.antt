@@ -34,6 +34,8 @@ use Rattle.mc_replay.specs.declared.travel.Travel.{Travel}
 use Rattle.mc_explain.specs.WantedText.{lans_wanting}
 use Rattle.mc_explain.specs.declared.searches.searching.LanSearch.{LanSearch}
 use Rattle.mc_explain.specs.declared.causes.Cause.{Cause}
+use Rattle.mc_explain.specs.declared.causes.behind.Behind.{Behind}
+use Rattle.mc_explain.specs.declared.causes.explanation.ShownBy.{ShownBy}
 use Rattle.mc_json.specs.TreeKey.{tree_key}
 use Rattle.mc_run.specs.AuditEnd.{FlowAnswer, are_right, count, is_right, is_unknown, is_unwanted, is_wrong}
 use Rattle.mc_run.specs.AuditEnd.{one_if_true, says_right, says_wrong, with_status}
@@ -41,6 +43,7 @@ use Rattle.mc_run.specs.AuditPieces.{AreFlowsPushed, IsFlowPushed, explanation_i
 use Rattle.mc_run.specs.AuditExplanation.{IsExplanation, is_known_wrong, without_remedies}
 use Rattle.mc_run.specs.AuditRun.{IsFlowAnswer, AuditedValue, is_whole, excluded, trees_shown}
 use Rattle.mc_run.specs.AuditText.{Explanation}
+use Rattle.mc_run.proofs.ExplanationLemmas.{unsaid}
 use Rattle.mc_run.specs.AuditFlowText.{is_hidden, known_right, right_flow_lines, status_of, status_of_right}
 use Rattle.mc_run.specs.AuditFlowText.{status_of_wrong}
 use Rattle.mc_run.specs.AuditFlowText.{shown_trees_with, with_shown_tree, wrong_flow_lines}
@@ -83,7 +86,8 @@ explanation-none = record {
   printed = [];
   search = None;
   also = [];
-  certainty = record { known = true; shown_from = None };
+  behind = None;
+  certainty = record { known = true; shown_by = unsaid };
 }
 
 is_explanation-certified : (whole : Bool) → [] ≡ without_remedies whole []
@@ -144,8 +148,9 @@ is_flow_pushed-right v o flow (Ok s) x entries seen printed new_printed old new 
               printed = record { all = []; explained = refl; shown = is_explanation-certified (is_whole v) };
               search = refl;
               also = refl;
+              behind = refl;
               known = is_known_wrong-no_search (is_whole v);
-              shown = refl;
+              shown = record { from = refl; below = refl };
             });
         right = refl;
         wanted = refl;
@@ -202,15 +207,16 @@ is_flow_pushed-wrong v o flow x ttl travel e old new lt has_flights is so explai
 
 -- lines that were written for causes in one form are written for them in the other
 pub wrong_flow_lines-same_causes : (v : AuditedValue) (o : AuditOptions) (flow ttl : ℕ)
-    (ended : FinishedTravel) (seen printed : List Cause) (found : Option LanSearch) (shown_from : Option ℕ)
+    (ended : FinishedTravel) (seen printed : List Cause) (found : Option LanSearch)
+    (behind : Option Behind) (shown_by : ShownBy)
     (old new : List ℕ) → seen ≡ printed
     → new ≡ old ++ wrong_flow_lines o (facts v.domain) v.summary flow ttl ended.travel
-    (explanation_in (is_whole v) ended seen found shown_from)
+    (explanation_in (is_whole v) ended seen found behind shown_by)
     → new ≡ old ++ wrong_flow_lines o (facts v.domain) v.summary flow ttl ended.travel
-    (explanation_in (is_whole v) ended printed found shown_from)
-wrong_flow_lines-same_causes v o flow ttl ended seen printed found shown_from old new same puts =
+    (explanation_in (is_whole v) ended printed found behind shown_by)
+wrong_flow_lines-same_causes v o flow ttl ended seen printed found behind shown_by old new same puts =
     puts ∙ ap (λ (ts : List Cause). old ++ wrong_flow_lines o (facts v.domain) v.summary flow ttl
-    ended.travel (explanation_in (is_whole v) ended ts found shown_from)) same
+    ended.travel (explanation_in (is_whole v) ended ts found behind shown_by)) same
 
 -- with the status that was returned
 pub is_flow_pushed-status : {X : Type 0} (v : AuditedValue) (o : AuditOptions) (flow : ℕ)

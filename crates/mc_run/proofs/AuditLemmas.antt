@@ -14,31 +14,38 @@ use Rattle.mc_theory.specs.Flights.{Flight}
 use Rattle.mc_theory.specs.Headline.{HeadlineHolds}
 use Rattle.mc_theory.specs.ShownFrom.{EachCompleteRunHasFault, IsShownFrom}
 use Rattle.mc_theory.proofs.ShownFrom.{each_complete_run_has_fault}
+use Rattle.mc_topology.specs.Topology.{flow_at}
 use Rattle.mc_forward.specs.Domains.{DomainValue, IsDomain, net_of, ttl_of}
 use Rattle.mc_forward.proofs.DomainLemmas.{is_net-net_of}
 use Rattle.mc_forward.specs.ListedTables.{DomainFacts, facts}
 use Rattle.mc_forward.proofs.IndexLemmas.{slice_get-exists}
 use Rattle.mc_cert.specs.Certificate.{Tree, tree_at}
 use Rattle.mc_cert.specs.declared.reached.Reached.{Reached}
+use Rattle.mc_explain.specs.BehindFacts.{IsTrueBehind}
+use Rattle.mc_explain.specs.declared.causes.behind.Behind.{Behind}
+use Rattle.mc_explain.proofs.BehindFactLemmas.{is_true-behind}
 use Rattle.mc_explain.specs.WantedText.{lans_wanting}
 use Rattle.mc_maker.specs.Examined.{IfCertified, IfFound, is_certified}
 use Rattle.mc_maker.specs.declared.examination.Examined.{Examined}
 use Rattle.mc_maker.specs.declared.examination.Examined.TheVariants.{Certified, Found}
 use Rattle.mc_json.specs.FlowData.{wrong_flow_of}
+use Rattle.mc_json.specs.BehindData.{behind_data}
 use Rattle.mc_json.specs.WhyData.{why_data}
 use Rattle.mc_run.specs.AuditEnd.{FlowAnswer, are_right, begin_lines, end_lines, verdict_line}
 use Rattle.mc_run.specs.AuditPieces.{output_of}
 use Rattle.mc_run.specs.Failures.{is_write}
+use Rattle.mc_run.specs.AuditRun.{LeftOutValue}
 use Rattle.mc_run.specs.AuditRun.{AreFlowAnswers, FilesKeepHeadline, IsFlowAnswer, IsAudited}
 use Rattle.mc_run.specs.AuditRun.{IsAuditText, IsChecked}
 use Rattle.mc_run.specs.AuditRun.{KeepsHeadlineByLists, MeansAudited, AuditedValue, SaysFlowRight, SaysOfEach}
 use Rattle.mc_run.specs.AuditRun.{SaysFinding, SaysWhatIsFound, SaysWhichAreRight, SaysYesOf}
 use Rattle.mc_run.specs.AuditRun.{WritesOfEach, WritesWhichAreRight, is_whole, is_yes, excluded}
 use Rattle.mc_run.specs.AuditRun.{trees_shown}
-use Rattle.mc_run.specs.AuditText.{Explanation, events_if_shown, explanation_lines, shown_from_text}
+use Rattle.mc_run.specs.AuditText.{Explanation, events_if_shown, explanation_lines, shown_by_text}
 use Rattle.mc_run.specs.AuditFlowText.{answer_lines, right_flow_lines, wrong_lines_or_object}
 use Rattle.mc_run.specs.AuditFlowText.{wrong_flow_lines}
-use Rattle.mc_run.specs.AuditExplanation.{IsExplanation, IsShownFromAt255, IsShownFromUnless}
+use Rattle.mc_run.specs.AuditExplanation.{IsBehindAt255, IsBehindIfStray, IsExplanation, IsShownFromAt255}
+use Rattle.mc_run.specs.AuditExplanation.{IsShownFromUnless}
 use Rattle.mc_run.specs.AuditExplanation.{is_known_wrong}
 use Rattle.mc_explain.specs.declared.searches.searching.LanSearch.{LanSearch}
 use Rattle.mc_tables.specs.Summary.{SummaryValue}
@@ -48,6 +55,8 @@ use Rattle.mc_maker.specs.declared.examined_flights.ExaminedFlights.TheVariants.
 use Rattle.mc_maker.specs.declared.examined_flights.ExaminedFlights.TheVariants.{FoundAtFlowTtl}
 use Rattle.mc_maker.specs.declared.examined_flights.ExaminedFlights.TheVariants.{Certified as CertifiedFlights}
 use Rattle.mc_replay.specs.FindingValues.{finding_value}
+use Rattle.mc_replay.specs.declared.finding.Finding.{Finding}
+use Rattle.mc_replay.specs.declared.finding.Finding.TheVariants.{Clean, Duplicate, Loop, Stray, Missed}
 use Rattle.mc_replay.specs.declared.travel.FinishedTravel.{FinishedTravel}
 use Rattle.mc_explain.specs.ShownNeed.{IsShownFromIfAny}
 use Rattle.mc_replay.specs.declared.travel.Travel.{Travel}
@@ -143,12 +152,12 @@ flat_map-lines (a ∷ answers) = ap (λ more. a.lines ++ more) (flat_map-lines a
 -- the lines before the flows, those of the flows, those after them, and the verdict
 pub audit_text-split_at_lines : (v : AuditedValue) (o : AuditOptions) (all : Bool) (written : List ℕ)
     (a : IsAudited v o all written)
-    → written ≡ begin_lines o (facts v.domain) (excluded v)
+    → written ≡ begin_lines o (facts v.domain) (excluded v) v.ignored
     ++ (flat_map (λ ls. ls) (map (λ b. b.lines) a.answers)
-    ++ (end_lines o v.domain.topology v.summary (excluded v) all a.answers ++ verdict_line o.json all))
+    ++ (end_lines o v.domain.topology v.summary v.asked (excluded v) (is_whole v) all a.answers ++ verdict_line o.json all))
 audit_text-split_at_lines v o all written a =
-    let begin = begin_lines o (facts v.domain) (excluded v) in
-    let end = λ (b : Bool). end_lines o v.domain.topology v.summary (excluded v) b a.answers
+    let begin = begin_lines o (facts v.domain) (excluded v) v.ignored in
+    let end = λ (b : Bool). end_lines o v.domain.topology v.summary v.asked (excluded v) (is_whole v) b a.answers
     ++ verdict_line o.json b in
     a.spelled
     ∙ ap (λ ls. begin ++ (ls ++ end (is_yes v a.answers))) (flat_map-lines a.answers)
@@ -181,14 +190,14 @@ wrong_flow_lines-say_finding o whole d summary flow ttl travel e lines known is 
         → SaysFinding json whole d.topology flow lines
     by true is = (
       wrong_flow_of d flow e.certainty ttl travel.finding travel.events.items e.also
-          (why_data d summary flow e.printed e.search) o.travels,
+          (behind_data d summary flow e.behind) (why_data d summary flow e.printed e.search) o.travels,
       is_known-whole whole e.certainty.known e.search known,
       is,
     )
     by false is = (
       e.certainty.known,
       travel.finding,
-      shown_from_text e.certainty.shown_from
+      shown_by_text d.topology (flow_at d.topology flow).ttl e.certainty.shown_by
           ++ (explanation_lines d summary flow e ++ events_if_shown o.travels d.topology travel),
       is_known-whole whole e.certainty.known e.search known,
       is,
@@ -225,9 +234,9 @@ writes_which_are_right-audited v o all written a =
     let answers = a.answers in
     let are = a.are_answers in
     record {
-      begin = begin_lines o (facts d) (excluded v);
+      begin = begin_lines o (facts d) (excluded v) v.ignored;
       lines = map (λ b. b.lines) answers;
-      end = end_lines o d.topology v.summary (excluded v) all answers;
+      end = end_lines o d.topology v.summary v.asked (excluded v) (is_whole v) all answers;
       right = are_right answers;
       count = length-map answers (λ (b : FlowAnswer). b.lines) ∙ are.count;
       each = each_answer-each_lines (λ flow ls. SaysFlowRight v o flow ls) v o answers are
@@ -291,6 +300,33 @@ shows_from_ttl-by_flights d flow x flights shown ok has same is =
     by (FoundAtFlowTtl greatest least) has is = λ k t some le.
         absurd (let both : ◌≡◌ {A = Option ℕ} None (Some k) = sym is ∙ some in cc)
 
+none_is_not_some : (o : Option Behind) (b : Behind) → o ≡ None → o ≡ Some b → ⊥
+none_is_not_some None b none some = absurd cc
+none_is_not_some (Some a) b none some = absurd cc
+
+-- what is behind a stray is true of a run of the flow
+is_true-behind_if_stray : (whole : Bool) (d : DomainValue) (flow : ℕ) (x : Finding) (behind : Option Behind)
+    → IsDomain d → IsBehindIfStray whole d flow x behind → (b : Behind) → behind ≡ Some b → IsTrueBehind d flow b
+is_true-behind_if_stray whole d flow Clean behind ok is b some = absurd (none_is_not_some behind b is some)
+is_true-behind_if_stray whole d flow (Duplicate lan) behind ok is b some =
+    absurd (none_is_not_some behind b is some)
+is_true-behind_if_stray whole d flow (Loop lan) behind ok is b some = absurd (none_is_not_some behind b is some)
+is_true-behind_if_stray whole d flow (Missed lan) behind ok is b some = absurd (none_is_not_some behind b is some)
+is_true-behind_if_stray whole d flow (Stray router vif) None ok is b some = absurd is
+is_true-behind_if_stray whole d flow (Stray router vif) (Some a) ok is b some =
+    is_true-behind whole d flow (router, vif) b ok
+    (subst (λ (o : Option Behind). IsBehindIfStray whole d flow (Stray router vif) o) some is)
+
+is_true-behind_at_255 : (whole : Bool) (d : DomainValue) (flow : ℕ) (flights : ExaminedFlights)
+    (behind : Option Behind) → IsDomain d → IsBehindAt255 whole d flow flights behind → (b : Behind)
+    → behind ≡ Some b → IsTrueBehind d flow b
+is_true-behind_at_255 whole d flow (CertifiedFlights entries) behind ok is b some =
+    absurd (none_is_not_some behind b is some)
+is_true-behind_at_255 whole d flow (FoundAtTtl255 ended) behind ok is b some =
+    is_true-behind_if_stray whole d flow ended.travel.finding behind ok is b some
+is_true-behind_at_255 whole d flow (FoundAtFlowTtl greatest least) behind ok is b some =
+    absurd (none_is_not_some behind b is some)
+
 says_yes_or_found-answer_lines : (v : AuditedValue) (o : AuditOptions) (printed : List Tree)
     (flow : ℕ) (x : Examined)
     (flights : ExaminedFlights) (e : Explanation) (wanted lines : List ℕ) → IsDomain v.domain
@@ -315,8 +351,9 @@ says_yes_or_found-answer_lines v o printed flow (Found ttl travel) flights e wan
       ttl_shown = checked.examined.ttl;
       has_flights = has_flights;
       explained = explained;
-      shown = shows_from_ttl-by_flights v.domain flow (Found ttl travel) flights e.certainty.shown_from ok
-          has_flights same explained.shown;
+      shown = shows_from_ttl-by_flights v.domain flow (Found ttl travel) flights e.certainty.shown_by.from ok
+          has_flights same explained.shown.from;
+      behind = is_true-behind_at_255 (is_whole v) v.domain flow flights e.behind ok explained.behind;
       spelled = is;
     })
 
@@ -327,9 +364,9 @@ writes_of_each-audited v o all written ok a =
     let answers = a.answers in
     let are = a.are_answers in
     record {
-      begin = begin_lines o (facts v.domain) (excluded v);
+      begin = begin_lines o (facts v.domain) (excluded v) v.ignored;
       lines = map (λ b. b.lines) answers;
-      end = end_lines o v.domain.topology v.summary (excluded v) all answers;
+      end = end_lines o v.domain.topology v.summary v.asked (excluded v) (is_whole v) all answers;
       count = length-map answers (λ (b : FlowAnswer). b.lines) ∙ are.count;
       each = each_answer-each_lines (λ flow ls. SaysYesOf v o flow ls ⊎ SaysWhatIsFound v o flow ls) v o
           answers are (λ printed flow b is. says_yes_or_found-answer_lines v o printed flow
@@ -341,20 +378,20 @@ writes_of_each-audited v o all written ok a =
 -- ---- the same for the run's output
 
 pub is_output_of-which_are_right : (contents : Option (List FileText)) (o : AuditOptions)
-    (names : List (List ℕ))
-    (s : Result RunOutput RunFault) → IsOutputOf contents (IsAuditText o names) s
-    → IsOutputOf contents (SaysWhichAreRight o names) s
-is_output_of-which_are_right contents o names s =
-    is_output_of-implication contents (IsAuditText o names) (SaysWhichAreRight o names) s
+    (left : LeftOutValue)
+    (s : Result RunOutput RunFault) → IsOutputOf contents (IsAuditText o left) s
+    → IsOutputOf contents (SaysWhichAreRight o left) s
+is_output_of-which_are_right contents o left s =
+    is_output_of-implication contents (IsAuditText o left) (SaysWhichAreRight o left) s
     (λ files all written.
-    of_domain-implication (MeansAudited o names) (λ v. IsAudited v o all written)
+    of_domain-implication (MeansAudited o left) (λ v. IsAudited v o all written)
     (λ v. WritesWhichAreRight v o all written) (λ v. writes_which_are_right-audited v o all written) files)
 
-pub is_output_of-each_flow : (contents : Option (List FileText)) (o : AuditOptions) (names : List (List ℕ))
-    (s : Result RunOutput RunFault) → IsOutputOf contents (IsAuditText o names) s
-    → IsOutputOf contents (SaysOfEach o names) s
-is_output_of-each_flow contents o names s =
-    is_output_of-implication contents (IsAuditText o names) (SaysOfEach o names) s
+pub is_output_of-each_flow : (contents : Option (List FileText)) (o : AuditOptions) (left : LeftOutValue)
+    (s : Result RunOutput RunFault) → IsOutputOf contents (IsAuditText o left) s
+    → IsOutputOf contents (SaysOfEach o left) s
+is_output_of-each_flow contents o left s =
+    is_output_of-implication contents (IsAuditText o left) (SaysOfEach o left) s
     (λ files all written is. record {
       domain = is.domain;
       means = is.means;
@@ -372,32 +409,32 @@ excluded_files-no_names files (name ∷ names) d none means = absurd (not_none (
     not_none n same = false≢true (sym (ne_eqb (suc n) 0 (λ e. omega (arith, e))) ∙ same)
 
 pub headline_of_files-audit_yes : (contents : Option (List FileText)) (o : AuditOptions)
-    (names : List (List ℕ))
-    (s : Result RunOutput RunFault) → IsOutputOf contents (IsAuditText o names) s
+    (left : LeftOutValue)
+    (s : Result RunOutput RunFault) → IsOutputOf contents (IsAuditText o left) s
     → IfOk s (λ run_output. IsTrue run_output.yes → IfSome contents FilesKeepHeadline)
-headline_of_files-audit_yes contents o names (Err fault) says = tt
-headline_of_files-audit_yes None o names (Ok run_output) says = λ yes. tt
-headline_of_files-audit_yes (Some files) o names (Ok run_output) says = λ yes.
+headline_of_files-audit_yes contents o left (Err fault) says = tt
+headline_of_files-audit_yes None o left (Ok run_output) says = λ yes. tt
+headline_of_files-audit_yes (Some files) o left (Ok run_output) says = λ yes.
     let v = says.domain in
-    let whole : (length names == 0) ≡ true =
+    let whole : (length left.routers == 0) ≡ true =
     ap (λ (ns : List (List ℕ)). length ns == 0) (sym says.means.without)
     ∙ is_whole-no_names (is_whole v) (are_right says.holds.answers) (sym says.holds.answer ∙ yes) in
     record {
       domain = v.domain;
-      means = excluded_files-no_names files names v.domain whole says.means.means;
+      means = excluded_files-no_names files left.routers v.domain whole says.means.means;
       holds = keeps_headline-all_certified v o run_output.yes (string_bytes run_output.text) says.holds yes;
     }
 
 -- ---- the text, and the number of unwanted flows
 
 -- the output is right for the files
-pub is_output_of-audit : (contents : Option (List FileText)) (o : AuditOptions) (names : List (List ℕ))
+pub is_output_of-audit : (contents : Option (List FileText)) (o : AuditOptions) (left : LeftOutValue)
     (r : Result AuditOutput RunFault)
     → IfOk r (λ audit. IfSome contents (λ files.
-    IsAuditText o names files audit.run_output.yes (string_bytes audit.run_output.text)))
-    → IsOutputOf contents (IsAuditText o names) (output_of r)
-is_output_of-audit contents o names (Ok audit) says = says
-is_output_of-audit contents o names (Err fault) says = tt
+    IsAuditText o left files audit.run_output.yes (string_bytes audit.run_output.text)))
+    → IsOutputOf contents (IsAuditText o left) (output_of r)
+is_output_of-audit contents o left (Ok audit) says = says
+is_output_of-audit contents o left (Err fault) says = tt
 
 -- and a fault in its place is not the output's
 pub is_write_fault-audit_output : (r : Result AuditOutput RunFault)

@@ -19,40 +19,60 @@ use Rattle.mc_replay.specs.declared.travel.Travel.{Travel}
 use Rattle.mc_maker.specs.declared.examination.Examined.{Examined}
 use Rattle.mc_maker.specs.declared.examination.Examined.TheVariants.{Certified, Found}
 use Rattle.mc_tables.specs.Summary.{SummaryValue}
-use Rattle.mc_forward.specs.ListedTables.{DomainFacts, facts}
-use Rattle.mc_lines.specs.ExplanationText.{causes_text}
+use Rattle.mc_forward.specs.ListedTables.{DomainFacts, facts, flow_pairs}
+use Rattle.mc_asked.specs.Forwarding.{routers_in}
+use Rattle.mc_asked.specs.ListWants.{Want}
+use Rattle.mc_asked.specs.declared.forwarding.RouterState.{RouterState}
+use Rattle.mc_asked.specs.declared.forwarding.RouterState.TheVariants.{EverySource, NoneOut, Forwards}
+use Rattle.mc_lines.specs.ExplanationText.{causes_text, deeper_causes_text}
+use Rattle.mc_explain.specs.AskedText.{IsAskedLine, asked_more_text, listed_sources, services_text}
 use Rattle.mc_explain.specs.Indented.{AreIndented, HasNoLineFeed, indented}
 use Rattle.mc_explain.specs.ExcludedText.{IsExcludedLine, excluded_text, excluded_lines}
-use Rattle.mc_theory.specs.Lists.{In}
+use Rattle.mc_theory.specs.Lists.{In, below}
 use Rattle.mc_explain.specs.UnlistedLines.{AreLines, IsUnlistedLine, with_line_feed}
 use Rattle.mc_explain.specs.UnlistedText.{unlisted_text}
 use Rattle.mc_explain.specs.WantedText.{also_missed_text, wanted_text}
 use Rattle.mc_explain.specs.declared.searches.searching.LanSearch.{LanSearch}
+use Rattle.mc_explain.specs.BehindText.{leaks_behind_text}
+use Rattle.mc_explain.specs.declared.causes.Cause.{Cause}
+use Rattle.mc_explain.specs.declared.causes.behind.Behind.{Behind}
+use Rattle.mc_explain.specs.declared.causes.explanation.ShownBy.{ShownBy}
+use Rattle.mc_explain.proofs.AskedLineLemmas.{are_asked_lines-asked_more, are_asked_lines-asked_text}
+use Rattle.mc_explain.proofs.AskedLineLemmas.{are_asked_lines-services}
+use Rattle.mc_explain.proofs.BehindTextLemmas.{are_indented-leaks_behind_text}
 use Rattle.mc_explain.proofs.NameListLemmas.{are_indented-also_missed_text}
 use Rattle.mc_explain.proofs.NameListLemmas.{are_indented-wanted_text}
-use Rattle.mc_lines.proofs.IndentedLemmas.{are_indented-causes_text}
+use Rattle.mc_lines.proofs.IndentedLemmas.{are_indented-causes_text, are_indented-deeper_causes_text}
 use Rattle.mc_explain.proofs.ExcludedLemmas.{are_indented-excluded_text, are_excluded_lines-excluded_lines}
 use Rattle.mc_explain.proofs.UnlistedLineLemmas.{are_unlisted_lines-unlisted_text}
 use Rattle.mc_lines.proofs.IndentedLemmas.{are_indented-search_text}
+use Rattle.mc_input.specs.AskedOfFiles.{UnansweredWantsValue}
+use Rattle.mc_json.specs.AskedData.{asked_more_line, asked_services_line}
 use Rattle.mc_json.specs.DomainData.{domain_data}
 use Rattle.mc_json.specs.EndData.{summary_data, unlisted_lines, without_line}
 use Rattle.mc_json.specs.FlowData.{tree_data}
 use Rattle.mc_json.specs.ObjectLines.{AreObjectLines, BeginsObject, IsNotVerdict}
 use Rattle.mc_json.specs.RowData.{line_of}
 use Rattle.mc_json.specs.RowData.{lan_data}
+use Rattle.mc_json.specs.BehindData.{behind_data}
 use Rattle.mc_json.specs.WhyData.{why_data}
+use Rattle.mc_json.proofs.EachLineLemmas.{are_object_lines-asked, are_object_lines-asked_more}
+use Rattle.mc_json.proofs.EachLineLemmas.{are_object_lines-asked_services}
 use Rattle.mc_json.proofs.EachLineLemmas.{are_object_lines-domain, are_object_lines-right}
 use Rattle.mc_json.proofs.EachLineLemmas.{are_object_lines-summary, are_object_lines-tree}
 use Rattle.mc_json.proofs.EachLineLemmas.{are_object_lines-all_unlisted, are_object_lines-without}
 use Rattle.mc_json.proofs.EachLineLemmas.{are_object_lines-wrong}
+use Rattle.mc_run.specs.AuditAsked.{asked_end, asked_line_of, asked_lines, numbered_asked_line}
+use Rattle.mc_run.specs.AuditAsked.{states_of_line}
 use Rattle.mc_run.specs.AuditEnd.{FlowAnswer, begin_lines, count, end_text_or_objects, end_lines, end_objects}
 use Rattle.mc_run.specs.AuditEnd.{end_text, is_right, is_unknown, is_unwanted, is_wrong, option_words, strict_lines}
-use Rattle.mc_run.specs.AuditEnd.{summary_line}
+use Rattle.mc_run.specs.AuditEnd.{strict_line, summary_line, summary_of_flows}
 use Rattle.mc_run.specs.AuditObjects.{key_of_tree, tree_line, tree_number}
 use Rattle.mc_run.specs.AuditRun.{AreFlowAnswers, IsFlowAnswer, AuditedValue, is_whole, is_yes, excluded}
 use Rattle.mc_run.specs.AuditRun.{AreYesWords, trees_shown, yes_object}
 use Rattle.mc_run.specs.AuditText.{Explanation, events_if_shown, explanation_lines, right_line}
-use Rattle.mc_run.specs.AuditText.{found_flow_line, known_word, searched_lines, shown_from_text}
+use Rattle.mc_run.specs.AuditText.{at_flow_ttl_text, behind_text, deeper_shown_from_text, found_flow_line}
+use Rattle.mc_run.specs.AuditText.{known_word, searched_lines, second_behind_text, shown_by_text, shown_from_text}
 use Rattle.mc_run.specs.AuditFlowText.{answer_lines, is_hidden, right_lines_or_object, wrong_lines_or_object}
 use Rattle.mc_cli.specs.declared.audit_options.AuditOptions.{AuditOptions}
 use Rattle.mc_run.specs.ReplayRun.{event_line, event_lines}
@@ -289,14 +309,76 @@ no_yes_line-shown_from_text (Some ttl) =
     (ap (λ xs. codes "  shown by packets sent with ttl " ++ xs)
     (sym (append_assoc (decimal ttl) last (codes "\n"))))
 
+no_yes_line-at_flow_ttl_text : (t : TopologyValue) (ttl : ℕ) (found : Option Finding) → IsValidTopology t
+    → AreLinesWithoutYes (at_flow_ttl_text t ttl found)
+no_yes_line-at_flow_ttl_text t ttl None ok = no_yes_line-no_lines
+no_yes_line-at_flow_ttl_text t ttl (Some found) ok =
+    let begin = codes "  with this flow's ttl " in
+    let colon = codes ": " in
+    let words = finding_text t found in
+    no_yes_line-text_line (at_flow_ttl_text t ttl (Some found)) (begin ++ (decimal ttl ++ (colon ++ words)))
+    (refl, refl)
+    (no_feed-append begin _ (no_feed-from_list_all begin refl)
+    (no_feed-append (decimal ttl) _ (number ttl)
+    (no_feed-append colon words (no_feed-from_list_all colon refl) (finding_text-no_yes t found ok))))
+    (ap (λ xs. begin ++ xs) (ap (λ xs. decimal ttl ++ xs) (sym (append_assoc colon words (codes "\n")))
+    ∙ sym (append_assoc (decimal ttl) (colon ++ words) (codes "\n"))))
+
+no_yes_line-shown_by_text : (t : TopologyValue) (ttl : ℕ) (shown_by : ShownBy) → IsValidTopology t
+    → AreLinesWithoutYes (shown_by_text t ttl shown_by)
+no_yes_line-shown_by_text t ttl shown_by ok =
+    no_yes_line-append (shown_from_text shown_by.from) (at_flow_ttl_text t ttl shown_by.at_flow_ttl)
+    (no_yes_line-shown_from_text shown_by.from) (no_yes_line-at_flow_ttl_text t ttl shown_by.at_flow_ttl ok)
+
+-- after four spaces
+no_yes_line-deeper_shown_from : (shown_from : Option ℕ) → AreLinesWithoutYes (deeper_shown_from_text shown_from)
+no_yes_line-deeper_shown_from None = no_yes_line-no_lines
+no_yes_line-deeper_shown_from (Some ttl) =
+    let begin = codes "    shown by packets sent with ttl " in
+    let last = codes " or more" in
+    no_yes_line-text_line (deeper_shown_from_text (Some ttl)) (begin ++ (decimal ttl ++ last)) (refl, refl)
+    (no_feed-append begin _ (no_feed-from_list_all begin refl)
+    (no_feed-append (decimal ttl) last (number ttl) (no_feed-from_list_all last refl)))
+    (ap (λ xs. begin ++ xs) (sym (append_assoc (decimal ttl) last (codes "\n"))))
+
+no_yes_line-second_behind : (d : DomainFacts) (summary : List SummaryValue) (flow : ℕ) (causes : List Cause)
+    (shown_from : Option ℕ) (found : Option Finding) → IsValidTopology d.topology
+    → AreLinesWithoutYes (second_behind_text d summary flow causes shown_from found)
+no_yes_line-second_behind d summary flow causes shown_from None ok = no_yes_line-no_lines
+no_yes_line-second_behind d summary flow causes shown_from (Some found) ok =
+    let begin = codes "  behind it: " in
+    let words = finding_text d.topology found in
+    let line = begin ++ (words ++ codes "\n") in
+    let more = deeper_causes_text d summary flow causes ++ deeper_shown_from_text shown_from in
+    let first = no_yes_line-text_line line (begin ++ words) (refl, refl)
+    (no_feed-append begin words (no_feed-from_list_all begin refl) (finding_text-no_yes d.topology found ok))
+    (sym (append_assoc begin words (codes "\n"))) in
+    let rest = no_yes_line-append (deeper_causes_text d summary flow causes) (deeper_shown_from_text shown_from)
+    (no_yes_line-indented_lines _ (are_indented-deeper_causes_text d summary flow causes ok))
+    (no_yes_line-deeper_shown_from shown_from) in
+    subst AreLinesWithoutYes (append_assoc begin (words ++ codes "\n") more
+    ∙ ap (λ xs. begin ++ xs) (append_assoc words (codes "\n") more)) (no_yes_line-append line more first rest)
+
+no_yes_line-behind_text : (d : DomainFacts) (summary : List SummaryValue) (flow : ℕ) (behind : Option Behind)
+    → IsValidTopology d.topology → AreLinesWithoutYes (behind_text d summary flow behind)
+no_yes_line-behind_text d summary flow None ok = no_yes_line-no_lines
+no_yes_line-behind_text d summary flow (Some b) ok =
+    no_yes_line-append (second_behind_text d summary flow b.causes.items b.shown_from b.finding)
+    (leaks_behind_text d b.strays.items b.open_routers.items b.missed.items)
+    (no_yes_line-second_behind d summary flow b.causes.items b.shown_from b.finding ok)
+    (no_yes_line-indented_lines _ (are_indented-leaks_behind_text d b.strays.items b.open_routers.items
+    b.missed.items ok))
+
 no_yes_line-explanation_lines : (d : DomainFacts) (summary : List SummaryValue) (flow : ℕ)
     (x : Explanation) → IsValidTopology d.topology → AreLinesWithoutYes
     (explanation_lines d summary flow x)
 no_yes_line-explanation_lines d summary flow x ok =
     no_yes_line-append (causes_text d summary flow x.printed) _
     (no_yes_line-indented_lines _ (are_indented-causes_text d summary flow x.printed ok))
-    (no_yes_line-append (searched_lines d summary flow x.search) (also_missed_text d.topology x.also)
-    (searched x.search) (no_yes_line-indented_lines _ (are_indented-also_missed_text d.topology x.also ok)))
+    (no_yes_line-append (searched_lines d summary flow x.search) _ (searched x.search)
+    (no_yes_line-append (also_missed_text d.topology x.also) (behind_text d summary flow x.behind)
+    (no_yes_line-indented_lines _ (are_indented-also_missed_text d.topology x.also ok))
+    (no_yes_line-behind_text d summary flow x.behind ok)))
   where
     searched : (s : Option LanSearch) → AreLinesWithoutYes (searched_lines d summary flow s)
     searched None = no_yes_line-no_lines
@@ -311,13 +393,13 @@ no_yes_line-wrong_lines_or_object : (json travels : Bool) (d : DomainFacts)
 no_yes_line-wrong_lines_or_object true travels d summary flow ttl travel x ok =
     no_yes_line-objects _
     (are_object_lines-wrong d flow (flow_at d.topology flow) x.certainty ttl travel.finding travel.events.items x.also
-    (why_data d summary flow x.printed x.search) travels)
+    (behind_data d summary flow x.behind) (why_data d summary flow x.printed x.search) travels)
 no_yes_line-wrong_lines_or_object false travels d summary flow ttl travel x ok =
     let t = d.topology in
     no_yes_line-append (found_flow_line t (flow_at t flow) x.certainty.known travel.finding) _
     (no_yes_line-found_flow_line t (flow_at t flow) x.certainty.known travel.finding ok)
-    (no_yes_line-append (shown_from_text x.certainty.shown_from) _
-    (no_yes_line-shown_from_text x.certainty.shown_from)
+    (no_yes_line-append (shown_by_text t (flow_at t flow).ttl x.certainty.shown_by) _
+    (no_yes_line-shown_by_text t (flow_at t flow).ttl x.certainty.shown_by ok)
     (no_yes_line-append (explanation_lines d summary flow x) (events_if_shown travels t travel)
     (no_yes_line-explanation_lines d summary flow x ok) (no_yes_line-events_if_shown travels t travel ok)))
 
@@ -349,12 +431,14 @@ no_yes_line-all_answers v o (a ∷ answers) each ok =
 -- ---- after the flows
 
 -- whatever the counts, the summary before its line feed
-summary_line-before_line_feed : (a b c d e : List ℕ)
-    → codes "summary flows " ++ (a ++ (codes " right " ++ (b ++ (codes " wrong " ++ (c
-    ++ (codes " unknown " ++ (d ++ (codes " unwanted " ++ (e ++ codes "\n")))))))))
-    ≡ (codes "summary flows " ++ (a ++ (codes " right " ++ (b ++ (codes " wrong " ++ (c
-    ++ (codes " unknown " ++ (d ++ (codes " unwanted " ++ e))))))))) ++ codes "\n"
-summary_line-before_line_feed a b c d e = simp append_assoc
+summary_line-before_line_feed : (a b c d e f : List ℕ)
+    → (codes "summary flows " ++ (a ++ (codes " right " ++ (b ++ (codes " wrong " ++ (c
+    ++ (codes " unknown " ++ (d ++ (codes " unwanted " ++ e)))))))))
+    ++ (codes " asked " ++ (f ++ codes "\n"))
+    ≡ ((codes "summary flows " ++ (a ++ (codes " right " ++ (b ++ (codes " wrong " ++ (c
+    ++ (codes " unknown " ++ (d ++ (codes " unwanted " ++ e)))))))))
+    ++ (codes " asked " ++ f)) ++ codes "\n"
+summary_line-before_line_feed a b c d e f = simp append_assoc
 
 -- a number, and words before it
 no_feed-number_after : (words : List ℕ) (n : ℕ) (more : List ℕ) → HasNoByte 10 words → HasNoByte 10 more
@@ -362,99 +446,165 @@ no_feed-number_after : (words : List ℕ) (n : ℕ) (more : List ℕ) → HasNoB
 no_feed-number_after words n more none rest =
     no_feed-append words _ none (no_feed-append (decimal n) more (number n) rest)
 
-no_yes_line-summary_line : (flows right wrong unknown unwanted : ℕ)
-    → AreLinesWithoutYes (summary_line flows right wrong unknown unwanted)
-no_yes_line-summary_line flows right wrong unknown unwanted =
-    let last = no_feed-append (codes " unwanted ") (decimal unwanted)
-    (no_feed-from_list_all (codes " unwanted ") refl) (number unwanted) in
-    let fourth = no_feed-number_after (codes " unknown ") unknown _
-    (no_feed-from_list_all (codes " unknown ") refl) last in
-    let third = no_feed-number_after (codes " wrong ") wrong _
-    (no_feed-from_list_all (codes " wrong ") refl) fourth in
-    let second = no_feed-number_after (codes " right ") right _
-    (no_feed-from_list_all (codes " right ") refl) third in
-    no_yes_line-text_line (summary_line flows right wrong unknown unwanted)
-    (codes "summary flows " ++ (decimal flows ++ (codes " right " ++ (decimal right
-    ++ (codes " wrong " ++ (decimal wrong ++ (codes " unknown " ++ (decimal unknown
-    ++ (codes " unwanted " ++ decimal unwanted)))))))))
-    (refl, refl)
-    (no_feed-number_after (codes "summary flows ") flows _
-    (no_feed-from_list_all (codes "summary flows ") refl) second)
-    (summary_line-before_line_feed (decimal flows) (decimal right) (decimal wrong) (decimal unknown)
-    (decimal unwanted))
+no_feed-last_number : (words : List ℕ) (n : ℕ) → HasNoByte 10 words → HasNoByte 10 (words ++ decimal n)
+no_feed-last_number words n none = no_feed-append words (decimal n) none (number n)
 
-no_yes_line-strict_lines : (strict all : Bool) (unwanted : ℕ)
-    → AreLinesWithoutYes (strict_lines strict all unwanted)
-no_yes_line-strict_lines strict all unwanted =
-    let last = codes " flows that nobody wants, status 1" in
-    no_yes_line-if (strict && (all && not (unwanted == 0)))
-    (codes "  strict: " ++ (decimal unwanted ++ codes " flows that nobody wants, status 1\n")) []
-    (no_yes_line-text_line _ (codes "  strict: " ++ (decimal unwanted ++ last)) (refl, refl)
-    (no_feed-append (codes "  strict: ") _ (no_feed-from_list_all (codes "  strict: ") refl)
-    (no_feed-append (decimal unwanted) last (number unwanted) (no_feed-from_list_all last refl)))
-    (ap (λ xs. codes "  strict: " ++ xs) (sym (append_assoc (decimal unwanted) last (codes "\n")))))
+no_feed-summary_of_flows : (flows right wrong unknown unwanted : ℕ)
+    → HasNoByte 10 (summary_of_flows flows right wrong unknown unwanted)
+no_feed-summary_of_flows flows right wrong unknown unwanted =
+    no_feed-number_after (codes "summary flows ") flows _ (no_feed-from_list_all (codes "summary flows ") refl)
+    (no_feed-number_after (codes " right ") right _ (no_feed-from_list_all (codes " right ") refl)
+    (no_feed-number_after (codes " wrong ") wrong _ (no_feed-from_list_all (codes " wrong ") refl)
+    (no_feed-number_after (codes " unknown ") unknown _ (no_feed-from_list_all (codes " unknown ") refl)
+    (no_feed-last_number (codes " unwanted ") unwanted (no_feed-from_list_all (codes " unwanted ") refl)))))
+
+no_yes_line-summary_line : (flows right wrong unknown unwanted asked : ℕ)
+    → AreLinesWithoutYes (summary_line flows right wrong unknown unwanted asked)
+no_yes_line-summary_line flows right wrong unknown unwanted asked =
+    no_yes_line-text_line (summary_line flows right wrong unknown unwanted asked)
+    (summary_of_flows flows right wrong unknown unwanted ++ (codes " asked " ++ decimal asked))
+    (refl, refl)
+    (no_feed-append (summary_of_flows flows right wrong unknown unwanted) (codes " asked " ++ decimal asked)
+    (no_feed-summary_of_flows flows right wrong unknown unwanted)
+    (no_feed-last_number (codes " asked ") asked (no_feed-from_list_all (codes " asked ") refl)))
+    (summary_line-before_line_feed (decimal flows) (decimal right) (decimal wrong) (decimal unknown)
+    (decimal unwanted) (decimal asked))
+
+no_yes_line-strict_line : (fails : Bool) (n : ℕ) (words : List ℕ) → HasNoByte 10 words
+    → AreLinesWithoutYes (strict_line fails n words)
+no_yes_line-strict_line fails n words none =
+    let last = words ++ codes ", status 1" in
+    let ends : (decimal n ++ (words ++ codes ", status 1\n")) ≡ (decimal n ++ last) ++ codes "\n" =
+    ap (λ xs. decimal n ++ xs) (sym (append_assoc words (codes ", status 1") (codes "\n")))
+    ∙ sym (append_assoc (decimal n) last (codes "\n")) in
+    no_yes_line-if (fails && not (n == 0)) (codes "  strict: " ++ (decimal n ++ (words ++ codes ", status 1\n"))) []
+    (no_yes_line-text_line _ (codes "  strict: " ++ (decimal n ++ last)) (refl, refl)
+    (no_feed-number_after (codes "  strict: ") n last (no_feed-from_list_all (codes "  strict: ") refl)
+    (no_feed-append words (codes ", status 1") none (no_feed-from_list_all (codes ", status 1") refl)))
+    (ap (λ xs. codes "  strict: " ++ xs) ends))
     no_yes_line-no_lines
 
+no_yes_line-strict_lines : (strict all : Bool) (unwanted asked : ℕ)
+    → AreLinesWithoutYes (strict_lines strict all unwanted asked)
+no_yes_line-strict_lines strict all unwanted asked =
+    no_yes_line-append (strict_line (strict && all) unwanted (codes " flows that nobody wants")) _
+    (no_yes_line-strict_line (strict && all) unwanted (codes " flows that nobody wants")
+    (no_feed-from_list_all (codes " flows that nobody wants") refl))
+    (no_yes_line-strict_line (strict && all) asked (codes " wants that no flow answers")
+    (no_feed-from_list_all (codes " wants that no flow answers") refl))
+
+-- ---- what hosts ask for
+
+begins-asked_line : (l : List ℕ) → IsAskedLine l → BeginsWithOtherByte l
+begins-asked_line l (rest, begins) = subst BeginsWithOtherByte (sym begins) (refl, refl)
+
+no_yes_line-asked_text : (text : List ℕ) → AreLines IsAskedLine text → AreLinesWithoutYes text
+no_yes_line-asked_text text are = no_yes_line-lines IsAskedLine text begins-asked_line are
+
+no_yes_line-asked_line_of : (json : Bool) (t : TopologyValue) (are_excluded : Bool) (states : List RouterState)
+    (line : Option (Want × List ℕ)) → IsValidTopology t
+    → AreLinesWithoutYes (asked_line_of json t are_excluded states line)
+no_yes_line-asked_line_of json t are_excluded states None ok = no_yes_line-no_lines
+no_yes_line-asked_line_of true t are_excluded states (Some line) ok =
+    no_yes_line-objects _ (are_object_lines-asked t line (listed_sources (flow_pairs t.flows) line.0.0)
+    (routers_in NoneOut states) (routers_in Forwards states) (routers_in EverySource states))
+no_yes_line-asked_line_of false t are_excluded states (Some line) ok =
+    no_yes_line-asked_text _ (are_asked_lines-asked_text t are_excluded (flow_pairs t.flows) states line ok)
+
+no_yes_line-asked_end : (json : Bool) (t : TopologyValue) (a : UnansweredWantsValue)
+    → AreLinesWithoutYes (asked_end json t a)
+no_yes_line-asked_end true t a =
+    no_yes_line-append (asked_more_line a.further) (asked_services_line t a.services)
+    (no_yes_line-objects _ (are_object_lines-asked_more a.further))
+    (no_yes_line-objects _ (are_object_lines-asked_services t a.services))
+no_yes_line-asked_end false t a =
+    no_yes_line-append (asked_more_text a.further) (services_text a.services)
+    (no_yes_line-asked_text _ (are_asked_lines-asked_more a.further))
+    (no_yes_line-asked_text _ (are_asked_lines-services a.services))
+
+no_yes_line-flat_map : (f : ℕ → List ℕ) (xs : List ℕ) → ((x : ℕ) → AreLinesWithoutYes (f x))
+    → AreLinesWithoutYes (flat_map f xs)
+no_yes_line-flat_map f [] each = no_yes_line-no_lines
+no_yes_line-flat_map f (x ∷ xs) each =
+    no_yes_line-append (f x) (flat_map f xs) (each x) (no_yes_line-flat_map f xs each)
+
+no_yes_line-asked_lines : (json : Bool) (t : TopologyValue) (are_excluded : Bool) (a : UnansweredWantsValue)
+    → IsValidTopology t → AreLinesWithoutYes (asked_lines json t are_excluded a)
+no_yes_line-asked_lines json t are_excluded a ok =
+    no_yes_line-append (flat_map (numbered_asked_line json t are_excluded a) (below (length a.lines))) _
+    (no_yes_line-flat_map (numbered_asked_line json t are_excluded a) (below (length a.lines)) (λ n.
+    no_yes_line-asked_line_of json t are_excluded (states_of_line t a.states n) (slice_get a.lines n) ok))
+    (no_yes_line-asked_end json t a)
+
+-- ---- all of these
+
 no_yes_line-end_text : (o : AuditOptions) (t : TopologyValue) (summary : List SummaryValue)
-    (marks : List Bool)
-    (all : Bool) (flows right wrong unknown unwanted : ℕ) → IsValidTopology t
-    → AreLinesWithoutYes (end_text o t summary marks all flows right wrong unknown unwanted)
-no_yes_line-end_text o t summary marks all flows right wrong unknown unwanted ok =
+    (asked : UnansweredWantsValue) (marks : List Bool) (whole all : Bool) (flows right wrong unknown unwanted : ℕ)
+    → IsValidTopology t
+    → AreLinesWithoutYes (end_text o t summary asked marks whole all flows right wrong unknown unwanted)
+no_yes_line-end_text o t summary asked marks whole all flows right wrong unknown unwanted ok =
     no_yes_line-append (unlisted_text o.unlisted t summary) _
     (no_yes_line-lines IsUnlistedLine _ begins-row_line
     (are_unlisted_lines-unlisted_text o.unlisted t summary ok))
+    (no_yes_line-append (asked_lines false t (not whole) asked) _
+    (no_yes_line-asked_lines false t (not whole) asked ok)
     (no_yes_line-append (excluded_lines t marks) _
     (no_yes_line-lines IsExcludedLine _ begins-excluded_line (are_excluded_lines-excluded_lines t marks ok))
-    (no_yes_line-append (summary_line flows right wrong unknown unwanted) _
-    (no_yes_line-summary_line flows right wrong unknown unwanted)
-    (no_yes_line-append (excluded_text t marks) (strict_lines o.strict all unwanted)
+    (no_yes_line-append (summary_line flows right wrong unknown unwanted asked.count) _
+    (no_yes_line-summary_line flows right wrong unknown unwanted asked.count)
+    (no_yes_line-append (excluded_text t marks) (strict_lines o.strict all unwanted asked.count)
     (no_yes_line-indented_lines _ (are_indented-excluded_text t marks ok))
-    (no_yes_line-strict_lines o.strict all unwanted))))
+    (no_yes_line-strict_lines o.strict all unwanted asked.count)))))
 
 no_yes_line-end_objects : (o : AuditOptions) (t : TopologyValue) (summary : List SummaryValue)
-    (marks : List Bool) (right wrong unknown unwanted : ℕ)
-    → AreLinesWithoutYes (end_objects o t summary marks right wrong unknown unwanted)
-no_yes_line-end_objects o t summary marks right wrong unknown unwanted =
+    (asked : UnansweredWantsValue) (marks : List Bool) (whole : Bool) (right wrong unknown unwanted : ℕ)
+    → IsValidTopology t
+    → AreLinesWithoutYes (end_objects o t summary asked marks whole right wrong unknown unwanted)
+no_yes_line-end_objects o t summary asked marks whole right wrong unknown unwanted ok =
     no_yes_line-append (unlisted_lines o.unlisted t summary) _
     (no_yes_line-objects _ (are_object_lines-all_unlisted o.unlisted t summary))
-    (no_yes_line-append (without_line t marks) (line_of (summary_data right unknown unwanted wrong))
+    (no_yes_line-append (asked_lines true t (not whole) asked) _
+    (no_yes_line-asked_lines true t (not whole) asked ok)
+    (no_yes_line-append (without_line t marks)
+    (line_of (summary_data asked.count right unknown unwanted wrong))
     (no_yes_line-objects _ (are_object_lines-without t marks))
-    (no_yes_line-objects _ (are_object_lines-summary right unknown unwanted wrong)))
+    (no_yes_line-objects _ (are_object_lines-summary asked.count right unknown unwanted wrong))))
 
 no_yes_line-end_lines : (o : AuditOptions) (t : TopologyValue) (summary : List SummaryValue)
-    (marks : List Bool)
-    (all : Bool) (flows right wrong unknown unwanted : ℕ) → IsValidTopology t
-    → AreLinesWithoutYes (end_text_or_objects o t summary marks all flows right wrong unknown unwanted)
-no_yes_line-end_lines o t summary marks all flows right wrong unknown unwanted ok =
-    no_yes_line-if o.json (end_objects o t summary marks right wrong unknown unwanted)
-    (end_text o t summary marks all flows right wrong unknown unwanted)
-    (no_yes_line-end_objects o t summary marks right wrong unknown unwanted)
-    (no_yes_line-end_text o t summary marks all flows right wrong unknown unwanted ok)
+    (asked : UnansweredWantsValue) (marks : List Bool) (whole all : Bool) (flows right wrong unknown unwanted : ℕ)
+    → IsValidTopology t
+    → AreLinesWithoutYes (end_text_or_objects o t summary asked marks whole all flows right wrong unknown
+    unwanted)
+no_yes_line-end_lines o t summary asked marks whole all flows right wrong unknown unwanted ok =
+    no_yes_line-if o.json (end_objects o t summary asked marks whole right wrong unknown unwanted)
+    (end_text o t summary asked marks whole all flows right wrong unknown unwanted)
+    (no_yes_line-end_objects o t summary asked marks whole right wrong unknown unwanted ok)
+    (no_yes_line-end_text o t summary asked marks whole all flows right wrong unknown unwanted ok)
 
 -- ---- all lines but the last
 
-no_yes_line-begin_lines : (o : AuditOptions) (d : DomainFacts) (marks : List Bool)
-    → AreLinesWithoutYes (begin_lines o d marks)
-no_yes_line-begin_lines o d marks =
-    let asked = option_words o d.topology marks in
-    no_yes_line-if o.json (line_of (domain_data d asked)) []
-    (no_yes_line-objects _ (are_object_lines-domain d asked))
+no_yes_line-begin_lines : (o : AuditOptions) (d : DomainFacts) (marks : List Bool) (ignored : List (ℕ × ℕ))
+    → AreLinesWithoutYes (begin_lines o d marks ignored)
+no_yes_line-begin_lines o d marks ignored =
+    let words = option_words o d.topology marks ignored in
+    no_yes_line-if o.json (line_of (domain_data d words)) []
+    (no_yes_line-objects _ (are_object_lines-domain d words))
     no_yes_line-no_lines
 
 -- what is written before the last line
 abbrev pub text_before_verdict : AuditedValue → AuditOptions → List FlowAnswer → List ℕ
 text_before_verdict v o answers =
-    begin_lines o (facts v.domain) (excluded v)
+    begin_lines o (facts v.domain) (excluded v) v.ignored
     ++ (flat_map (λ a. a.lines) answers
-    ++ end_lines o v.domain.topology v.summary (excluded v) (is_yes v answers) answers)
+    ++ end_lines o v.domain.topology v.summary v.asked (excluded v) (is_whole v) (is_yes v answers) answers)
 
 pub no_yes_line-text_before_verdict : (v : AuditedValue) (o : AuditOptions) (answers : List FlowAnswer)
     → AreFlowAnswers v o answers → IsValidTopology v.domain.topology
     → AreLinesWithoutYes (text_before_verdict v o answers)
 no_yes_line-text_before_verdict v o answers are ok =
     let marks = excluded v in
-    no_yes_line-append (begin_lines o (facts v.domain) marks) _
-    (no_yes_line-begin_lines o (facts v.domain) marks)
+    no_yes_line-append (begin_lines o (facts v.domain) marks v.ignored) _
+    (no_yes_line-begin_lines o (facts v.domain) marks v.ignored)
     (no_yes_line-append (flat_map (λ a. a.lines) answers) _
     (no_yes_line-all_answers v o answers (λ flow a at. (
       trees_shown o (take flow answers),
@@ -462,6 +612,7 @@ no_yes_line-text_before_verdict v o answers are ok =
       are.each flow a at,
     ))
     ok)
-    (no_yes_line-end_lines o v.domain.topology v.summary marks (is_yes v answers) (length answers)
+    (no_yes_line-end_lines o v.domain.topology v.summary v.asked marks (is_whole v) (is_yes v answers)
+    (length answers)
     (count is_right answers) (count is_wrong answers) (count is_unknown answers)
     (count is_unwanted answers) ok))

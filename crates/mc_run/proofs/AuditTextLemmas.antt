@@ -7,16 +7,18 @@ use Rattle.mc_tables.specs.Summary.{SummaryValue}
 use Rattle.mc_forward.specs.Domains.{DomainValue}
 use Rattle.mc_forward.specs.ListedTables.{facts}
 use Rattle.mc_cert.specs.Certificate.{Tree}
+use Rattle.mc_input.specs.AskedOfFiles.{UnansweredWantsValue, IsAskedOf}
 use Rattle.mc_input.specs.ExcludedRouters.{AreRouterNames, files_with_exclusions}
 use Rattle.mc_input.specs.Meaning.{FilesMeanDomain, MeansDomainWhere}
 use Rattle.mc_input.specs.SummariesOfFiles.{AreSummariesOf}
 use Rattle.mc_run.specs.AuditEnd.{begin_lines, count as count_of, end_text_or_objects, is_right}
 use Rattle.mc_run.specs.AuditEnd.{is_unknown, is_unwanted, is_wrong, verdict_line}
 use Rattle.mc_run.specs.AuditPieces.{AreFlowsPushed, output_of, yes_of}
-use Rattle.mc_run.specs.AuditRun.{AuditSaysYes, IsAudited, MeansAudited, AuditedValue, is_whole, is_yes}
-use Rattle.mc_run.specs.AuditRun.{excluded}
+use Rattle.mc_run.specs.AuditRun.{AuditSaysYes, AuditedValue, IsAudited, LeftOutValue, MeansAudited, is_whole}
+use Rattle.mc_run.specs.AuditRun.{excluded, is_yes}
 use Rattle.mc_cli.specs.declared.audit_options.AuditOptions.{AuditOptions}
 use Rattle.mc_run.specs.declared.audit.audit_output.AuditAnswer.{AuditAnswer}
+use Rattle.mc_run.specs.declared.audit.audit_output.AuditCounts.{AuditCounts}
 use Rattle.mc_run.specs.declared.audit.audit_output.AuditOutput.{AuditOutput}
 use Rattle.mc_run.specs.declared.fault.RunFault.{RunFault}
 use Rattle.mc_run.specs.declared.fault.RunFault.TheVariants.{Write}
@@ -34,10 +36,10 @@ no_names-no_count v k same = ap (λ (n : ℕ). n == 0) same
 
 pub is_audited-all_pushed : (v : AuditedValue) (o : AuditOptions) (s : FlowCounts) (printed : List Tree)
     (marks : List Bool) (count : ℕ) (every : Bool) (begin lines text : List ℕ)
-    → marks ≡ excluded v → length v.without ≡ count → begin ≡ begin_lines o (facts v.domain) marks
+    → marks ≡ excluded v → length v.without ≡ count → begin ≡ begin_lines o (facts v.domain) marks v.ignored
     → AreFlowsPushed v o (length v.domain.topology.flows) s printed begin lines
     → every ≡ ((count == 0) && (s.wrong == 0))
-    → text ≡ lines ++ (end_text_or_objects o v.domain.topology v.summary marks every
+    → text ≡ lines ++ (end_text_or_objects o v.domain.topology v.summary v.asked marks (is_whole v) every
     (length v.domain.topology.flows) s.right s.wrong s.unknown s.unwanted ++ verdict_line o.json every)
     → IsAudited v o every text
 is_audited-all_pushed v o s printed marks count every begin lines text same size begins to is ends =
@@ -48,10 +50,10 @@ is_audited-all_pushed v o s printed marks count every begin lines text same size
     is ∙ ap (λ (b : Bool). b && (s.wrong == 0)) (sym (no_names-no_count v count size))
     ∙ ap (λ (n : ℕ). is_whole v && (n == 0)) to.wrong
     ∙ is_yes-zero_wrong v o answers (is_whole v) refl to.each in
-    let first : begin ≡ begin_lines o (facts v.domain) (excluded v) =
-    begins ∙ ap (begin_lines o (facts v.domain)) same in
+    let first : begin ≡ begin_lines o (facts v.domain) (excluded v) v.ignored =
+    begins ∙ ap (λ (ms : List Bool). begin_lines o (facts v.domain) ms v.ignored) same in
     let end = λ (ms : List Bool) (b : Bool) (n r w k u : ℕ).
-    end_text_or_objects o t v.summary ms b n r w k u ++ verdict_line o.json b in
+    end_text_or_objects o t v.summary v.asked ms (is_whole v) b n r w k u ++ verdict_line o.json b in
     let last : end marks every (length t.flows) s.right s.wrong s.unknown s.unwanted
     ≡ end (excluded v) (is_yes v answers) (length answers) (count_of is_right answers)
     (count_of is_wrong answers) (count_of is_unknown answers) (count_of is_unwanted answers) =
@@ -71,28 +73,49 @@ is_audited-all_pushed v o s printed marks count every begin lines text same size
       answer = answer;
       spelled = ends ∙ ap (λ xs. lines ++ xs) last ∙ ap (λ xs. xs ++ behind) to.spelled
           ∙ ap (λ xs. (xs ++ ours) ++ behind) first
-          ∙ append_assoc (begin_lines o (facts v.domain) (excluded v)) ours behind;
+          ∙ append_assoc (begin_lines o (facts v.domain) (excluded v) v.ignored) ours behind;
     }
 
 -- ---- the files
 
--- what holds of the domain that was read, with its summaries, holds of the one that the files mean
-pub of_domain-means_audited : (Holds : AuditedValue → Type 0) (o : AuditOptions) (names : List (List ℕ))
-    (contents : Option (List FileText)) (d : DomainValue) (summary : List SummaryValue)
-    → IfSome contents (λ files. FilesMeanDomain (files_with_exclusions names files) d)
-    → AreRouterNames d.topology names
-    → IfSome contents (λ files. AreSummariesOf o.unlisted (files_with_exclusions names files)
+-- what holds of the domain that was read, with its summaries and wants, holds of the one that the files mean
+pub of_domain-means_audited : (Holds : AuditedValue → Type 0) (o : AuditOptions) (left : LeftOutValue)
+    (contents : Option (List FileText)) (d : DomainValue) (summary : List SummaryValue) (asked : UnansweredWantsValue)
+    → IfSome contents (λ files. FilesMeanDomain (files_with_exclusions left.routers files) d)
+    → AreRouterNames d.topology left.routers
+    → IfSome contents (λ files. AreSummariesOf o.unlisted (files_with_exclusions left.routers files)
     d.topology summary)
-    → Holds (record { domain = d; summary = summary; without = names })
-    → IfSome contents (MeansDomainWhere (MeansAudited o names) Holds)
-of_domain-means_audited Holds o names None d summary means routers summarized holds = tt
-of_domain-means_audited Holds o names (Some files) d summary means routers summarized holds = record {
-  domain = record { domain = d; summary = summary; without = names };
-  means = record { means = means; routers = routers; summary = summarized; without = refl };
+    → IfSome contents (λ files. IsAskedOf o.unlisted left.groups (files_with_exclusions left.routers files)
+    d asked)
+    → Holds (record {
+      domain = d;
+      summary = summary;
+      asked = asked;
+      without = left.routers;
+      ignored = left.groups;
+    })
+    → IfSome contents (MeansDomainWhere (MeansAudited o left) Holds)
+of_domain-means_audited Holds o left None d summary asked means routers summarized wants holds = tt
+of_domain-means_audited Holds o left (Some files) d summary asked means routers summarized wants holds = record {
+  domain = record {
+    domain = d;
+    summary = summary;
+    asked = asked;
+    without = left.routers;
+    ignored = left.groups;
+  };
+  means = record {
+    means = means;
+    routers = routers;
+    summary = summarized;
+    asked = wants;
+    without = refl;
+    ignored = refl;
+  };
   holds = holds;
 }
 
--- ---- the answer, with the number of unwanted flows
+-- ---- the answer, with what is counted
 
 -- what follows from the run's answer follows from the audit's
 pub audit_answer-gives : (P : Bool → Type 0) (r : Result AuditAnswer RunFault) (s : Result Bool RunFault)
@@ -125,14 +148,15 @@ no_answer-without_output f p s all old new none same is =
     subst (λ (u : Result RunOutput RunFault). IsOutputWritten u s old new) none is in
     subst (λ (t : Result Bool RunFault). IsOutputWritten (Err f) t old new) (sym same) run_output
 
--- and what holds of the counted number holds of the returned one
-pub audit_unwanted-gives : (P : ℕ → Type 0) (a : Result AuditOutput RunFault) (p : Result RunOutput RunFault)
-    (n : ℕ) (s : Result Bool RunFault) (r : Result AuditAnswer RunFault)
-    (old new : Option (List ℕ)) → IfOk a (λ audit. P audit.unwanted) → p ≡ output_of a
-    → ((audit : AuditOutput) → a ≡ Ok audit → n ≡ audit.unwanted) → IsOutputWritten p s old new
-    → yes_of r ≡ s → IfOk r (λ answer. answer.unwanted ≡ n) → IfOk r (λ answer. P answer.unwanted)
-audit_unwanted-gives P a p n s (Err f) old new holds parts counted is same counted_is = tt
-audit_unwanted-gives P (Ok audit) p n s (Ok answer) old new holds parts counted is same counted_is =
+-- and what holds of the counts holds of the returned ones
+pub audit_counts-gives : (P : AuditCounts → Type 0) (a : Result AuditOutput RunFault)
+    (p : Result RunOutput RunFault) (counts : AuditCounts) (s : Result Bool RunFault)
+    (r : Result AuditAnswer RunFault) (old new : Option (List ℕ)) → IfOk a (λ audit. P audit.counts)
+    → p ≡ output_of a → ((audit : AuditOutput) → a ≡ Ok audit → counts ≡ audit.counts)
+    → IsOutputWritten p s old new → yes_of r ≡ s → IfOk r (λ answer. answer.counts ≡ counts)
+    → IfOk r (λ answer. P answer.counts)
+audit_counts-gives P a p counts s (Err f) old new holds parts counted is same counted_is = tt
+audit_counts-gives P (Ok audit) p counts s (Ok answer) old new holds parts counted is same counted_is =
     subst P (sym (counted_is ∙ counted audit refl)) holds
-audit_unwanted-gives P (Err f) p n s (Ok answer) old new holds parts counted is same counted_is =
+audit_counts-gives P (Err f) p counts s (Ok answer) old new holds parts counted is same counted_is =
     absurd (no_answer-without_output f p s answer.yes old new parts same is)

@@ -5,6 +5,7 @@ pub mod AuditLines
 mod AuditOutputLemmas
 pub mod CertifiedLemmas
 pub mod CheckLemmas
+pub mod AuditAskedLemmas
 pub mod AuditEndLemmas
 mod FaultLemmas
 mod LineFrontLemmas

@@ -2,16 +2,17 @@
 use Rattle.std.proofs.Common.{◌≡◌, ℕ, suc, ◌+◌, Bool, true, false, cond, List, [], ◌∷◌, ◌++◌}
 use Rattle.std.proofs.Common.{length, Option, Some, None, refl, sym, ap, ap₂, subst, ◌∙◌, arith}
 use Rattle.std.proofs.Common.{filter, fold, take, ◌&&◌, slice_get}
-use Rattle.std.specs.Prelude.{◌==◌, flat_map, ⊤, is_none}
+use Rattle.std.specs.Prelude.{◌==◌, codes, flat_map, map, ⊤, is_none}
 use Rattle.mc_files.specs.Files.{FileText}
 use Rattle.mc_tables.specs.Summary.{SummaryValue}
 use Rattle.mc_topology.specs.Topology.{TopologyValue, flow_at}
 use Rattle.mc_cert.specs.Certificate.{Tree}
 use Rattle.mc_theory.specs.Events.{Event}
-use Rattle.mc_theory.specs.Nets.{Net}
+use Rattle.mc_theory.specs.Nets.{Interface, Net}
 use Rattle.mc_forward.specs.Domains.{DomainValue, IsDomain, net_of, ttl_of}
 use Rattle.mc_forward.specs.ListedTables.{DomainFacts, facts}
 use Rattle.mc_input.specs.ExcludedRouters.{files_with_exclusions}
+use Rattle.mc_input.specs.AskedOfFiles.{UnansweredWantsValue, IsAskedOf}
 use Rattle.mc_input.specs.SummariesOfFiles.{AreSummariesOf}
 use Rattle.mc_input.proofs.UniqueDomain.{FilesMeanDomain-unique}
 use Rattle.mc_replay.specs.declared.finding.Finding.{Finding}
@@ -28,10 +29,15 @@ use Rattle.mc_explain.specs.declared.searches.searching.LanSearch.{LanSearch}
 use Rattle.mc_lines.specs.ExplanationText.{causes_text}
 use Rattle.mc_lines.specs.ExplanationText.{search_text}
 use Rattle.mc_explain.specs.WantedText.{also_missed_text}
+use Rattle.mc_explain.specs.BehindText.{leaks_behind_text}
 use Rattle.mc_explain.specs.declared.causes.Cause.{Cause}
+use Rattle.mc_explain.specs.declared.causes.behind.Behind.{Behind}
 use Rattle.mc_explain.specs.declared.causes.explanation.Certainty.{Certainty}
 use Rattle.mc_explain.specs.declared.searches.search_line.SearchLine.{SearchLine}
-use Rattle.mc_json.specs.FlowData.{wrong_line}
+use Rattle.mc_json.specs.BehindData.{behind_data, found_behind_data, stray_data}
+use Rattle.mc_json.specs.EndData.{routers_data}
+use Rattle.mc_json.specs.FlowData.{optional_finding_data, shown_from_data, wrong_line}
+use Rattle.mc_json.specs.RowData.{lan_data, list_data, object_data}
 use Rattle.mc_json.specs.WhyData.{search_data}
 use Rattle.mc_json.specs.WhyData.{causes_data}
 use Rattle.mc_json.specs.WhyData.{search_data_if_any, why_data}
@@ -41,10 +47,12 @@ use Rattle.mc_run.specs.AuditEnd.{FlowAnswer, are_right, begin_lines, count, end
 use Rattle.mc_run.specs.AuditEnd.{is_right, is_unknown, is_unwanted, is_wrong, says_right, says_wrong}
 use Rattle.mc_run.specs.AuditEnd.{verdict_line}
 use Rattle.mc_run.specs.AuditObjects.{wrong_object}
+use Rattle.mc_run.specs.AuditRun.{LeftOutValue}
 use Rattle.mc_run.specs.AuditRun.{IsFlowAnswer, IsAuditText, IsAudited, MeansAudited, AuditedValue}
 use Rattle.mc_run.specs.AuditRun.{is_whole, is_yes, excluded, trees_shown}
-use Rattle.mc_run.specs.AuditText.{Explanation, events_if_shown, explanation_lines, searched_lines}
-use Rattle.mc_run.specs.AuditText.{found_flow_line, shown_from_text, wrong_lines}
+use Rattle.mc_run.specs.AuditText.{Explanation, behind_text, events_if_shown, explanation_lines, searched_lines}
+use Rattle.mc_run.specs.AuditText.{second_behind_text}
+use Rattle.mc_run.specs.AuditText.{found_flow_line, shown_by_text, wrong_lines}
 use Rattle.mc_run.specs.AuditFlowText.{answer_lines, is_hidden, known_right, right_flow_lines}
 use Rattle.mc_run.specs.AuditFlowText.{shown_trees_with}
 use Rattle.mc_run.specs.AuditFlowText.{with_shown_tree}
@@ -53,7 +61,7 @@ use Rattle.mc_run.specs.MakeRun.{IsExamined}
 use Rattle.mc_run.specs.ReplayRun.{event_lines}
 use Rattle.mc_cli.specs.declared.audit_options.AuditOptions.{AuditOptions}
 use Rattle.mc_run.proofs.UniqueExamination.{IsSameFinishedTravel, IsSameExplanation}
-use Rattle.mc_run.proofs.UniqueExamination.{HaveSameFlights, HaveSameSearch}
+use Rattle.mc_run.proofs.UniqueExamination.{HaveSameBehind, HaveSameFlights, HaveSameSearch, IsSameBehind}
 use Rattle.mc_run.proofs.UniqueExamination.{is_explanation-unique, examined_flights-unique}
 
 -- ---- the lines of a flow that isn't right
@@ -75,15 +83,67 @@ events_if_shown-same_events : (travels : Bool) (t : TopologyValue) (a b : Finish
 events_if_shown-same_events true t a b same = ap (event_lines t) same.events
 events_if_shown-same_events false t a b same = refl
 
+second_behind_text-same_parts : (d : DomainFacts) (summary : List SummaryValue) (flow : ℕ) (causes others : List Cause)
+    (from to : Option ℕ) (x y : Option Finding) → causes ≡ others → from ≡ to → x ≡ y
+    → second_behind_text d summary flow causes from x ≡ second_behind_text d summary flow others to y
+second_behind_text-same_parts d summary flow causes others from to x y same least finding =
+    ap₂ (λ (cs : List Cause) (k : Option ℕ). second_behind_text d summary flow cs k x) same least
+    ∙ ap (second_behind_text d summary flow others to) finding
+
+behind_text-same_behind : (d : DomainFacts) (summary : List SummaryValue) (flow : ℕ) (s t : Option Behind)
+    → HaveSameBehind s t → behind_text d summary flow s ≡ behind_text d summary flow t
+behind_text-same_behind d summary flow None None same = refl
+behind_text-same_behind d summary flow None (Some b) same = absurd same
+behind_text-same_behind d summary flow (Some a) None same = absurd same
+behind_text-same_behind d summary flow (Some a) (Some b) same =
+    ap₂ (λ (one two : List ℕ). one ++ two)
+    (second_behind_text-same_parts d summary flow a.causes.items b.causes.items a.shown_from b.shown_from a.finding
+    b.finding same.causes same.shown_from same.finding)
+    (ap (λ (is : List Interface). leaks_behind_text d is a.open_routers.items a.missed.items) same.strays
+    ∙ ap₂ (λ (rs ls : List ℕ). leaks_behind_text d b.strays.items rs ls) same.open_routers same.missed)
+
+-- the members of what is behind a stray
+abbrev behind_members : TopologyValue → Option Finding → (missed open_routers : List ℕ) → Option ℕ
+    → List Interface → (why : List Data) → Data
+behind_members t finding missed open_routers shown_from strays why = object_data (
+    (codes "finding", optional_finding_data t finding)
+    ∷ (codes "missed", list_data (map (lan_data t) missed))
+    ∷ (codes "open", routers_data t open_routers)
+    ∷ (codes "shown_from", shown_from_data shown_from)
+    ∷ (codes "strays", list_data (map (stray_data t) strays))
+    ∷ (codes "why", list_data why) ∷ [])
+
+found_behind_data-same_parts : (t : TopologyValue) (a b : Behind) (why because : List Data) → IsSameBehind a b
+    → why ≡ because → found_behind_data t a why ≡ found_behind_data t b because
+found_behind_data-same_parts t a b why because same is =
+    ap₂ (λ (x : Option Finding) (ls : List ℕ). behind_members t x ls a.open_routers.items a.shown_from a.strays.items
+    why) same.finding same.missed
+    ∙ ap₂ (λ (rs : List ℕ) (k : Option ℕ). behind_members t b.finding b.missed.items rs k a.strays.items why)
+    same.open_routers same.shown_from
+    ∙ ap₂ (λ (is : List Interface) (ds : List Data). behind_members t b.finding b.missed.items b.open_routers.items
+    b.shown_from is ds) same.strays is
+
+behind_data-same_behind : (d : DomainFacts) (summary : List SummaryValue) (flow : ℕ) (s t : Option Behind)
+    → HaveSameBehind s t → behind_data d summary flow s ≡ behind_data d summary flow t
+behind_data-same_behind d summary flow None None same = refl
+behind_data-same_behind d summary flow None (Some b) same = absurd same
+behind_data-same_behind d summary flow (Some a) None same = absurd same
+behind_data-same_behind d summary flow (Some a) (Some b) same =
+    found_behind_data-same_parts d.topology a b (causes_data d summary flow a.causes.items)
+    (causes_data d summary flow b.causes.items) same (ap (causes_data d summary flow) same.causes)
+
 explanation_lines-same_explanation : (d : DomainFacts) (summary : List SummaryValue) (flow : ℕ)
     (x y : Explanation) → IsSameExplanation x y
     → explanation_lines d summary flow x ≡ explanation_lines d summary flow y
 explanation_lines-same_explanation d summary flow x y same =
-    ap (λ (printed : List Cause). causes_text d summary flow printed
-    ++ (searched_lines d summary flow x.search ++ also_missed_text d.topology x.also)) same.printed
+    ap (λ (printed : List Cause). causes_text d summary flow printed ++ (searched_lines d summary flow x.search
+    ++ (also_missed_text d.topology x.also ++ behind_text d summary flow x.behind))) same.printed
     ∙ ap₂ (λ (found : List ℕ) (also : List ℕ). causes_text d summary flow y.printed
-    ++ (found ++ also_missed_text d.topology also))
+    ++ (found ++ (also_missed_text d.topology also ++ behind_text d summary flow x.behind)))
     (searched_lines-same_search d summary flow x.search y.search same.search) same.also
+    ∙ ap (λ (past : List ℕ). causes_text d summary flow y.printed ++ (searched_lines d summary flow y.search
+    ++ (also_missed_text d.topology y.also ++ past)))
+    (behind_text-same_behind d summary flow x.behind y.behind same.behind)
 
 wrong_lines-same_travel : (travels : Bool) (d : DomainFacts) (summary : List SummaryValue)
     (flow : ℕ) (a b : FinishedTravel) (x y : Explanation) → IsSameFinishedTravel a b
@@ -92,12 +152,12 @@ wrong_lines-same_travel : (travels : Bool) (d : DomainFacts) (summary : List Sum
 wrong_lines-same_travel travels d summary flow a b x y ended same =
     let t = d.topology in
     ap₂ (λ (c : Certainty) (w : Finding). found_flow_line t (flow_at t flow) c.known w
-    ++ (shown_from_text c.shown_from
+    ++ (shown_by_text t (flow_at t flow).ttl c.shown_by
     ++ (explanation_lines d summary flow x ++ events_if_shown travels t a.travel)))
     same.certainty ended.finding
     ∙ ap₂ (λ (why : List ℕ) (es : List ℕ).
     found_flow_line t (flow_at t flow) y.certainty.known b.travel.finding
-    ++ (shown_from_text y.certainty.shown_from ++ (why ++ es)))
+    ++ (shown_by_text t (flow_at t flow).ttl y.certainty.shown_by ++ (why ++ es)))
     (explanation_lines-same_explanation d summary flow x y same)
     (events_if_shown-same_events travels t a b ended)
 
@@ -127,11 +187,13 @@ wrong_object-same_travel : (travels : Bool) (d : DomainFacts) (summary : List Su
     ≡ wrong_object travels d summary flow ttl b.travel y
 wrong_object-same_travel travels d summary flow ttl a b x y ended same =
     ap₂ (λ (w : Finding) (es : List Event). wrong_line d flow (flow_at d.topology flow) x.certainty ttl w es x.also
-    (why_data d summary flow x.printed x.search) travels) ended.finding ended.events
-    ∙ ap (λ (c : Certainty). wrong_line d flow (flow_at d.topology flow) c ttl b.travel.finding
-    b.travel.events.items x.also (why_data d summary flow x.printed x.search) travels) same.certainty
+    (behind_data d summary flow x.behind) (why_data d summary flow x.printed x.search) travels) ended.finding
+    ended.events
+    ∙ ap₂ (λ (c : Certainty) (past : Data). wrong_line d flow (flow_at d.topology flow) c ttl b.travel.finding
+    b.travel.events.items x.also past (why_data d summary flow x.printed x.search) travels) same.certainty
+    (behind_data-same_behind d summary flow x.behind y.behind same.behind)
     ∙ ap₂ (λ (also : List ℕ) (why : List Data). wrong_line d flow (flow_at d.topology flow) y.certainty ttl
-    b.travel.finding b.travel.events.items also why travels)
+    b.travel.finding b.travel.events.items also (behind_data d summary flow y.behind) why travels)
     same.also
     (why_data-same_explanation d summary flow x y same)
 
@@ -360,13 +422,13 @@ count-same_answers o p (a ∷ xs) (b ∷ ys) tests same =
 end_lines-same_answers : (v : AuditedValue) (o : AuditOptions) (xs ys : List FlowAnswer) → length xs
     ≡ length ys
     → HaveSameAnswers o xs ys → is_yes v xs ≡ is_yes v ys
-    → end_lines o v.domain.topology v.summary (excluded v) (is_yes v xs) xs
+    → end_lines o v.domain.topology v.summary v.asked (excluded v) (is_whole v) (is_yes v xs) xs
     ++ verdict_line o.json (is_yes v xs)
-    ≡ end_lines o v.domain.topology v.summary (excluded v) (is_yes v ys) ys
+    ≡ end_lines o v.domain.topology v.summary v.asked (excluded v) (is_whole v) (is_yes v ys) ys
     ++ verdict_line o.json (is_yes v ys)
 end_lines-same_answers v o xs ys flows same all =
     let end = λ (all : Bool) (n r w k u : ℕ).
-    end_text_or_objects o v.domain.topology v.summary (excluded v) all n r w k u
+    end_text_or_objects o v.domain.topology v.summary v.asked (excluded v) (is_whole v) all n r w k u
     ++ verdict_line o.json all in
     let right = count-same_answers o is_right xs ys (λ a b s. ap says_right s.right) same in
     let wrong = count-same_answers o is_wrong xs ys (λ a b s. ap says_wrong s.right) same in
@@ -394,7 +456,7 @@ is_audited-unique v o all every text other ok p q =
     (are_answers_from-first v o q.answers q.are_answers.each) in
     let all : is_yes v p.answers ≡ is_yes v q.answers =
     ap (λ (b : Bool). is_whole v && b) (are_right-same_answers o p.answers q.answers same) in
-    let begin = begin_lines o (facts v.domain) (excluded v) in (
+    let begin = begin_lines o (facts v.domain) (excluded v) v.ignored in (
       p.answer ∙ all ∙ sym q.answer,
       p.spelled
           ∙ ap₂ (λ (lines end : List ℕ). begin ++ (lines ++ end))
@@ -411,26 +473,38 @@ HasOneListOfSummaries =
     (all : Bool) (files : List FileText) (t : TopologyValue) (a b : List SummaryValue)
     → AreSummariesOf all files t a → AreSummariesOf all files t b → a ≡ b
 
-means_audited-unique : HasOneListOfSummaries → (o : AuditOptions) (names : List (List ℕ))
+-- one folder's files mean at most one of what hosts ask for
+abbrev HasOneOfAsked : Type 0
+HasOneOfAsked =
+    (all : Bool) (ignored : List (ℕ × ℕ)) (files : List FileText) (d : DomainValue) (a b : UnansweredWantsValue)
+    → IsDomain d → IsAskedOf all ignored files d a → IsAskedOf all ignored files d b → a ≡ b
+
+means_audited-unique : HasOneListOfSummaries → HasOneOfAsked → (o : AuditOptions) (left : LeftOutValue)
     (files : List FileText)
-    (v w : AuditedValue) → MeansAudited o names files v → MeansAudited o names files w → v ≡ w
-means_audited-unique one_list o names files v w p q =
-    let domain = FilesMeanDomain-unique (files_with_exclusions names files) v.domain w.domain
-    p.means q.means in
-    let summary = one_list o.unlisted (files_with_exclusions names files) v.domain.topology v.summary
-    w.summary p.summary
-    (subst (λ (d : DomainValue). AreSummariesOf o.unlisted (files_with_exclusions names files)
-    d.topology w.summary)
-    (sym domain) q.summary) in
+    (v w : AuditedValue) → MeansAudited o left files v → MeansAudited o left files w → v ≡ w
+means_audited-unique one_list one_asked o left files v w p q =
+    let read = files_with_exclusions left.routers files in
+    let domain = FilesMeanDomain-unique read v.domain w.domain p.means q.means in
+    let summary = one_list o.unlisted read v.domain.topology v.summary w.summary p.summary
+    (subst (λ (d : DomainValue). AreSummariesOf o.unlisted read d.topology w.summary) (sym domain) q.summary) in
+    let asked = one_asked o.unlisted left.groups read v.domain v.asked w.asked p.means.rules p.asked
+    (subst (λ (d : DomainValue). IsAskedOf o.unlisted left.groups read d w.asked) (sym domain) q.asked) in
     let without = p.without ∙ sym q.without in
-    λ i. record { domain = domain i; summary = summary i; without = without i }
+    let ignored = p.ignored ∙ sym q.ignored in
+    λ i. record {
+      domain = domain i;
+      summary = summary i;
+      asked = asked i;
+      without = without i;
+      ignored = ignored i;
+    }
 
 -- one folder's files and one set of options have one text and one answer
-pub is_audit_text-unique : HasOneListOfSummaries → (names : List (List ℕ)) (files : List FileText)
-    (o : AuditOptions)
-    (all every : Bool) (text other : List ℕ) → IsAuditText o names files all text
-    → IsAuditText o names files every other → (all ≡ every) × (text ≡ other)
-is_audit_text-unique one_list names files o all every text other p q =
-    let same = means_audited-unique one_list o names files q.domain p.domain q.means p.means in
+pub is_audit_text-unique : HasOneListOfSummaries → HasOneOfAsked → (left : LeftOutValue)
+    (files : List FileText) (o : AuditOptions)
+    (all every : Bool) (text other : List ℕ) → IsAuditText o left files all text
+    → IsAuditText o left files every other → (all ≡ every) × (text ≡ other)
+is_audit_text-unique one_list one_asked left files o all every text other p q =
+    let same = means_audited-unique one_list one_asked o left files q.domain p.domain q.means p.means in
     is_audited-unique p.domain o all every text other p.means.means.rules p.holds
     (subst (λ (v : AuditedValue). IsAudited v o every other) same q.holds)

@@ -2,18 +2,18 @@
 use Rattle.std.proofs.Common.{◌≡◌, ◌≢◌, ℕ, suc, ◌+◌, ◌<◌, inl, inr, Bool, true, false}
 use Rattle.std.proofs.Common.{List, [], ◌∷◌, length, map, get_or, Option, Some, None}
 use Rattle.std.proofs.Common.{refl, sym, ap, ap₂, subst, ◌∙◌, arith}
-use Rattle.std.specs.Prelude.{◌==◌, ◌↔◌, IsTrue, ⊤, not}
+use Rattle.std.specs.Prelude.{◌==◌, ◌↔◌, IsTrue, ⊤, nat_lt, not}
 use Rattle.std.specs.List.Sorted.{IsStrictlyIncreasing}
 use Rattle.std.proofs.lemmas.Bool.{false≢true}
 use Rattle.mc_tables.specs.Summary.{SummaryValue}
 use Rattle.mc_theory.specs.Certificates.{Entry, IsReordering, IsRight}
 use Rattle.mc_theory.specs.Events.{Event, events}
 use Rattle.mc_theory.specs.Findings.{Choices, Finding as FindingValue, IsTravel, finding, handles}
-use Rattle.mc_theory.specs.Findings.{numbers_left}
+use Rattle.mc_theory.specs.Findings.{first_double, numbers_left}
 use Rattle.mc_theory.specs.Flights.{Copy, Flight, run, start, step}
 use Rattle.mc_theory.specs.Lists.{In}
 use Rattle.mc_theory.specs.CertificateOfCopies.{entries_of}
-use Rattle.mc_theory.specs.Nets.{IsNet, Net}
+use Rattle.mc_theory.specs.Nets.{Interface, IsNet, Net}
 use Rattle.mc_theory.specs.ExcludedRouters.{IsSecondCopyOrStray}
 use Rattle.mc_theory.specs.ShownFrom.{IsShownFrom}
 use Rattle.mc_theory.specs.Findings.Finding.{Clean as FoundClean, Duplicate as FoundDuplicate}
@@ -23,7 +23,9 @@ use Rattle.mc_theory.proofs.ShownFrom.{need-unique}
 use Rattle.mc_forward.specs.Domains.{DomainValue, IsDomain, net_of, ttl_of}
 use Rattle.mc_forward.specs.ListedTables.{DomainFacts, facts}
 use Rattle.mc_forward.proofs.DomainLemmas.{is_net-net_of}
-use Rattle.mc_replay.specs.FindingValues.{finding_value}
+use Rattle.mc_replay.specs.FindingValues.{finding_value, optional_finding_value}
+use Rattle.mc_replay.proofs.PastStraysLemmas.{ends_past_strays-unique}
+use Rattle.mc_topology.specs.Topology.{TopologyValue}
 use Rattle.mc_replay.specs.Travels.{IsTravelTo}
 use Rattle.mc_replay.specs.declared.finding.Finding.{Finding}
 use Rattle.mc_replay.specs.declared.finding.Finding.TheVariants.{Clean, Duplicate, Loop, Stray}
@@ -35,6 +37,7 @@ use Rattle.mc_maker.specs.declared.examined_flights.ExaminedFlights.{ExaminedFli
 use Rattle.mc_maker.specs.declared.examined_flights.ExaminedFlights.TheVariants.{Certified}
 use Rattle.mc_maker.specs.declared.examined_flights.ExaminedFlights.TheVariants.{FoundAtTtl255}
 use Rattle.mc_maker.specs.declared.examined_flights.ExaminedFlights.TheVariants.{FoundAtFlowTtl}
+use Rattle.mc_explain.specs.Behind.{IsBehind, IsBehindIn}
 use Rattle.mc_explain.specs.Explained.{ExplainsAtFlowTtl, ExplainsFinding, IsExplained}
 use Rattle.mc_explain.specs.SearchLine.{Search}
 use Rattle.mc_explain.specs.SearchReach.{name_excluded_router}
@@ -43,10 +46,14 @@ use Rattle.mc_explain.specs.WantedText.{missed_besides}
 use Rattle.mc_explain.specs.declared.searches.search_line.SearchLine.{SearchLine}
 use Rattle.mc_explain.specs.declared.searches.searching.LanSearch.{LanSearch}
 use Rattle.mc_explain.specs.declared.causes.Cause.{Cause}
+use Rattle.mc_explain.specs.declared.causes.behind.Behind.{Behind}
 use Rattle.mc_explain.specs.declared.causes.explanation.Certainty.{Certainty}
+use Rattle.mc_explain.specs.declared.causes.explanation.ShownBy.{ShownBy}
 use Rattle.mc_explain.proofs.UniqueCauseLemmas.{causes-are_unique}
 use Rattle.mc_run.specs.AuditExplanation.{IsExplanation, IsSearchAt255, IsSearchIfMissed, also_missed}
-use Rattle.mc_run.specs.AuditExplanation.{IsShownFromAt255, IsShownFromUnless, is_known_wrong}
+use Rattle.mc_run.specs.AuditExplanation.{IsBehindAt255, IsBehindIfStray, IsFoundAtFlowTtl, IsFoundAtFlowTtlIf}
+use Rattle.mc_run.specs.AuditExplanation.{IsFoundBelow, IsShownBy}
+use Rattle.mc_run.specs.AuditExplanation.{IsShownFromAt255, IsShownFromUnless, certain_finding, is_known_wrong}
 use Rattle.mc_run.specs.AuditExplanation.{search_context}
 use Rattle.mc_run.specs.AuditExplanation.{without_remedies}
 use Rattle.mc_run.specs.AuditText.{Explanation}
@@ -342,6 +349,82 @@ also_missed-same_flights d flow (FoundAtTtl255 a) (FoundAtFlowTtl b c) same = ab
 also_missed-same_flights d flow (FoundAtFlowTtl a b) (Certified ys) same = absurd same
 also_missed-same_flights d flow (FoundAtFlowTtl a b) (FoundAtTtl255 c) same = absurd same
 
+-- ---- what is behind a stray
+
+-- Both have the same parts.
+pub record IsSameBehind (x y : Behind) : Type 0 where
+  pub finding : x.finding ≡ y.finding
+  pub causes : x.causes.items ≡ y.causes.items
+  pub shown_from : x.shown_from ≡ y.shown_from
+  pub strays : x.strays.items ≡ y.strays.items
+  pub open_routers : x.open_routers.items ≡ y.open_routers.items
+  pub missed : x.missed.items ≡ y.missed.items
+
+abbrev pub HaveSameBehind : Option Behind → Option Behind → Type 0
+HaveSameBehind None None = ⊤
+HaveSameBehind (Some x) (Some y) = IsSameBehind x y
+HaveSameBehind _ _ = ⊥
+
+optional_finding-same_value : (s t : Option Finding) → optional_finding_value s ≡ optional_finding_value t → s ≡ t
+optional_finding-same_value None None e = refl
+optional_finding-same_value None (Some y) e = absurd cc
+optional_finding-same_value (Some x) None e = absurd cc
+optional_finding-same_value (Some x) (Some y) e =
+    let same : finding_value x ≡ finding_value y = cc in
+    ap Some (sym (finding_value-injective x) ∙ ap finding_of_value same ∙ finding_value-injective y)
+
+is_behind_in-unique : (whole greatest : Bool) (t : TopologyValue) (n : Net) (own : Interface) (g : Flight)
+    (double : Option Copy) (x y : Behind) → IsBehindIn whole greatest t n own g double x
+    → IsBehindIn whole greatest t n own g double y → IsSameBehind x y
+is_behind_in-unique whole greatest t n own g double x y p q = record {
+  finding = optional_finding-same_value x.finding y.finding (p.finding ∙ sym q.finding);
+  causes = p.causes ∙ sym q.causes;
+  shown_from = p.shown ∙ sym q.shown;
+  strays = p.strays ∙ sym q.strays;
+  open_routers = p.not_followed ∙ sym q.not_followed;
+  missed = p.missed ∙ sym q.missed;
+}
+
+is_behind-unique : (whole : Bool) (d : DomainValue) (flow : ℕ) (own : Interface) (x y : Behind)
+    → IsBehind whole d flow own x → IsBehind whole d flow own y → IsSameBehind x y
+is_behind-unique whole d flow own x y p q =
+    let n = net_of d flow in
+    let same = ends_past_strays-unique n (start n 255) p.flight q.flight p.run q.run in
+    is_behind_in-unique whole (ttl_of d flow == 255) d.topology n own q.flight (first_double [] q.flight.carried) x y
+    (subst (λ (g : Flight). IsBehindIn whole (ttl_of d flow == 255) d.topology n own g (first_double [] g.carried) x)
+    same p.shows) q.shows
+
+same_behind-none : (s t : Option Behind) → s ≡ None → t ≡ None → HaveSameBehind s t
+same_behind-none s t none other =
+    subst (λ (o : Option Behind). HaveSameBehind o t) (sym none)
+    (subst (λ (o : Option Behind). HaveSameBehind None o) (sym other) tt)
+
+is_behind_if_stray-unique : (whole : Bool) (d : DomainValue) (flow : ℕ) (x : Finding) (s t : Option Behind)
+    → IsBehindIfStray whole d flow x s → IsBehindIfStray whole d flow x t → HaveSameBehind s t
+is_behind_if_stray-unique whole d flow Clean s t p q = same_behind-none s t p q
+is_behind_if_stray-unique whole d flow (Duplicate lan) s t p q = same_behind-none s t p q
+is_behind_if_stray-unique whole d flow (Loop lan) s t p q = same_behind-none s t p q
+is_behind_if_stray-unique whole d flow (Missed lan) s t p q = same_behind-none s t p q
+is_behind_if_stray-unique whole d flow (Stray router vif) None t p q = absurd p
+is_behind_if_stray-unique whole d flow (Stray router vif) (Some x) None p q = absurd q
+is_behind_if_stray-unique whole d flow (Stray router vif) (Some x) (Some y) p q =
+    is_behind-unique whole d flow (router, vif) x y p q
+
+is_behind_at_255-unique : (whole : Bool) (d : DomainValue) (flow : ℕ) (a b : ExaminedFlights) (s t : Option Behind)
+    → HaveSameFlights a b → IsBehindAt255 whole d flow a s → IsBehindAt255 whole d flow b t → HaveSameBehind s t
+is_behind_at_255-unique whole d flow (Certified xs) (Certified ys) s t same p q = same_behind-none s t p q
+is_behind_at_255-unique whole d flow (FoundAtTtl255 a) (FoundAtTtl255 b) s t same p q =
+    is_behind_if_stray-unique whole d flow b.travel.finding s t
+    (subst (λ (x : Finding). IsBehindIfStray whole d flow x s) same.finding p) q
+is_behind_at_255-unique whole d flow (FoundAtFlowTtl a b) (FoundAtFlowTtl c e) s t same p q =
+    same_behind-none s t p q
+is_behind_at_255-unique whole d flow (Certified xs) (FoundAtTtl255 b) s t same p q = absurd same
+is_behind_at_255-unique whole d flow (Certified xs) (FoundAtFlowTtl b c) s t same p q = absurd same
+is_behind_at_255-unique whole d flow (FoundAtTtl255 a) (Certified ys) s t same p q = absurd same
+is_behind_at_255-unique whole d flow (FoundAtTtl255 a) (FoundAtFlowTtl b c) s t same p q = absurd same
+is_behind_at_255-unique whole d flow (FoundAtFlowTtl a b) (Certified ys) s t same p q = absurd same
+is_behind_at_255-unique whole d flow (FoundAtFlowTtl a b) (FoundAtTtl255 c) s t same p q = absurd same
+
 -- ---- whole explanations
 
 -- Two explanations are the same.
@@ -349,6 +432,7 @@ pub record IsSameExplanation (x y : Explanation) : Type 0 where
   pub printed : x.printed ≡ y.printed
   pub search : HaveSameSearch x.search y.search
   pub also : x.also ≡ y.also
+  pub behind : HaveSameBehind x.behind y.behind
   pub certainty : x.certainty ≡ y.certainty
 
 is_known_wrong-same_search : (whole : Bool) (s t : Option LanSearch) → HaveSameSearch s t
@@ -399,8 +483,39 @@ is_shown_from-unique d flow (FoundAtTtl255 a) (FoundAtFlowTtl b c) s t ok same p
 is_shown_from-unique d flow (FoundAtFlowTtl a b) (Certified ys) s t ok same p q = absurd same
 is_shown_from-unique d flow (FoundAtFlowTtl a b) (FoundAtTtl255 c) s t ok same p q = absurd same
 
-same_certainty : (x y : Certainty) → x.known ≡ y.known → x.shown_from ≡ y.shown_from → x ≡ y
-same_certainty x y known shown = λ i. record { known = known i; shown_from = shown i }
+-- and so is what a packet with the flow's own TTL meets
+is_found_at_flow_ttl-unique : (whole : Bool) (d : DomainValue) (flow : ℕ) (s t : Option Finding)
+    → IsFoundAtFlowTtl whole d flow s → IsFoundAtFlowTtl whole d flow t → s ≡ t
+is_found_at_flow_ttl-unique whole d flow s t p q =
+    let n = net_of d flow in
+    let same = is_travel_to-unique n (length d.topology.lans) first_choices (start n (ttl_of d flow)) p.runs.0
+    q.runs.0 p.travel.events.items q.travel.events.items (finding_value p.travel.finding)
+    (finding_value q.travel.finding) p.runs.1 q.runs.1 in
+    let finding : p.travel.finding ≡ q.travel.finding = sym (finding_value-injective p.travel.finding)
+    ∙ ap finding_of_value same.2 ∙ finding_value-injective q.travel.finding in
+    p.certain ∙ ap (certain_finding whole) finding ∙ sym q.certain
+
+is_found_at_flow_ttl_if-unique : (less whole : Bool) (d : DomainValue) (flow : ℕ) (s t : Option Finding)
+    → IsFoundAtFlowTtlIf less whole d flow s → IsFoundAtFlowTtlIf less whole d flow t → s ≡ t
+is_found_at_flow_ttl_if-unique true whole d flow s t p q = is_found_at_flow_ttl-unique whole d flow s t p q
+is_found_at_flow_ttl_if-unique false whole d flow s t p q = p ∙ sym q
+
+is_found_below-unique : (whole : Bool) (d : DomainValue) (flow : ℕ) (from : Option ℕ) (s t : Option Finding)
+    → IsFoundBelow whole d flow from s → IsFoundBelow whole d flow from t → s ≡ t
+is_found_below-unique whole d flow None s t p q = p ∙ sym q
+is_found_below-unique whole d flow (Some k) s t p q =
+    is_found_at_flow_ttl_if-unique (nat_lt (ttl_of d flow) k) whole d flow s t p q
+
+is_shown_by-unique : (whole : Bool) (d : DomainValue) (flow : ℕ) (a b : ExaminedFlights) (s t : ShownBy)
+    → IsDomain d → HaveSameFlights a b → IsShownBy whole d flow a s → IsShownBy whole d flow b t → s ≡ t
+is_shown_by-unique whole d flow a b s t ok same p q =
+    let from = is_shown_from-unique d flow a b s.from t.from ok same p.from q.from in
+    let below = is_found_below-unique whole d flow t.from s.at_flow_ttl t.at_flow_ttl
+    (subst (λ (o : Option ℕ). IsFoundBelow whole d flow o s.at_flow_ttl) from p.below) q.below in
+    λ i. record { from = from i; at_flow_ttl = below i }
+
+same_certainty : (x y : Certainty) → x.known ≡ y.known → x.shown_by ≡ y.shown_by → x ≡ y
+same_certainty x y known shown = λ i. record { known = known i; shown_by = shown i }
 
 pub is_explanation-unique : (d : DomainValue) (summary : List SummaryValue) (excluded : List Bool)
     (whole : Bool) (flow : ℕ) (a b : ExaminedFlights) (x y : Explanation) → IsDomain d → HaveSameFlights a b
@@ -416,7 +531,8 @@ is_explanation-unique d summary excluded whole flow a b x y ok same p q =
           ∙ sym q.printed.shown;
       search = search;
       also = p.also ∙ also_missed-same_flights (facts d) flow a b same ∙ sym q.also;
+      behind = is_behind_at_255-unique whole d flow a b x.behind y.behind same p.behind q.behind;
       certainty = same_certainty x.certainty y.certainty
           (p.known ∙ is_known_wrong-same_search whole x.search y.search search ∙ sym q.known)
-          (is_shown_from-unique d flow a b x.certainty.shown_from y.certainty.shown_from ok same p.shown q.shown);
+          (is_shown_by-unique whole d flow a b x.certainty.shown_by y.certainty.shown_by ok same p.shown q.shown);
     }

@@ -26,6 +26,7 @@ use Rattle.mc_input.specs.ExcludedRouters.{is_excluded}
 use Rattle.mc_input.specs.Meaning.{FilesMeanDomain}
 use Rattle.mc_input.proofs.ExcludedPerFlowLemmas.{ExcludesRouters-from_files}
 use Rattle.mc_run.specs.AuditEnd.{FlowAnswer, begin_lines, end_lines}
+use Rattle.mc_run.specs.AuditRun.{LeftOutValue}
 use Rattle.mc_run.specs.AuditRun.{AreFoundInWhole, WritesOfEachInWhole, IsFlowAnswer, IsAudited, IsAuditText}
 use Rattle.mc_run.specs.AuditRun.{IsChecked, IsFoundInWhole, MeansAudited, AuditedValue}
 use Rattle.mc_run.specs.AuditRun.{SaysYesOf, is_whole, excluded}
@@ -49,32 +50,32 @@ found_ttl-flow_ttl_or_255 d flow (FoundAtFlowTtl greatest least) ok lt =
     (omega arith, ttl-at_most_255 d flow ok lt)
 
 -- it is a fault of the whole domain, whatever the excluded routers have
-not_right-whole_domain : (o : AuditOptions) (names : List (List ℕ)) (files : List FileText) (v : AuditedValue)
-    (flow ttl : ℕ) (travel : Travel) → MeansAudited o names files v → ttl_of v.domain flow ≤ ttl
+not_right-whole_domain : (o : AuditOptions) (left : LeftOutValue) (files : List FileText) (v : AuditedValue)
+    (flow ttl : ℕ) (travel : Travel) → MeansAudited o left files v → ttl_of v.domain flow ≤ ttl
     → ttl ≤ 255 → IsFirstPickTravel v.domain flow ttl travel
     → IsSecondCopyOrStray (finding_value travel.finding)
     → (whole : DomainValue) → FilesMeanDomain files whole → IsRight (net_of whole flow) → ⊥
-not_right-whole_domain o names files v flow ttl travel audited_value low high runs unclean whole means =
-    not_right-from_unclean_travel (is_excluded whole.topology names) (net_of v.domain flow)
+not_right-whole_domain o left files v flow ttl travel audited_value low high runs unclean whole means =
+    not_right-from_unclean_travel (is_excluded whole.topology left.routers) (net_of v.domain flow)
     (net_of whole flow)
     (length v.domain.topology.lans) ttl [] false runs.1.picks (finding_value travel.finding)
-    (ExcludesRouters-from_files names files v.domain whole audited_value.means means flow) low high
+    (ExcludesRouters-from_files left.routers files v.domain whole audited_value.means means flow) low high
     runs.1.travel unclean
 
-is_found_in_whole-answer_lines : (o : AuditOptions) (names : List (List ℕ)) (files : List FileText)
+is_found_in_whole-answer_lines : (o : AuditOptions) (left : LeftOutValue) (files : List FileText)
     (v : AuditedValue)
     (printed : List Tree) (flow : ℕ) (x : Examined) (e : Explanation) (wanted lines : List ℕ)
-    → MeansAudited o names files v → IsChecked v.domain flow x
+    → MeansAudited o left files v → IsChecked v.domain flow x
     → IfFound (IsFirstPickTravel v.domain flow) x
     → IfFound (λ ttl travel. (ttl_of v.domain flow ≤ ttl) × (ttl ≤ 255)) x
     → wanted ≡ lans_wanting (facts v.domain) flow
     → lines ≡ answer_lines o (is_whole v) (facts v.domain) v.summary printed flow x e wanted
     → SaysYesOf v o flow lines ⊎ IsFoundInWhole v o files flow lines
-is_found_in_whole-answer_lines o names files v printed flow (examined.Certified entries) e wanted
+is_found_in_whole-answer_lines o left files v printed flow (examined.Certified entries) e wanted
     lines audited_value checked
     runs within wants is = inl (says_yes_of-certified v o printed flow entries e wanted lines
     checked wants is)
-is_found_in_whole-answer_lines o names files v printed flow (examined.Found ttl travel) e wanted
+is_found_in_whole-answer_lines o left files v printed flow (examined.Found ttl travel) e wanted
     lines audited_value checked
     runs within wants is = inr (record {
       ttl = ttl;
@@ -84,49 +85,49 @@ is_found_in_whole-answer_lines o names files v printed flow (examined.Found ttl 
       greatest = within.1;
       runs = runs;
       spelled = is;
-      wrong = not_right-whole_domain o names files v flow ttl travel audited_value within.0 within.1 runs;
+      wrong = not_right-whole_domain o left files v flow ttl travel audited_value within.0 within.1 runs;
     })
 
-is_found_in_whole-flow_answer : (o : AuditOptions) (names : List (List ℕ)) (files : List FileText)
+is_found_in_whole-flow_answer : (o : AuditOptions) (left : LeftOutValue) (files : List FileText)
     (v : AuditedValue)
-    (printed : List Tree) (flow : ℕ) (a : FlowAnswer) → MeansAudited o names files v
+    (printed : List Tree) (flow : ℕ) (a : FlowAnswer) → MeansAudited o left files v
     → (is : IsFlowAnswer v o printed flow a)
     → SaysYesOf v o flow a.lines ⊎ IsFoundInWhole v o files flow a.lines
-is_found_in_whole-flow_answer o names files v printed flow a audited_value is =
+is_found_in_whole-flow_answer o left files v printed flow a audited_value is =
     let runs = subst (λ (x : Examined). IfFound (IsFirstPickTravel v.domain flow) x) (sym is.examined)
     (is_first_pick_travel-of_examined v.domain flow is.flights is.has_flights) in
     let within = subst (λ (x : Examined).
     IfFound (λ ttl travel. (ttl_of v.domain flow ≤ ttl) × (ttl ≤ 255)) x) (sym is.examined)
     (found_ttl-flow_ttl_or_255 v.domain flow is.flights audited_value.means.rules is.listed) in
-    is_found_in_whole-answer_lines o names files v printed flow a.examined is.explanation
+    is_found_in_whole-answer_lines o left files v printed flow a.examined is.explanation
     a.wanted a.lines audited_value is.checked runs within is.wanted is.spelled
 
-writes_of_each_in_whole-audited : (o : AuditOptions) (names : List (List ℕ)) (files : List FileText)
+writes_of_each_in_whole-audited : (o : AuditOptions) (left : LeftOutValue) (files : List FileText)
     (v : AuditedValue)
-    (all : Bool) (written : List ℕ) → MeansAudited o names files v → IsAudited v o all written
+    (all : Bool) (written : List ℕ) → MeansAudited o left files v → IsAudited v o all written
     → WritesOfEachInWhole v o files all written
-writes_of_each_in_whole-audited o names files v all written audited_value a =
+writes_of_each_in_whole-audited o left files v all written audited_value a =
     let answers = a.answers in
     let are = a.are_answers in
     record {
-      begin = begin_lines o (facts v.domain) (excluded v);
+      begin = begin_lines o (facts v.domain) (excluded v) v.ignored;
       lines = map (λ b. b.lines) answers;
-      end = end_lines o v.domain.topology v.summary (excluded v) all answers;
+      end = end_lines o v.domain.topology v.summary v.asked (excluded v) (is_whole v) all answers;
       count = length-map answers (λ (b : FlowAnswer). b.lines) ∙ are.count;
       each = each_answer-each_lines (λ flow ls. SaysYesOf v o flow ls ⊎ IsFoundInWhole v o files flow ls) v o
-          answers are (λ printed flow b is. is_found_in_whole-flow_answer o names files v printed
+          answers are (λ printed flow b is. is_found_in_whole-flow_answer o left files v printed
           flow b audited_value is);
       spelled = audit_text-split_at_lines v o all written a;
     }
 
 pub is_output_of-found_in_whole : (contents : Option (List FileText)) (o : AuditOptions)
-    (names : List (List ℕ))
-    (s : Result RunOutput RunFault) → IsOutputOf contents (IsAuditText o names) s
-    → IsOutputOf contents (AreFoundInWhole o names) s
-is_output_of-found_in_whole contents o names s =
-    is_output_of-implication contents (IsAuditText o names) (AreFoundInWhole o names) s
+    (left : LeftOutValue)
+    (s : Result RunOutput RunFault) → IsOutputOf contents (IsAuditText o left) s
+    → IsOutputOf contents (AreFoundInWhole o left) s
+is_output_of-found_in_whole contents o left s =
+    is_output_of-implication contents (IsAuditText o left) (AreFoundInWhole o left) s
     (λ files all written is. record {
       domain = is.domain;
       means = is.means;
-      holds = writes_of_each_in_whole-audited o names files is.domain all written is.means is.holds;
+      holds = writes_of_each_in_whole-audited o left files is.domain all written is.means is.holds;
     })

@@ -9,7 +9,8 @@ use Rattle.mc_explain.proofs.LineFeedLemmas.{no_feed-from_list_all}
 use Rattle.mc_files.specs.Files.{FileText}
 use Rattle.mc_forward.specs.ListedTables.{facts}
 use Rattle.mc_run.specs.AuditEnd.{begin_lines, end_lines, verdict_line}
-use Rattle.mc_run.specs.AuditRun.{AreYesWords, IsAuditText, is_yes, excluded, yes_object, yes_words}
+use Rattle.mc_run.specs.AuditRun.{AreYesWords, IsAuditText, LeftOutValue, excluded, is_whole, is_yes, yes_object}
+use Rattle.mc_run.specs.AuditRun.{yes_words}
 use Rattle.mc_run.specs.CheckRun.{BundleKeepsHeadline, IsLineStart, IsVerdictText, SaysYes, WroteAtStart}
 use Rattle.mc_run.specs.CheckRun.{WroteYes}
 use Rattle.mc_run.specs.RunOutput.{IsOutputWritten}
@@ -170,63 +171,63 @@ append-assoc_four : (a b c d : List ℕ) → a ++ (b ++ (c ++ d)) ≡ (a ++ (b +
 append-assoc_four a b c d = simp append_assoc
 
 -- its lines, and the last one after them
-audit_text-lines_and_verdict : (names : List (List ℕ)) (files : List FileText) (o : AuditOptions) (all : Bool)
-    (written : List ℕ) (a : IsAuditText o names files all written)
+audit_text-lines_and_verdict : (left : LeftOutValue) (files : List FileText) (o : AuditOptions) (all : Bool)
+    (written : List ℕ) (a : IsAuditText o left files all written)
     → written ≡ text_before_verdict a.domain o a.holds.answers ++ verdict_line o.json all
-audit_text-lines_and_verdict names files o all written a =
+audit_text-lines_and_verdict left files o all written a =
     let v = a.domain in
     let answers = a.holds.answers in
     a.holds.spelled
-    ∙ append-assoc_four (begin_lines o (facts v.domain) (excluded v)) (flat_map (λ b. b.lines) answers)
-    (end_lines o v.domain.topology v.summary (excluded v) (is_yes v answers) answers)
+    ∙ append-assoc_four (begin_lines o (facts v.domain) (excluded v) v.ignored) (flat_map (λ b. b.lines) answers)
+    (end_lines o v.domain.topology v.summary v.asked (excluded v) (is_whole v) (is_yes v answers) answers)
     (verdict_line o.json (is_yes v answers))
     ∙ ap (λ every. text_before_verdict v o answers ++ verdict_line o.json every) (sym a.holds.answer)
 
-no_yes_line-before_verdict : (names : List (List ℕ)) (files : List FileText) (o : AuditOptions) (all : Bool)
-    (written : List ℕ) (a : IsAuditText o names files all written)
+no_yes_line-before_verdict : (left : LeftOutValue) (files : List FileText) (o : AuditOptions) (all : Bool)
+    (written : List ℕ) (a : IsAuditText o left files all written)
     → AreLinesWithoutYes (text_before_verdict a.domain o a.holds.answers)
-no_yes_line-before_verdict names files o all written a =
+no_yes_line-before_verdict left files o all written a =
     no_yes_line-text_before_verdict a.domain o a.holds.answers a.holds.are_answers
     a.means.means.rules.topology
 
-pub has_line-audit_text : (names : List (List ℕ)) (files : List FileText) (o : AuditOptions)
-    (written old : List ℕ) → IsAuditText o names files true written
+pub has_line-audit_text : (left : LeftOutValue) (files : List FileText) (o : AuditOptions)
+    (written old : List ℕ) → IsAuditText o left files true written
     → WroteAtStart (yes_words o.json) (Some old) (Some (old ++ written))
-has_line-audit_text names files o written old a =
+has_line-audit_text left files o written old a =
     is_last_line_yes-wrote (text_before_verdict a.domain o a.holds.answers) written old o.json
-    (no_yes_line-before_verdict names files o true written a)
-    (audit_text-lines_and_verdict names files o true written a)
+    (no_yes_line-before_verdict left files o true written a)
+    (audit_text-lines_and_verdict left files o true written a)
 
-is_last_line_yes-audit_line : (names : List (List ℕ)) (files : List FileText) (o : AuditOptions) (all : Bool)
-    (words written front rest : List ℕ) → IsAuditText o names files all written → IsLineStart front
+is_last_line_yes-audit_line : (left : LeftOutValue) (files : List FileText) (o : AuditOptions) (all : Bool)
+    (words written front rest : List ℕ) → IsAuditText o left files all written → IsLineStart front
     → AreYesWords words → written ≡ front ++ (words ++ rest) → IsLastLineYes o.json all words rest
-is_last_line_yes-audit_line names files o all words written front rest a starts are is =
+is_last_line_yes-audit_line left files o all words written front rest a starts are is =
     has_line-last_words (text_before_verdict a.domain o a.holds.answers) words front rest o.json all
-    (no_yes_line-before_verdict names files o all written a) are starts
-    (sym (audit_text-lines_and_verdict names files o all written a) ∙ is)
+    (no_yes_line-before_verdict left files o all written a) are starts
+    (sym (audit_text-lines_and_verdict left files o all written a) ∙ is)
 
-pub is_last_line_yes-audit_text : (names : List (List ℕ)) (files : List FileText) (o : AuditOptions)
+pub is_last_line_yes-audit_text : (left : LeftOutValue) (files : List FileText) (o : AuditOptions)
     (all : Bool)
-    (words written front rest : List ℕ) → IsAuditText o names files all written → IsLineStart front
+    (words written front rest : List ℕ) → IsAuditText o left files all written → IsLineStart front
     → AreYesWords words → written ≡ front ++ (words ++ rest)
     → (all ≡ true) × (words ≡ yes_words o.json) × (rest ≡ codes "\n")
-is_last_line_yes-audit_text names files o all words written front rest a starts are is =
-    let line = is_last_line_yes-audit_line names files o all words written front rest a starts are is in
+is_last_line_yes-audit_text left files o all words written front rest a starts are is =
+    let line = is_last_line_yes-audit_line left files o all words written front rest a starts are is in
     (line.all_are, line.these, line.last)
 
 -- so an audit's text with such a line says yes
-says_yes_by_line-audit_text : (o : AuditOptions) (names : List (List ℕ)) (words : List ℕ) → AreYesWords words
-    → SaysYesByLine words (IsAuditText o names)
-says_yes_by_line-audit_text o names words are files all written a (front, rest, starts, is) =
-    (is_last_line_yes-audit_line names files o all words written front rest a starts are is).all_are
+says_yes_by_line-audit_text : (o : AuditOptions) (left : LeftOutValue) (words : List ℕ) → AreYesWords words
+    → SaysYesByLine words (IsAuditText o left)
+says_yes_by_line-audit_text o left words are files all written a (front, rest, starts, is) =
+    (is_last_line_yes-audit_line left files o all words written front rest a starts are is).all_are
 
-pub says_yes_by_line-verdict_yes : (o : AuditOptions) (names : List (List ℕ))
-    → SaysYesByLine (codes "verdict yes") (IsAuditText o names)
-says_yes_by_line-verdict_yes o names = says_yes_by_line-audit_text o names (codes "verdict yes") (inl refl)
+pub says_yes_by_line-verdict_yes : (o : AuditOptions) (left : LeftOutValue)
+    → SaysYesByLine (codes "verdict yes") (IsAuditText o left)
+says_yes_by_line-verdict_yes o left = says_yes_by_line-audit_text o left (codes "verdict yes") (inl refl)
 
-pub says_yes_by_line-yes_object : (o : AuditOptions) (names : List (List ℕ))
-    → SaysYesByLine yes_object (IsAuditText o names)
-says_yes_by_line-yes_object o names = says_yes_by_line-audit_text o names yes_object (inr refl)
+pub says_yes_by_line-yes_object : (o : AuditOptions) (left : LeftOutValue)
+    → SaysYesByLine yes_object (IsAuditText o left)
+says_yes_by_line-yes_object o left = says_yes_by_line-audit_text o left yes_object (inr refl)
 
 -- ---- the audits that say yes
 
@@ -238,8 +239,8 @@ names-empty (name ∷ names) none =
     absurd (false≢true (sym some ∙ none))
 
 -- those of whole domains
-pub audit_yes-no_excluded_router : (names : List (List ℕ)) (files : List FileText) (o : AuditOptions)
-    (written : List ℕ) → IsAuditText o names files true written → names ≡ []
-audit_yes-no_excluded_router names files o written is =
+pub audit_yes-no_excluded_router : (left : LeftOutValue) (files : List FileText) (o : AuditOptions)
+    (written : List ℕ) → IsAuditText o left files true written → left.routers ≡ []
+audit_yes-no_excluded_router left files o written is =
     let whole = (and_parts _ _ (sym is.holds.answer)).0 in
-    names-empty names (ap (λ (ns : List (List ℕ)). length ns == 0) (sym is.means.without) ∙ whole)
+    names-empty left.routers (ap (λ (ns : List (List ℕ)). length ns == 0) (sym is.means.without) ∙ whole)

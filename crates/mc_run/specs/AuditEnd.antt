@@ -1,6 +1,6 @@
 -- The lines before and after those of the flows: in JSON the domain and the words of the call; the
--- unlisted sources and groups of the caches, the excluded routers, and the numbers of right, wrong and
--- unknown flows.
+-- unlisted sources and groups of the caches, what hosts ask for and no flow answers, the excluded routers, and
+-- the numbers of right, wrong and unknown flows.
 use Rattle.std.specs.Prelude.{ℕ, ◌==◌, ◌+◌, ◌&&◌, not, Bool, List, [], ◌∷◌, ◌++◌, codes, decimal, filter}
 use Rattle.std.specs.Prelude.{flat_map, length, map, if◌then◌else◌, Option, Some, None, is_none, true, false}
 use Rattle.std.specs.List.{list_all, list_any}
@@ -18,7 +18,10 @@ use Rattle.mc_json.specs.DomainData.{domain_data}
 use Rattle.mc_json.specs.EndData.{summary_data, unlisted_lines, verdict_data, without_line}
 use Rattle.mc_json.specs.RowData.{line_of}
 use Rattle.mc_cli.specs.AuditOptionWords.{faults_word, json_word, strict_word, travel_word, unlisted_word}
-use Rattle.mc_cli.specs.AuditOptionWords.{without_word}
+use Rattle.mc_cli.specs.AuditOptionWords.{ignore_word, without_word}
+use Rattle.mc_text.specs.GroupRange.{range_text}
+use Rattle.mc_input.specs.AskedOfFiles.{UnansweredWantsValue}
+use Rattle.mc_run.specs.AuditAsked.{asked_lines}
 use Rattle.mc_run.specs.VerdictText.{last_line}
 use Rattle.mc_cli.specs.declared.audit_options.AuditOptions.{AuditOptions}
 use Rattle.mc_run.specs.declared.audit.flow_status.FlowStatus.{FlowStatus}
@@ -79,20 +82,31 @@ is_unwanted a = is_certified a.examined && (length a.wanted == 0)
 abbrev pub count : (FlowAnswer → Bool) → List FlowAnswer → ℕ
 count p answers = length (filter p answers)
 
-abbrev pub summary_line : (flows right wrong unknown unwanted : ℕ) → List ℕ
-summary_line flows right wrong unknown unwanted =
+abbrev pub summary_of_flows : (flows right wrong unknown unwanted : ℕ) → List ℕ
+summary_of_flows flows right wrong unknown unwanted =
     codes "summary flows " ++ (decimal flows
     ++ (codes " right " ++ (decimal right
     ++ (codes " wrong " ++ (decimal wrong
     ++ (codes " unknown " ++ (decimal unknown
-    ++ (codes " unwanted " ++ (decimal unwanted ++ codes "\n")))))))))
+    ++ (codes " unwanted " ++ decimal unwanted))))))))
 
--- with the option strict: a yes isn't enough if some right flow is wanted by nobody
-abbrev pub strict_lines : (strict all : Bool) → (unwanted : ℕ) → List ℕ
-strict_lines strict all unwanted =
-    if strict && (all && not (unwanted == 0))
-    then codes "  strict: " ++ (decimal unwanted ++ codes " flows that nobody wants, status 1\n")
+abbrev pub summary_line : (flows right wrong unknown unwanted asked : ℕ) → List ℕ
+summary_line flows right wrong unknown unwanted asked =
+    summary_of_flows flows right wrong unknown unwanted
+    ++ (codes " asked " ++ (decimal asked ++ codes "\n"))
+
+-- With the option strict a yes isn't enough if some right flow is wanted by nobody, or if no flow answers
+-- some want.
+abbrev pub strict_line : (fails : Bool) → (count : ℕ) → (words : List ℕ) → List ℕ
+strict_line fails count words =
+    if fails && not (count == 0)
+    then codes "  strict: " ++ (decimal count ++ (words ++ codes ", status 1\n"))
     else []
+
+abbrev pub strict_lines : (strict all : Bool) → (unwanted asked : ℕ) → List ℕ
+strict_lines strict all unwanted asked =
+    strict_line (strict && all) unwanted (codes " flows that nobody wants")
+    ++ strict_line (strict && all) asked (codes " wants that no flow answers")
 
 -- ---- excluded routers
 
@@ -111,49 +125,59 @@ word_if_asked asked word = if asked then word ∷ [] else []
 abbrev pub without_words : TopologyValue → (router : ℕ) → List (List ℕ)
 without_words t router = without_word ∷ router_name t router ∷ []
 
--- the words of a call with these options that excludes the marked routers
-abbrev pub option_words : AuditOptions → TopologyValue → (excluded : List Bool) → List (List ℕ)
-option_words o t excluded =
+abbrev pub ignore_words : (range : ℕ × ℕ) → List (List ℕ)
+ignore_words range = ignore_word ∷ range_text range ∷ []
+
+-- the words of a call with these options that excludes the marked routers and leaves these ranges aside
+abbrev pub option_words : AuditOptions → TopologyValue → (excluded : List Bool) → (ignored : List (ℕ × ℕ))
+    → List (List ℕ)
+option_words o t excluded ignored =
     word_if_asked o.travels travel_word
     ++ (word_if_asked o.faults faults_word
     ++ (word_if_asked o.unlisted unlisted_word
     ++ (word_if_asked o.strict strict_word
     ++ (word_if_asked o.json json_word
-    ++ flat_map (without_words t) (excluded_routers t excluded)))))
+    ++ (flat_map (without_words t) (excluded_routers t excluded)
+    ++ flat_map ignore_words ignored)))))
 
 -- in JSON a line with the domain and these words; in text nothing
-abbrev pub begin_lines : AuditOptions → DomainFacts → (excluded : List Bool) → List ℕ
-begin_lines o d excluded =
-    if o.json then line_of (domain_data d (option_words o d.topology excluded)) else []
+abbrev pub begin_lines : AuditOptions → DomainFacts → (excluded : List Bool) → (ignored : List (ℕ × ℕ))
+    → List ℕ
+begin_lines o d excluded ignored =
+    if o.json then line_of (domain_data d (option_words o d.topology excluded ignored)) else []
 
 -- ---- after the lines of the flows, before the last line
 
--- as text, by the counts of flows, where all flows are right and no router is excluded, or not
-abbrev pub end_text : AuditOptions → TopologyValue → List SummaryValue → (excluded : List Bool)
-    → (all : Bool) → (flows right wrong unknown unwanted : ℕ) → List ℕ
-end_text o t summary excluded all flows right wrong unknown unwanted =
+-- as text, by the counts of flows and what hosts ask for, where all flows are right and no router is
+-- excluded, or not
+abbrev pub end_text : AuditOptions → TopologyValue → List SummaryValue → UnansweredWantsValue → (excluded : List Bool)
+    → (whole all : Bool) → (flows right wrong unknown unwanted : ℕ) → List ℕ
+end_text o t summary asked excluded whole all flows right wrong unknown unwanted =
     unlisted_text o.unlisted t summary
+    ++ (asked_lines false t (not whole) asked
     ++ (excluded_lines t excluded
-    ++ (summary_line flows right wrong unknown unwanted
-    ++ (excluded_text t excluded ++ strict_lines o.strict all unwanted)))
+    ++ (summary_line flows right wrong unknown unwanted asked.count
+    ++ (excluded_text t excluded ++ strict_lines o.strict all unwanted asked.count))))
 
-abbrev pub end_objects : AuditOptions → TopologyValue → List SummaryValue → (excluded : List Bool)
-    → (right wrong unknown unwanted : ℕ) → List ℕ
-end_objects o t summary excluded right wrong unknown unwanted =
+abbrev pub end_objects : AuditOptions → TopologyValue → List SummaryValue → UnansweredWantsValue
+    → (excluded : List Bool) → (whole : Bool) → (right wrong unknown unwanted : ℕ) → List ℕ
+end_objects o t summary asked excluded whole right wrong unknown unwanted =
     unlisted_lines o.unlisted t summary
-    ++ (without_line t excluded ++ line_of (summary_data right unknown unwanted wrong))
+    ++ (asked_lines true t (not whole) asked
+    ++ (without_line t excluded
+    ++ line_of (summary_data asked.count right unknown unwanted wrong)))
 
-abbrev pub end_text_or_objects : AuditOptions → TopologyValue → List SummaryValue → (excluded : List Bool)
-    → (all : Bool) → (flows right wrong unknown unwanted : ℕ) → List ℕ
-end_text_or_objects o t summary excluded all flows right wrong unknown unwanted =
-    if o.json then end_objects o t summary excluded right wrong unknown unwanted
-    else end_text o t summary excluded all flows right wrong unknown unwanted
+abbrev pub end_text_or_objects : AuditOptions → TopologyValue → List SummaryValue → UnansweredWantsValue
+    → (excluded : List Bool) → (whole all : Bool) → (flows right wrong unknown unwanted : ℕ) → List ℕ
+end_text_or_objects o t summary asked excluded whole all flows right wrong unknown unwanted =
+    if o.json then end_objects o t summary asked excluded whole right wrong unknown unwanted
+    else end_text o t summary asked excluded whole all flows right wrong unknown unwanted
 
 -- by the flows themselves
-abbrev pub end_lines : AuditOptions → TopologyValue → List SummaryValue → (excluded : List Bool)
-    → (all : Bool) → List FlowAnswer → List ℕ
-end_lines o t summary excluded all answers =
-    end_text_or_objects o t summary excluded all (length answers) (count is_right answers)
+abbrev pub end_lines : AuditOptions → TopologyValue → List SummaryValue → UnansweredWantsValue → (excluded : List Bool)
+    → (whole all : Bool) → List FlowAnswer → List ℕ
+end_lines o t summary asked excluded whole all answers =
+    end_text_or_objects o t summary asked excluded whole all (length answers) (count is_right answers)
     (count is_wrong answers)
     (count is_unknown answers)
     (count is_unwanted answers)

@@ -1,5 +1,6 @@
 -- The explanation of a flow's finding, by the flights of its packets.
-use Rattle.std.specs.Prelude.{◌≡◌, ◌==◌, ℕ, Bool, true, false, not, List, [], filter, Option, Some, None}
+use Rattle.std.specs.Prelude.{◌≡◌, ◌==◌, ℕ, Bool, true, false, not, nat_lt, List, [], filter, Option, Some}
+use Rattle.std.specs.Prelude.{None, if◌then◌else◌}
 use Rattle.mc_tables.specs.Summary.{SummaryValue}
 use Rattle.mc_theory.specs.Events.{Event}
 use Rattle.mc_theory.specs.Findings.{Finding as FindingValue, first_copy_on}
@@ -11,17 +12,22 @@ use Rattle.mc_replay.specs.FindingValues.{finding_value}
 use Rattle.mc_replay.specs.declared.finding.Finding.{Finding}
 use Rattle.mc_replay.specs.declared.finding.Finding.TheVariants.{Clean, Duplicate, Loop, Stray}
 use Rattle.mc_replay.specs.declared.finding.Finding.TheVariants.{Missed}
+use Rattle.mc_replay.specs.declared.travel.Travel.{Travel}
+use Rattle.mc_maker.specs.Examined.{IsFirstPickTravel}
 use Rattle.mc_maker.specs.declared.examined_flights.ExaminedFlights.{ExaminedFlights}
 use Rattle.mc_maker.specs.declared.examined_flights.ExaminedFlights.TheVariants.{Certified}
 use Rattle.mc_maker.specs.declared.examined_flights.ExaminedFlights.TheVariants.{FoundAtTtl255}
 use Rattle.mc_maker.specs.declared.examined_flights.ExaminedFlights.TheVariants.{FoundAtFlowTtl}
+use Rattle.mc_explain.specs.Behind.{IsBehind}
 use Rattle.mc_explain.specs.Explained.{IsExplained}
+use Rattle.mc_explain.specs.declared.causes.behind.Behind.{Behind}
 use Rattle.mc_explain.specs.ShownNeed.{IsShownFromIfAny}
 use Rattle.mc_explain.specs.SearchReach.{IsLanSearch, name_excluded_router}
 use Rattle.mc_explain.specs.SearchLine.{Search}
 use Rattle.mc_explain.specs.WantedText.{missed_besides}
 use Rattle.mc_explain.specs.declared.searches.searching.LanSearch.{LanSearch}
 use Rattle.mc_explain.specs.declared.causes.Cause.{Cause}
+use Rattle.mc_explain.specs.declared.causes.explanation.ShownBy.{ShownBy}
 use Rattle.mc_explain.specs.declared.causes.Cause.TheVariants.{Circle, LeastTtl, OnlyEverySource}
 use Rattle.mc_explain.specs.declared.causes.Cause.TheVariants.{SentOnto, StoppedAt, TakeOut, Unplaced}
 use Rattle.mc_run.specs.AuditText.{Explanation}
@@ -109,11 +115,63 @@ IsShownFromAt255 d flow (FoundAtTtl255 ended) shown = IsShownFromUnless (ttl_of 
     (net_of d flow) ended.flight.flight.carried (finding_value ended.travel.finding) shown
 IsShownFromAt255 d flow (FoundAtFlowTtl greatest least) shown = shown ≡ None
 
+-- ---- what a packet with the flow's own TTL meets
+-- Of a packet with the flow's own TTL each finding is said, where the whole domain is known. Otherwise a
+-- second copy or a stray is, which no tables of the excluded routers take away.
+abbrev pub certain_finding : (whole : Bool) → Finding → Option Finding
+certain_finding whole Clean = if whole then Some Clean else None
+certain_finding whole (Missed lan) = if whole then Some (Missed lan) else None
+certain_finding whole (Duplicate lan) = Some (Duplicate lan)
+certain_finding whole (Loop lan) = Some (Loop lan)
+certain_finding whole (Stray router vif) = Some (Stray router vif)
+
+-- the finding of the travel of a packet with the flow's TTL, in which the first waiting copy is handled each
+-- time
+pub record IsFoundAtFlowTtl (whole : Bool) (d : DomainValue) (flow : ℕ) (found : Option Finding) : Type 0 where
+  pub travel : Travel
+  pub runs : IsFirstPickTravel d flow (ttl_of d flow) travel
+  pub certain : found ≡ certain_finding whole travel.finding
+
+-- It is said where that TTL is less than the one from which on packets show the finding at TTL 255.
+abbrev pub IsFoundAtFlowTtlIf : (less whole : Bool) → DomainValue → (flow : ℕ) → Option Finding → Type 0
+IsFoundAtFlowTtlIf true whole d flow found = IsFoundAtFlowTtl whole d flow found
+IsFoundAtFlowTtlIf false whole d flow found = found ≡ None
+
+abbrev pub IsFoundBelow : (whole : Bool) → DomainValue → (flow : ℕ) → (shown_from : Option ℕ)
+    → Option Finding → Type 0
+IsFoundBelow whole d flow None found = found ≡ None
+IsFoundBelow whole d flow (Some k) found =
+    IsFoundAtFlowTtlIf (nat_lt (ttl_of d flow) k) whole d flow found
+
+-- which packets show the finding
+pub record IsShownBy (whole : Bool) (d : DomainValue) (flow : ℕ) (flights : ExaminedFlights)
+    (shown_by : ShownBy) : Type 0 where
+  pub from : IsShownFromAt255 d flow flights shown_by.from
+  pub below : IsFoundBelow whole d flow shown_by.from shown_by.at_flow_ttl
+
+-- ---- what is behind a stray
+-- of this finding of a packet with TTL 255, if it is a stray
+abbrev pub IsBehindIfStray : (whole : Bool) → DomainValue → (flow : ℕ) → Finding → Option Behind → Type 0
+IsBehindIfStray whole d flow (Stray router vif) None = ⊥
+IsBehindIfStray whole d flow (Stray router vif) (Some b) = IsBehind whole d flow (router, vif) b
+IsBehindIfStray whole d flow Clean behind = behind ≡ None
+IsBehindIfStray whole d flow (Duplicate lan) behind = behind ≡ None
+IsBehindIfStray whole d flow (Loop lan) behind = behind ≡ None
+IsBehindIfStray whole d flow (Missed lan) behind = behind ≡ None
+
+-- A packet with the flow's own TTL makes no stray where one with TTL 255 makes none.
+abbrev pub IsBehindAt255 : (whole : Bool) → DomainValue → (flow : ℕ) → ExaminedFlights → Option Behind → Type 0
+IsBehindAt255 whole d flow (Certified entries) behind = behind ≡ None
+IsBehindAt255 whole d flow (FoundAtTtl255 ended) behind =
+    IsBehindIfStray whole d flow ended.travel.finding behind
+IsBehindAt255 whole d flow (FoundAtFlowTtl greatest least) behind = behind ≡ None
+
 -- The explanation of the finding of a domain's flow, by the flights of its packets.
 pub record IsExplanation (d : DomainValue) (summary : List SummaryValue) (excluded : List Bool)
     (whole : Bool) (flow : ℕ) (flights : ExaminedFlights) (x : Explanation) : Type 0 where
   pub printed : ArePrintedCauses whole d flow flights x.printed
   pub search : IsSearchAt255 (facts d) summary excluded flow flights x.search
   pub also : x.also ≡ also_missed (facts d) flow flights
+  pub behind : IsBehindAt255 whole d flow flights x.behind
   pub known : x.certainty.known ≡ is_known_wrong whole x.search
-  pub shown : IsShownFromAt255 d flow flights x.certainty.shown_from
+  pub shown : IsShownBy whole d flow flights x.certainty.shown_by

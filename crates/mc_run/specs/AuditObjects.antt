@@ -6,6 +6,7 @@ use Rattle.mc_forward.specs.ListedTables.{DomainFacts}
 use Rattle.mc_cert.specs.Certificate.{Tree}
 use Rattle.mc_cert.specs.Distinct.{find_tree, tree_number_of, with_tree}
 use Rattle.mc_replay.specs.declared.travel.Travel.{Travel}
+use Rattle.mc_json.specs.BehindData.{behind_data}
 use Rattle.mc_json.specs.FlowData.{right_data, tree_data, wrong_line}
 use Rattle.mc_json.specs.RowData.{lan_data, line_of}
 use Rattle.mc_json.specs.TreeKey.{tree_key}
@@ -44,4 +45,4 @@ abbrev pub wrong_object : (travels : Bool) → DomainFacts → List SummaryValue
     → Explanation → List ℕ
 wrong_object travels d summary flow ttl travel x =
     wrong_line d flow (flow_at d.topology flow) x.certainty ttl travel.finding travel.events.items x.also
-    (why_data d summary flow x.printed x.search) travels
+    (behind_data d summary flow x.behind) (why_data d summary flow x.printed x.search) travels

@@ -11,14 +11,18 @@ use Rattle.mc_explain.specs.WantedText.{lans_wanting, missed_besides}
 use Rattle.mc_explain.specs.declared.causes.explanation.Explanation.{Explanation as ExplanationParts}
 use Rattle.mc_explain.specs.declared.searches.searching.LanSearch.{LanSearch}
 use Rattle.mc_explain.specs.declared.causes.Cause.{Cause}
+use Rattle.mc_explain.specs.declared.causes.behind.Behind.{Behind}
 use Rattle.mc_explain.specs.declared.causes.explanation.Certainty.{Certainty}
+use Rattle.mc_explain.specs.declared.causes.explanation.ShownBy.{ShownBy}
 use Rattle.mc_input.specs.declared.domain.FolderDomain.{FolderDomain}
 use Rattle.mc_run.specs.AuditEnd.{FlowAnswer, count, end_objects, end_text, end_text_or_objects}
 use Rattle.mc_run.specs.AuditEnd.{is_right, is_unknown, is_unwanted, is_wrong}
 use Rattle.mc_run.specs.AuditObjects.{key_of_tree, right_objects, wrong_object}
 use Rattle.mc_run.specs.AuditExplanation.{is_known_wrong, search_context}
-use Rattle.mc_run.specs.AuditRun.{IsFlowAnswer, AuditedValue, excluded, is_whole, trees_shown}
-use Rattle.mc_run.specs.AuditText.{Explanation, explanation_lines, right_lines, searched_lines, wrong_lines}
+use Rattle.mc_run.specs.AuditRun.{IsFlowAnswer, AuditedValue, LeftOutValue, excluded, is_whole}
+use Rattle.mc_run.specs.AuditRun.{trees_shown}
+use Rattle.mc_run.specs.AuditText.{Explanation, behind_text, second_behind_text}
+use Rattle.mc_run.specs.AuditText.{explanation_lines, right_lines, searched_lines, wrong_lines}
 use Rattle.mc_run.specs.AuditFlowText.{right_flow_lines, shown_trees_with, status_of, status_of_right}
 use Rattle.mc_run.specs.AuditFlowText.{status_of_wrong, wrong_flow_lines}
 use Rattle.mc_cli.specs.declared.audit_options.AuditOptions.{AuditOptions}
@@ -35,12 +39,20 @@ abbrev pub audited_value : AuditedDomain → AuditedValue
 audited_value a = record {
   domain = a.domain.now;
   summary = a.summary.now;
+  asked = a.asked.now;
   without = map (λ name. name.now) a.without.now;
+  ignored = a.ignored.now;
 }
 
--- what is audited of a folder's domain without the routers of these names
-abbrev pub audited_without : (names : List (List ℕ)) → FolderDomain → AuditedValue
-audited_without names read = record { domain = read.domain; summary = read.summary.items; without = names }
+-- what is audited of a folder's domain without what is left out
+abbrev pub audited_without : LeftOutValue → FolderDomain → AuditedValue
+audited_without left read = record {
+  domain = read.domain;
+  summary = read.summary.items;
+  asked = read.asked;
+  without = left.routers;
+  ignored = left.groups;
+}
 
 -- the interfaces are those of its LANs, and the marks are those of its excluded routers
 pub record HasItsMarksAndInterfaces (a : AuditedDomain) : Type 0 where
@@ -52,22 +64,23 @@ abbrev pub also_missed_of : FinishedTravel → List ℕ
 also_missed_of ended = missed_besides (facts ended.flight.domain) ended.flight.flow
     ended.flight.flight.carried ended.travel.finding
 
--- how certain a finding is, by the search for a missed LAN and the TTL from which on packets show it, where
--- the whole domain is known, or not
-abbrev pub certainty_of : (whole : Bool) → Option LanSearch → (shown_from : Option ℕ) → Certainty
-certainty_of whole search shown_from = record {
+-- how certain a finding is, by the search for a missed LAN and the packets that show it, where the whole
+-- domain is known, or not
+abbrev pub certainty_of : (whole : Bool) → Option LanSearch → ShownBy → Certainty
+certainty_of whole search shown_by = record {
   known = is_known_wrong whole search;
-  shown_from = shown_from;
+  shown_by = shown_by;
 }
 
 -- the explanation of a finished travel's finding, with these causes, and by these
 abbrev pub explanation_in : (whole : Bool) → FinishedTravel → List Cause → Option LanSearch
-    → (shown_from : Option ℕ) → Explanation
-explanation_in whole ended printed search shown_from = record {
+    → Option Behind → ShownBy → Explanation
+explanation_in whole ended printed search behind shown_by = record {
   printed = printed;
   search = search;
   also = also_missed_of ended;
-  certainty = certainty_of whole search shown_from;
+  behind = behind;
+  certainty = certainty_of whole search shown_by;
 }
 
 -- an explanation as a value
@@ -76,6 +89,7 @@ explanation_value x = record {
   printed = x.causes.now;
   search = x.search.now;
   also = x.also.now;
+  behind = x.behind.now;
   certainty = x.certainty;
 }
 
@@ -149,6 +163,15 @@ abbrev pub searched_lines_of : AuditedDomain → (flow : ℕ) → Option LanSear
 searched_lines_of a flow search =
     searched_lines (facts (audited_value a).domain) (audited_value a).summary flow search
 
+-- the lines of a second copy behind a stray, if there is one
+abbrev pub second_behind_of : AuditedDomain → (flow : ℕ) → Behind → List ℕ
+second_behind_of a flow b = second_behind_text (facts (audited_value a).domain) (audited_value a).summary flow
+    b.causes.items b.shown_from b.finding
+
+-- the lines of what is behind a stray, if the finding is one
+abbrev pub behind_lines_of : AuditedDomain → (flow : ℕ) → Option Behind → List ℕ
+behind_lines_of a flow behind = behind_text (facts (audited_value a).domain) (audited_value a).summary flow behind
+
 -- the lines that explain the finding of a finished travel
 abbrev pub explanation_lines_of : AuditedDomain → (flow : ℕ) → Explanation → List ℕ
 explanation_lines_of a flow x =
@@ -173,10 +196,10 @@ explained_lines_of a o flow ttl ended x = wrong_flow_lines o (facts (audited_val
 
 -- and with these causes, and by these
 abbrev pub wrong_flow_lines_of : AuditedDomain → AuditOptions → (flow ttl : ℕ) → FinishedTravel → List Cause
-    → Option LanSearch → (shown_from : Option ℕ) → List ℕ
-wrong_flow_lines_of a o flow ttl ended causes search shown_from = wrong_flow_lines o (facts (audited_value a).domain)
+    → Option LanSearch → Option Behind → ShownBy → List ℕ
+wrong_flow_lines_of a o flow ttl ended causes search behind shown_by = wrong_flow_lines o (facts (audited_value a).domain)
     (audited_value a).summary flow ttl ended.travel
-    (explanation_in (is_whole (audited_value a)) ended causes search shown_from)
+    (explanation_in (is_whole (audited_value a)) ended causes search behind shown_by)
 
 -- the status of a flow with a finding, by the search for the LAN that its packet missed, if there was one
 abbrev pub status_of_wrong_flow : AuditedDomain → Option LanSearch → FlowStatus
@@ -187,20 +210,18 @@ status_of_wrong_flow a search = status_of_wrong (is_known_wrong (is_whole (audit
 -- as text, where the verdict is yes or not,
 abbrev pub end_text_of : AuditedDomain → AuditOptions → FlowCounts → (all : Bool) → List ℕ
 end_text_of a o s all = end_text o (audited_value a).domain.topology (audited_value a).summary
-    a.excluded.now all
+    (audited_value a).asked a.excluded.now (is_whole (audited_value a)) all
     (length (audited_value a).domain.topology.flows) s.right s.wrong s.unknown s.unwanted
 
 -- in JSON,
 abbrev pub end_objects_of : AuditedDomain → AuditOptions → FlowCounts → List ℕ
 end_objects_of a o s = end_objects o (audited_value a).domain.topology (audited_value a).summary
-    a.excluded.now
-    s.right s.wrong s.unknown s.unwanted
+    (audited_value a).asked a.excluded.now (is_whole (audited_value a)) s.right s.wrong s.unknown s.unwanted
 
 -- and as the options ask
 abbrev pub end_text_or_objects_of : AuditedDomain → AuditOptions → FlowCounts → (all : Bool) → List ℕ
 end_text_or_objects_of a o s all = end_text_or_objects o (audited_value a).domain.topology
-    (audited_value a).summary
-    a.excluded.now all (length (audited_value a).domain.topology.flows) s.right s.wrong s.unknown s.unwanted
+    (audited_value a).summary (audited_value a).asked a.excluded.now (is_whole (audited_value a)) all (length (audited_value a).domain.topology.flows) s.right s.wrong s.unknown s.unwanted
 
 -- ---- the output of an audit
 

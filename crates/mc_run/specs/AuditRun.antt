@@ -1,6 +1,6 @@
 -- The answer and the text of `mcaudit audit`, and what its yes promises.
 use Rattle.std.specs.Prelude.{◌≡◌, ◌<◌, ◌≤◌, ◌==◌, ◌&&◌, ◌⊎◌, ℕ, Bool, true, false, List, [], ◌++◌, codes}
-use Rattle.std.specs.Prelude.{flat_map, fold, if◌then◌else◌, length, slice_get, take, Option, Some}
+use Rattle.std.specs.Prelude.{flat_map, fold, if◌then◌else◌, length, map, slice_get, take, Option, Some}
 use Rattle.std.specs.Prelude.{Result, Ok}
 use Rattle.mc_files.specs.Files.{FileText}
 use Rattle.mc_tables.specs.Summary.{SummaryValue}
@@ -19,7 +19,10 @@ use Rattle.mc_maker.specs.Examined.{FindsFault, IfCertified, IsFirstPickTravel, 
 use Rattle.mc_maker.specs.ExaminedFlights.{HasExaminedFlights, without_flights}
 use Rattle.mc_maker.specs.declared.examination.Examined.{Examined}
 use Rattle.mc_maker.specs.declared.examined_flights.ExaminedFlights.{ExaminedFlights}
+use Rattle.mc_explain.specs.BehindFacts.{IsTrueBehind}
 use Rattle.mc_explain.specs.WantedText.{lans_wanting}
+use Rattle.mc_explain.specs.declared.causes.behind.Behind.{Behind}
+use Rattle.mc_input.specs.AskedOfFiles.{UnansweredWantsValue, IsAskedOf}
 use Rattle.mc_input.specs.Meaning.{FilesMeanDomain, MeansDomainWhere}
 use Rattle.mc_input.specs.ExcludedRouters.{AreRouterNames, files_with_exclusions}
 use Rattle.mc_input.specs.SummariesOfFiles.{AreSummariesOf}
@@ -34,15 +37,30 @@ use Rattle.mc_run.specs.AuditFlowText.{wrong_flow_lines}
 use Rattle.mc_run.specs.CheckRun.{IsLineStart, KeepsHeadline, WroteAtStart, WroteYes}
 use Rattle.mc_run.specs.MakeRun.{AreExamined, AreRight, IsExamined, certified_lists}
 use Rattle.mc_cli.specs.declared.audit_options.AuditOptions.{AuditOptions}
+use Rattle.mc_run.specs.declared.audit.audit_output.AuditCounts.{AuditCounts}
+use Rattle.mc_run.specs.declared.audit.left_out.LeftOut.{LeftOut}
 use Rattle.mc_run.specs.declared.fault.RunFault.{RunFault}
 
 -- ---- the text of a domain
 
--- a domain, a summary of each router's cache, and the names of the excluded routers
+-- what an audit leaves out: the tables of the routers of these names, and what hosts ask for of the groups in
+-- these ranges
+pub record LeftOutValue : Type 0 where
+  pub routers : List (List ℕ)
+  pub groups : List (ℕ × ℕ)
+
+-- a domain, a summary of each router's cache, what hosts ask for and no flow answers, and what is left out: the
+-- names of the excluded routers, and ranges of groups
 pub record AuditedValue : Type 0 where
   pub domain : DomainValue
   pub summary : List SummaryValue
+  pub asked : UnansweredWantsValue
   pub without : List (List ℕ)
+  pub ignored : List (ℕ × ℕ)
+
+-- what is left out, as a value
+abbrev pub left_out : LeftOut → LeftOutValue
+left_out left = record { routers = map (λ name. name.now) left.without.now; groups = left.ignored.now }
 
 -- a mark for each router: whether it is excluded
 abbrev pub excluded : AuditedValue → List Bool
@@ -95,9 +113,9 @@ is_yes v answers = is_whole v && are_right answers
 -- the whole text: the lines before the flows, those of the flows, those after them, and the verdict
 abbrev pub audit_text : AuditedValue → AuditOptions → List FlowAnswer → List ℕ
 audit_text v o answers =
-    begin_lines o (facts v.domain) (excluded v)
+    begin_lines o (facts v.domain) (excluded v) v.ignored
     ++ (flat_map (λ a. a.lines) answers
-    ++ (end_lines o v.domain.topology v.summary (excluded v) (is_yes v answers) answers
+    ++ (end_lines o v.domain.topology v.summary v.asked (excluded v) (is_whole v) (is_yes v answers) answers
     ++ verdict_line o.json (is_yes v answers)))
 
 -- The text of the domain's audit, and whether all flows are right and no router is excluded.
@@ -108,26 +126,30 @@ pub record IsAudited (v : AuditedValue) (o : AuditOptions) (all : Bool) (written
   pub answer : all ≡ is_yes v answers
   pub spelled : written ≡ audit_text v o answers
 
--- The files mean a domain with these summaries, without the routers of these names, which the domain's
--- topology has.
-pub record MeansAudited (o : AuditOptions) (names : List (List ℕ)) (files : List FileText)
+-- The files mean a domain with these summaries and with what hosts ask for in their lists, without what is
+-- left out; the domain's topology has the routers of these names.
+pub record MeansAudited (o : AuditOptions) (left : LeftOutValue) (files : List FileText)
     (v : AuditedValue) : Type 0 where
-  pub means : FilesMeanDomain (files_with_exclusions names files) v.domain
-  pub routers : AreRouterNames v.domain.topology names
-  pub summary : AreSummariesOf o.unlisted (files_with_exclusions names files) v.domain.topology v.summary
-  pub without : v.without ≡ names
+  pub means : FilesMeanDomain (files_with_exclusions left.routers files) v.domain
+  pub routers : AreRouterNames v.domain.topology left.routers
+  pub summary : AreSummariesOf o.unlisted (files_with_exclusions left.routers files) v.domain.topology v.summary
+  pub asked : IsAskedOf o.unlisted left.groups (files_with_exclusions left.routers files) v.domain v.asked
+  pub without : v.without ≡ left.routers
+  pub ignored : v.ignored ≡ left.groups
 
 -- and this is the text of its audit
-abbrev pub IsAuditText : AuditOptions → (names : List (List ℕ)) → List FileText → Bool → List ℕ
+abbrev pub IsAuditText : AuditOptions → (left : LeftOutValue) → List FileText → Bool → List ℕ
     → Type 0
-IsAuditText o names files all written =
-    MeansDomainWhere (MeansAudited o names) (λ v. IsAudited v o all written) files
+IsAuditText o left files all written =
+    MeansDomainWhere (MeansAudited o left) (λ v. IsAudited v o all written) files
 
--- the number of the domain's flows that are right, or without a finding, and wanted by no LAN
-pub record HasUnwanted (v : AuditedValue) (o : AuditOptions) (unwanted : ℕ) : Type 0 where
+-- the number of the domain's flows that are right, or without a finding, and wanted by no LAN, and how many
+-- wants of LANs no flow answers
+pub record HasCounts (v : AuditedValue) (o : AuditOptions) (counts : AuditCounts) : Type 0 where
   pub answers : List FlowAnswer
   pub are_answers : AreFlowAnswers v o answers
-  pub counted : unwanted ≡ count is_unwanted answers
+  pub unwanted : counts.unwanted ≡ count is_unwanted answers
+  pub asked : counts.asked ≡ v.asked.count
 
 -- ---- what the text says of the flows
 
@@ -165,10 +187,10 @@ pub record WritesWhichAreRight (v : AuditedValue) (o : AuditOptions) (all : Bool
   pub answer : all ≡ (is_whole v && right)
 
 -- the files mean a domain with such a text
-abbrev pub SaysWhichAreRight : AuditOptions → (names : List (List ℕ)) → List FileText → Bool
+abbrev pub SaysWhichAreRight : AuditOptions → (left : LeftOutValue) → List FileText → Bool
     → List ℕ → Type 0
-SaysWhichAreRight o names files all written =
-    MeansDomainWhere (MeansAudited o names) (λ v. WritesWhichAreRight v o all written) files
+SaysWhichAreRight o left files all written =
+    MeansDomainWhere (MeansAudited o left) (λ v. WritesWhichAreRight v o all written) files
 
 -- The lines say yes to the flow with a number of copies, or that no fault is known where routers are
 -- excluded. By the tables that were read this is true: the flow is right, the checker accepts a list
@@ -186,7 +208,8 @@ pub record SaysYesOf (v : AuditedValue) (o : AuditOptions) (flow : ℕ) (lines :
 -- finding is that of a run of its net, the travel of a packet with this TTL. The explanation is by the
 -- flights of the examination. Where a TTL is said from which on packets show the finding, each packet with
 -- that TTL or more carries two copies on the finding's LAN, or makes the stray, in each complete run in
--- which no copy is lost.
+-- which no copy is lost. Where it is said what a packet with the flow's own TTL meets, that is the finding of
+-- such a packet's travel. What is said to be behind a stray is true of one run of the flow.
 pub record SaysWhatIsFound (v : AuditedValue) (o : AuditOptions) (flow : ℕ) (lines : List ℕ)
     : Type 0 where
   pub ttl : ℕ
@@ -200,8 +223,10 @@ pub record SaysWhatIsFound (v : AuditedValue) (o : AuditOptions) (flow : ℕ) (l
   pub has_flights : HasExaminedFlights v.domain flow flights
   pub explained : IsExplanation v.domain v.summary (excluded v) (is_whole v) flow flights
       explanation
-  pub shown : (k t : ℕ) → explanation.certainty.shown_from ≡ Some k → k ≤ t
+  pub shown : (k t : ℕ) → explanation.certainty.shown_by.from ≡ Some k → k ≤ t
       → EachCompleteRunHasFault (net_of v.domain flow) t (finding_value travel.finding)
+  pub behind : (b : Behind) → explanation.behind ≡ Some b
+      → IsTrueBehind v.domain flow b
   pub spelled : lines ≡ wrong_flow_lines o (facts v.domain) v.summary flow ttl travel explanation
 
 -- The text has for each flow, in order, lines that truly say the one or the other, and last the line
@@ -217,10 +242,10 @@ pub record WritesOfEach (v : AuditedValue) (o : AuditOptions) (all : Bool) (writ
   pub spelled : written ≡ begin ++ (flat_map (λ ls. ls) lines ++ (end ++ verdict_line o.json all))
 
 -- the files mean a domain with such a text
-abbrev pub SaysOfEach : AuditOptions → (names : List (List ℕ)) → List FileText → Bool → List ℕ
+abbrev pub SaysOfEach : AuditOptions → (left : LeftOutValue) → List FileText → Bool → List ℕ
     → Type 0
-SaysOfEach o names files all written =
-    MeansDomainWhere (MeansAudited o names) (λ v. WritesOfEach v o all written) files
+SaysOfEach o left files all written =
+    MeansDomainWhere (MeansAudited o left) (λ v. WritesOfEach v o all written) files
 
 -- ---- what is found with routers excluded
 
@@ -251,10 +276,10 @@ pub record WritesOfEachInWhole (v : AuditedValue) (o : AuditOptions) (files : Li
   pub spelled : written ≡ begin ++ (flat_map (λ ls. ls) lines ++ (end ++ verdict_line o.json all))
 
 -- the files mean a domain, without these routers, with such a text
-abbrev pub AreFoundInWhole : AuditOptions → (names : List (List ℕ)) → List FileText → Bool
+abbrev pub AreFoundInWhole : AuditOptions → (left : LeftOutValue) → List FileText → Bool
     → List ℕ → Type 0
-AreFoundInWhole o names files all written =
-    MeansDomainWhere (MeansAudited o names) (λ v. WritesOfEachInWhole v o files all written) files
+AreFoundInWhole o left files all written =
+    MeansDomainWhere (MeansAudited o left) (λ v. WritesOfEachInWhole v o files all written) files
 
 -- ---- the headline
 

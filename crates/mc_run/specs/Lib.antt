@@ -1,3 +1,4 @@
+pub mod AuditAsked
 pub mod AuditEnd
 pub mod AuditObjects
 pub mod AuditPieces

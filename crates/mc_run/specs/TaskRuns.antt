@@ -13,8 +13,8 @@ use Rattle.mc_files.specs.PackRun.{WritesPackedBundle, WritesPackedPrefix}
 use Rattle.mc_input.specs.Meaning.{MeansDomainWhere}
 use Rattle.mc_cli.specs.declared.audit_words.AuditWords.{AuditWords}
 use Rattle.mc_run.specs.AuditPieces.{yes_of}
-use Rattle.mc_run.specs.AuditRun.{AreFoundInWhole, AuditSaysYes, FilesKeepHeadline, HasUnwanted}
-use Rattle.mc_run.specs.AuditRun.{IsAuditText, MeansAudited, SaysOfEach, SaysWhichAreRight}
+use Rattle.mc_run.specs.AuditRun.{AreFoundInWhole, AuditSaysYes, FilesKeepHeadline, HasCounts}
+use Rattle.mc_run.specs.AuditRun.{IsAuditText, LeftOutValue, MeansAudited, SaysOfEach, SaysWhichAreRight}
 use Rattle.mc_run.specs.CheckRun.{BundleKeepsHeadline, IsVerdictText, SaysYes}
 use Rattle.mc_run.specs.Faults.{IsFaultOfAudit, IsFaultOfCheck, IsFaultOfMake, IsFaultOfPack}
 use Rattle.mc_run.specs.Faults.{IsFaultOfReplay, IsFaultOfWants}
@@ -97,43 +97,44 @@ pub record IsPackRun (certificate : Bool) (contents : Option (List FileText))
       → IfSome contents (λ files. WritesPackedPrefix certificate files old new)
   pub faults : IfErr result IsFaultOfPack
 
--- The answer of an audit is enough: it is yes and, with `strict`, no right flow is wanted by nobody.
+-- The answer of an audit is enough: it is yes and, with `strict`, no right flow is wanted by nobody, and a
+-- flow answers each want.
 abbrev pub is_enough : (strict : Bool) → AuditAnswer → Bool
-is_enough strict answer = answer.yes && ((answer.unwanted == 0) || not strict)
+is_enough strict answer =
+    answer.yes && (((answer.counts.unwanted == 0) && (answer.counts.asked == 0)) || not strict)
 
 abbrev pub enough_of : (strict : Bool) → Result AuditAnswer RunFault → Result Bool RunFault
 enough_of strict (Ok answer) = Ok (is_enough strict answer)
 enough_of strict (Err fault) = Err fault
 
--- the names of the excluded routers
-abbrev pub excluded_names : AuditWords → List (List ℕ)
-excluded_names words = map (λ name. name.now) words.without.items
+-- what the words leave out: the excluded routers, and the ranges of groups whose wants are left aside
+abbrev pub left_out_by : AuditWords → LeftOutValue
+left_out_by words = record { routers = map (λ name. name.now) words.without.items; groups = words.ignored.items }
 
--- The answer and the text of an audit of the files, with these options and without the routers of these
--- names.
-pub record IsAuditResult (o : AuditOptions) (names : List (List ℕ)) (contents : Option (List FileText))
+-- The answer and the text of an audit of the files, with these options and without what is left out.
+pub record IsAuditResult (o : AuditOptions) (left : LeftOutValue) (contents : Option (List FileText))
     (audited : Result AuditAnswer RunFault) (old new : Option (List ℕ)) : Type 0 where
   pub answer : IfSome contents
-      (λ files. Answers (IsAuditText o names) (AreRefusedWithout names) files (yes_of audited))
-  pub written : IsWrittenWhole (IsAuditText o names) contents (yes_of audited) old new
+      (λ files. Answers (IsAuditText o left) (AreRefusedWithout left.routers) files (yes_of audited))
+  pub written : IsWrittenWhole (IsAuditText o left) contents (yes_of audited) old new
   pub part : audited ≡ Err Write
-      → IfSome contents (λ files. WritesPart (IsAuditText o names) files old new)
-  pub right : IsWrittenWhole (SaysWhichAreRight o names) contents (yes_of audited) old new
-  pub unwanted : IfOk audited (λ answer. IfSome contents
-      (MeansDomainWhere (MeansAudited o names) (λ v. HasUnwanted v o answer.unwanted)))
-  pub each : IsWrittenWhole (SaysOfEach o names) contents (yes_of audited) old new
+      → IfSome contents (λ files. WritesPart (IsAuditText o left) files old new)
+  pub right : IsWrittenWhole (SaysWhichAreRight o left) contents (yes_of audited) old new
+  pub counts : IfOk audited (λ answer. IfSome contents
+      (MeansDomainWhere (MeansAudited o left) (λ v. HasCounts v o answer.counts)))
+  pub each : IsWrittenWhole (SaysOfEach o left) contents (yes_of audited) old new
   pub each_in_part : audited ≡ Err Write
-      → IfSome contents (λ files. WritesPart (SaysOfEach o names) files old new)
-  pub excluded : IsWrittenWhole (AreFoundInWhole o names) contents (yes_of audited) old new
+      → IfSome contents (λ files. WritesPart (SaysOfEach o left) files old new)
+  pub excluded : IsWrittenWhole (AreFoundInWhole o left) contents (yes_of audited) old new
   pub faults : IfErr audited IsFaultOfAudit
   pub headline : AuditSaysYes (yes_of audited) old new → IfSome contents FilesKeepHeadline
 
--- `audit`: whether the answer of the audit is enough, with the options of the command line and without
--- the routers that it names
+-- `audit`: whether the answer of the audit is enough, with the options of the command line and without what
+-- it leaves out
 pub record IsAuditRun (words : AuditWords) (contents : Option (List FileText))
     (result : Result Bool RunFault) (old new : Option (List ℕ)) : Type 0 where
   pub audited : Result AuditAnswer RunFault
-  pub answered : IsAuditResult words.options (excluded_names words) contents audited old new
+  pub answered : IsAuditResult words.options (left_out_by words) contents audited old new
   pub enough : result ≡ enough_of words.options.strict audited
 
 -- ---- tasks that read nothing

@@ -1,6 +1,7 @@
 //! `mcaudit audit`: which flows of a folder's domain are forwarded as they should be, and for each
 //! other flow what a packet of it meets, and why.
 
+mod audit_asked;
 mod audit_end;
 mod audit_flow;
 pub(crate) mod audit_output;
@@ -8,14 +9,15 @@ mod audit_right;
 mod audit_wrong;
 mod audited_domain;
 mod flow_status;
+pub(crate) mod left_out;
 
 ghost use Rattle.std.specs.Prelude.{◌≡◌, ◌≢◌, ◌<◌, ◌==◌, ◌&&◌, IfErr, IfOk, IfSome, Err, false};
-ghost use Rattle.std.specs.Prelude.{length, map};
+ghost use Rattle.std.specs.Prelude.{length};
 ghost use Rattle.std.specs.String.{string_bytes};
 ghost use Rattle.mc_run.specs.AuditPieces.{AreAllFlowsPushed, HasItsMarksAndInterfaces, audited_value};
 ghost use Rattle.mc_run.specs.AuditPieces.{audited_without, yes_of};
-ghost use Rattle.mc_run.specs.AuditRun.{AreFoundInWhole, AuditSaysYes, HasUnwanted, FilesKeepHeadline};
-ghost use Rattle.mc_run.specs.AuditRun.{IsAudited, IsAuditText};
+ghost use Rattle.mc_run.specs.AuditRun.{AreFoundInWhole, AuditSaysYes, HasCounts, FilesKeepHeadline};
+ghost use Rattle.mc_run.specs.AuditRun.{IsAudited, IsAuditText, left_out};
 ghost use Rattle.mc_run.specs.AuditRun.{MeansAudited, SaysOfEach, SaysWhichAreRight};
 ghost use Rattle.mc_input.specs.Meaning.{MeansDomainWhere};
 ghost use Rattle.mc_text.specs.Device.{failures_after};
@@ -26,8 +28,10 @@ ghost use Rattle.mc_run.specs.RunOutput.{Answers, IsWrittenWhole, WritesPart};
 
 use crate::audit::audit_end::{begin_lines, push_end};
 use crate::audit::audit_flow::push_flow;
-pub use crate::audit::audit_output::AuditAnswer;
-use crate::audit::audit_output::{AuditOutput, with_unwanted};
+use crate::audit::audit_asked::count_asked;
+pub use crate::audit::audit_output::{AuditAnswer, AuditCounts};
+use crate::audit::audit_output::{AuditOutput, with_counts};
+pub use crate::audit::left_out::LeftOut;
 use crate::audit::audited_domain::AuditedDomain;
 use crate::audit::flow_status::FlowCounts;
 use crate::excluded::excluded_marks;
@@ -37,7 +41,7 @@ use mc_cert::DistinctTrees;
 use mc_cli::AuditOptions;
 use mc_explain::InterfacesOfLans;
 use mc_files::PieceSource;
-use mc_input::{FolderDomain, read_folder_domain};
+use mc_input::{FolderDomain, FolderOptions, read_folder_domain};
 use mc_text::{Memory as NoMemory, Output};
 use std::alloc::Global;
 
@@ -79,66 +83,80 @@ fn audit_all(
     requires valid { HasItsMarksAndInterfaces audited.now }
     ensures text { IfOk result (λ audit. IsAudited (audited_value audited.now) options audit.run_output.yes
         (string_bytes audit.run_output.text)) }
-    ensures unwanted { IfOk result (λ audit. HasUnwanted (audited_value audited.now) options audit.unwanted) }
+    ensures counts { IfOk result (λ audit. HasCounts (audited_value audited.now) options audit.counts) }
 {
-    let mut text = begin_lines(alloc, audited.domain, options, audited.excluded)?;
+    let mut text = begin_lines(alloc, audited, options)?;
     let flow_counts = push_flows(alloc, audited, options, &mut text)?;
     let yes = is_yes(audited, flow_counts);
-    push_end(alloc, &mut text, audited, options, flow_counts, yes)?;
+    let asked = count_asked(audited.asked)?;
+    push_end(alloc, &mut text, audited, options, flow_counts, asked, yes)?;
+    let counts = AuditCounts {
+        unwanted: flow_counts.unwanted,
+        asked,
+    };
     Ok(AuditOutput {
         run_output: RunOutput { text, yes },
-        unwanted: flow_counts.unwanted,
+        counts,
     })
 }
 
-/// The audit of a domain that was read without the routers of these names.
+/// The audit of a domain that was read without what is left out.
 fn audit_domain(
     alloc: Global,
     read: &FolderDomain,
     options: AuditOptions,
-    without: &[&str],
+    left: &LeftOut<'_>,
 ) -> Result<AuditOutput, NoMemory>
     ensures text { IfOk result (λ audit.
-        IsAudited (audited_without (map (λ name. name.now) without.now) read.now) options
+        IsAudited (audited_without (left_out left.now) read.now) options
         audit.run_output.yes (string_bytes audit.run_output.text)) }
-    ensures unwanted { IfOk result (λ audit. HasUnwanted
-        (audited_without (map (λ name. name.now) without.now) read.now) options audit.unwanted) }
+    ensures counts { IfOk result (λ audit. HasCounts (audited_without (left_out left.now) read.now) options
+        audit.counts) }
 {
     let interfaces = InterfacesOfLans::new(alloc, &read.domain)?;
-    let excluded = excluded_marks(alloc, read.domain.topology(), without)?;
+    let excluded = excluded_marks(alloc, read.domain.topology(), left.without)?;
     let audited = AuditedDomain {
         domain: &read.domain,
         summary: &read.summary,
+        asked: &read.asked,
         interfaces: &interfaces,
-        without,
+        without: left.without,
+        ignored: left.ignored,
         excluded: &excluded,
     };
     audit_all(alloc, &audited, options)
 }
 
-/// The audit of the domain of a folder's files, without the routers of these names.
+/// The audit of the domain of a folder's files, without what is left out.
 fn audit_files<F: PieceSource>(
     alloc: Global,
     files: &mut F,
     options: AuditOptions,
-    without: &[&str],
+    left: &LeftOut<'_>,
 ) -> Result<AuditOutput, RunFault>
     requires failures { F.failed files.old < u64.MAX }
     ensures same { F.borrows files.new ≡ F.borrows files.old }
     ensures text { IfOk result (λ audit. IfSome (F.contents files.old) (λ files.
-        IsAuditText options (map (λ name. name.now) without.now) files audit.run_output.yes
+        IsAuditText options (left_out left.now) files audit.run_output.yes
         (string_bytes audit.run_output.text))) }
-    ensures unwanted { IfOk result (λ audit. IfSome (F.contents files.old)
-        (MeansDomainWhere (MeansAudited options (map (λ name. name.now) without.now))
-        (λ v. HasUnwanted v options audit.unwanted))) }
+    ensures counts { IfOk result (λ audit. IfSome (F.contents files.old)
+        (MeansDomainWhere (MeansAudited options (left_out left.now))
+        (λ v. HasCounts v options audit.counts))) }
     ensures refused { IfErr result (λ fault. IfSome (F.contents files.old) (λ files.
-        AreRefusedWithout (map (λ name. name.now) without.now) files fault)) }
+        AreRefusedWithout (left_out left.now).routers files fault)) }
     ensures no_write { IfErr result (λ fault. is_write fault ≡ false) }
     ensures faults { IfErr result IsFaultOfAudit }
     ensures failures { F.failed files.new ≡ failures_after is_read result (F.failed files.old) }
 {
-    let read = read_folder_domain(alloc, files, without, options.unlisted)?;
-    let audit = audit_domain(alloc, &read, options, without);
+    let Ok(ignored) = Vec::from_slice(alloc, left.ignored) else {
+        return Err(RunFault::Memory);
+    };
+    let folder_options = FolderOptions {
+        all: options.unlisted,
+        ignored,
+    };
+    let read = read_folder_domain(alloc, files, left.without, folder_options)?;
+    let audit = audit_domain(alloc, &read, options, left);
     drop(read);
     match audit {
         Ok(audit) => Ok(audit),
@@ -150,31 +168,32 @@ fn audit_files<F: PieceSource>(
 ///
 /// It reads the files, each at most 16,777,216 bytes, and checks each before it opens the next one.
 /// Tables are read piece by piece; of a cache it keeps the rows of listed flows, and a summary that
-/// explains how their packets are forwarded. Then it examines each flow of the topology, and checks
-/// each certificate list that results.
+/// explains how their packets are forwarded. Where hosts ask for what no flow answers, it reads tables and
+/// lists once more. Then it examines each flow of the topology, and checks each certificate list that results.
 ///
 /// For each flow, in order, it writes the checker's yes with the number of copies and the LANs that
 /// want the flow, or that the flow is wrong, what a packet of it meets, from which TTL on packets show
-/// that, and why. After the flows come the unlisted sources and groups of the caches and the numbers of
-/// right, wrong and unknown flows, and last `verdict yes` or `verdict no`. The options add lines, leave
-/// some away, or choose JSON, one object a line.
+/// that, and why. After the flows come the unlisted sources and groups of the caches, what hosts ask for and no
+/// flow answers, and the numbers of right, wrong and unknown flows, and last `verdict yes` or `verdict no`. The
+/// options add lines, leave some away, or choose JSON, one object a line.
 ///
-/// The routers of the names `without` are excluded: their files aren't opened, their tables aren't
+/// The routers of the names `left.without` are excluded: their files aren't opened, their tables aren't
 /// known, and the verdict is no, since a yes is only given for a whole domain. Of a flow without a finding,
 /// and of one of which a LAN is missed where such a router may send, it isn't known whether it is right.
 ///
-/// It returns whether all flows are right and no router is excluded, and how many flows have no finding
-/// and are wanted by no LAN.
+/// It returns whether all flows are right and no router is excluded, how many flows have no finding and are
+/// wanted by no LAN, and how many wants of LANs no flow answers. Wants of the ranges `left.ignored` are left
+/// aside.
 ///
 /// # Errors
 ///
-/// The first fault of the files or of the names `without`; `Read` or `Write` if a device fails, and
+/// The first fault of the files or of the names `left.without`; `Read` or `Write` if a device fails, and
 /// `Memory` if an allocation fails. Only `Write` may leave a part of the text written.
 pub fn run_audit<F: PieceSource, W: Output>(
     alloc: Global,
     files: &mut F,
     options: AuditOptions,
-    without: &[&str],
+    left: &LeftOut<'_>,
     output: &mut W,
 ) -> Result<AuditAnswer, RunFault>
     requires reads { F.failed files.old < u64.MAX }
@@ -183,35 +202,36 @@ pub fn run_audit<F: PieceSource, W: Output>(
     ensures output_same { W.borrows output.new ≡ W.borrows output.old }
     // The answer is right, with some text, or is the first fault of the files.
     ensures answer { IfSome (F.contents files.old) (λ contents.
-        Answers (IsAuditText options (map (λ name. name.now) without.now))
-        (AreRefusedWithout (map (λ name. name.now) without.now)) contents (yes_of result)) }
+        Answers (IsAuditText options (left_out left.now))
+        (AreRefusedWithout (left_out left.now).routers) contents (yes_of result)) }
     // After an answer, its text is written whole.
-    ensures written { IsWrittenWhole (IsAuditText options (map (λ name. name.now) without.now))
+    ensures written { IsWrittenWhole (IsAuditText options (left_out left.now))
         (F.contents files.old) (yes_of result) (W.written output.old) (W.written output.new) }
     // The text says of a flow that it is wrong exactly where the flow isn't right, with routers excluded
     // that it is wrong or unknown, and ends with yes exactly where every listed flow is right and no
     // router is excluded.
-    ensures right { IsWrittenWhole (SaysWhichAreRight options (map (λ name. name.now) without.now))
+    ensures right { IsWrittenWhole (SaysWhichAreRight options (left_out left.now))
         (F.contents files.old) (yes_of result) (W.written output.old) (W.written output.new) }
-    // The answer has the number of flows without a finding that are wanted by no LAN.
-    ensures unwanted { IfOk result (λ answer. IfSome (F.contents files.old)
-        (MeansDomainWhere (MeansAudited options (map (λ name. name.now) without.now))
-        (λ v. HasUnwanted v options answer.unwanted))) }
+    // The answer has the number of flows without a finding that are wanted by no LAN, and that of the wants of
+    // LANs that no flow answers.
+    ensures counts { IfOk result (λ answer. IfSome (F.contents files.old)
+        (MeansDomainWhere (MeansAudited options (left_out left.now))
+        (λ v. HasCounts v options answer.counts))) }
     // After a `Write` fault, a proper part of a right text was written, from its front.
     ensures part { result ≡ Err RunFault.Write → IfSome (F.contents files.old) (λ contents.
-        WritesPart (IsAuditText options (map (λ name. name.now) without.now)) contents
+        WritesPart (IsAuditText options (left_out left.now)) contents
         (W.written output.old) (W.written output.new)) }
     // The lines of each flow, in a whole text or in a part, are true: a yes of the checker, for which
     // the headline holds, or the finding of a run of the flow's net, from which TTL on each complete run
     // without loss has it, and what explains it.
-    ensures each { IsWrittenWhole (SaysOfEach options (map (λ name. name.now) without.now))
+    ensures each { IsWrittenWhole (SaysOfEach options (left_out left.now))
         (F.contents files.old) (yes_of result) (W.written output.old) (W.written output.new) }
     ensures each_in_part { result ≡ Err RunFault.Write → IfSome (F.contents files.old) (λ contents.
-        WritesPart (SaysOfEach options (map (λ name. name.now) without.now)) contents
+        WritesPart (SaysOfEach options (left_out left.now)) contents
         (W.written output.old) (W.written output.new)) }
     // A second copy on a LAN, or a copy that leaves the domain, that is found with routers excluded is a
     // fault whatever these routers have: the flow isn't right either in the domain with them.
-    ensures excluded { IsWrittenWhole (AreFoundInWhole options (map (λ name. name.now) without.now))
+    ensures excluded { IsWrittenWhole (AreFoundInWhole options (left_out left.now))
         (F.contents files.old) (yes_of result) (W.written output.old) (W.written output.new) }
     // After any fault but `Write`, nothing was written.
     ensures unwritten { IfErr result (λ fault. fault ≢ RunFault.Write → output.new ≡ output.old) }
@@ -224,6 +244,6 @@ pub fn run_audit<F: PieceSource, W: Output>(
     ensures headline { AuditSaysYes (yes_of result) (W.written output.old) (W.written output.new)
         → IfSome (F.contents files.old) FilesKeepHeadline }
 {
-    let (run_output, unwanted) = AuditOutput::parts(audit_files(alloc, files, options, without));
-    with_unwanted(write_output(run_output, output), unwanted)
+    let (run_output, counts) = AuditOutput::parts(audit_files(alloc, files, options, left));
+    with_counts(write_output(run_output, output), counts)
 }

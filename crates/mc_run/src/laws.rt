@@ -7,7 +7,7 @@ ghost use Rattle.mc_files.specs.Files.{FileText};
 ghost use Rattle.mc_forward.specs.Domains.{DomainValue, net_of};
 ghost use Rattle.mc_cert.specs.Certificate.{Tree};
 ghost use Rattle.mc_cert.specs.Reading.{parse_certificate};
-ghost use Rattle.mc_run.specs.AuditRun.{IsAuditText, IsYesLineLast, yes_words};
+ghost use Rattle.mc_run.specs.AuditRun.{IsAuditText, IsYesLineLast, LeftOutValue, yes_words};
 ghost use Rattle.mc_cli.specs.declared.audit_options.AuditOptions.{AuditOptions};
 ghost use Rattle.mc_input.specs.Meaning.{MeansDomain, FilesMeanDomain};
 ghost use Rattle.mc_run.specs.InputMeaning.{MeansCertified};
@@ -15,7 +15,7 @@ ghost use Rattle.mc_run.specs.CheckRun.{IsLineStart, IsVerdictText, WroteAtStart
 ghost use Rattle.mc_run.specs.MakeRun.{ForEachBundleWithMadeCertificate, IsMadeText, certified_lists};
 ghost use Rattle.mc_run.specs.RunOutput.{HasOneOutput};
 
-use mc_input::laws::summaries_are_unique;
+use mc_input::laws::{asked_is_unique, summaries_are_unique};
 
 /// `check` says yes to each certificate that `make` writes.
 pub fn check_accepts_made_certificates()
@@ -52,10 +52,11 @@ pub fn input_means_one_domain_at_most()
 /// `audit` is a function of the folder's files and of its options: the same files and options give the
 /// same answer and the same text, down to each line that explains a fault.
 pub fn audit_of_same_files_is_the_same()
-    ensures { (names : List (List ℕ)) (files : List FileText) (o : AuditOptions)
-        → HasOneOutput (IsAuditText o names files) }
+    ensures { (left : LeftOutValue) (files : List FileText) (o : AuditOptions)
+        → HasOneOutput (IsAuditText o left files) }
 {
     summaries_are_unique();
+    asked_is_unique();
 }
 
 /// A text has the line `verdict yes` exactly if every flow's list is accepted and, in an audit, no
@@ -70,14 +71,14 @@ pub fn verdict_yes_line_only_where_all_right()
         → written ≡ front ++ (codes "verdict yes" ++ rest)
         → (all ≡ true) × (rest ≡ codes "\n") }
     // The same holds for `audit`, whose line in JSON is an object.
-    ensures audit_has_line { (names : List (List ℕ)) (files : List FileText) (o : AuditOptions)
-        (written old : List ℕ) → IsAuditText o names files true written
+    ensures audit_has_line { (left : LeftOutValue) (files : List FileText) (o : AuditOptions)
+        (written old : List ℕ) → IsAuditText o left files true written
         → WroteAtStart (yes_words o.json) (Some old) (Some (old ++ written)) }
     // That line is the last one, and no line starts with the words of the other form.
-    ensures audit_last { (names : List (List ℕ)) (files : List FileText) (o : AuditOptions)
-        (all : Bool) (written : List ℕ) → IsAuditText o names files all written
+    ensures audit_last { (left : LeftOutValue) (files : List FileText) (o : AuditOptions)
+        (all : Bool) (written : List ℕ) → IsAuditText o left files all written
         → IsYesLineLast o.json all written }
     // With an excluded router, an audit has no such line.
-    ensures audit_whole { (names : List (List ℕ)) (files : List FileText) (o : AuditOptions)
-        (written : List ℕ) → IsAuditText o names files true written → names ≡ [] }
+    ensures audit_whole { (left : LeftOutValue) (files : List FileText) (o : AuditOptions)
+        (written : List ℕ) → IsAuditText o left files true written → left.routers ≡ [] }
 {}

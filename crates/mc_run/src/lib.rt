@@ -11,7 +11,7 @@ mod run_output;
 mod shown;
 mod task;
 
-pub use audit::{AuditAnswer, run_audit};
+pub use audit::{AuditAnswer, AuditCounts, LeftOut, run_audit};
 pub use commands::{run_check, run_make, run_pack, run_replay, run_wants};
 pub use fault::RunFault;
 pub use refusals::{print_refused_files, refusal_lines};

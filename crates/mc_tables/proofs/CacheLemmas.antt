@@ -158,7 +158,7 @@ pub same_key-equivalence : IsEquivalence same_key
 same_key-equivalence = eq_by_cmp_equiv key_cmp-total
 
 -- the row that a line is read as is denoted by it and may follow the earlier ones
-row_in_line-denotes : (order : Order) (earlier : List RowValue) (line : LineText) (row : RowValue)
+pub row_in_line-denotes : (order : Order) (earlier : List RowValue) (line : LineText) (row : RowValue)
     → row_in_line order earlier line ≡ Ok row → LineDenotesRow order line row × MayFollow earlier row
 unfolding row_in_line
 row_in_line-denotes order earlier line row e =

@@ -34,6 +34,7 @@ pub mod RowRuleLemmas
 pub mod LowestLemmas
 pub mod SummaryStepLemmas
 pub mod SummaryLemmas
+pub mod EachRowLemmas
 pub mod SummaryRuleLemmas
 pub mod ListedPartLemmas
 pub mod TextPairLemmas

@@ -388,7 +388,7 @@ finished_summary-of_rows all listed rows summary summarizes =
 -- ---- the summary of a text's rows
 
 -- a line that is read after others is read as a row
-row_in_line-words : (order : Order) (earlier : List RowValue) (line : LineText) (row : RowValue)
+pub row_in_line-words : (order : Order) (earlier : List RowValue) (line : LineText) (row : RowValue)
     → row_in_line order earlier line ≡ Ok row → row_in_words order (words_of line.bytes) ≡ Ok row
 unfolding row_in_line
 row_in_line-words order earlier line row is =

@@ -20,6 +20,7 @@ pub mod ListedRows
 pub mod UnlistedRows
 pub mod Distinct
 pub mod RowsSoFar
+pub mod EachRow
 pub mod Summary
 pub mod SummarySoFar
 pub mod SummaryReading

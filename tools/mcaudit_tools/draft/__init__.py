@@ -27,18 +27,18 @@ from mcaudit_tools.ways import REACH
 
 GRACE = 3  # seconds that what it runs has to end what that began
 MOST_TOLD = 20  # groups that are asked for
-ABOUT = """Drafts SITE/topology of what the routers say, to be read before anything is judged by it.
+ABOUT = """Drafts SITE/topology from what the routers say. Read it before anything is judged by it.
 
-The routers are told as for mcaudit-collect. LANs are the networks of their vifs, flows the rows of one source,
-with their rates. What isn't sure is a comment: an interface of an unnumbered link, of a tunnel or a register vif, of
-a network that the router has twice, of a link whose other end no router has. The time to live of a flow is measured
-on a router of the source's LAN, which needs tcpdump and root there. A flow that couldn't be measured is a comment with
-the command that measures it, and is named at the end as not judged. Comments are also what hosts send to groups of
-services, such as SSDP, and groups that are asked for without a flow, by lists of reports in SITE or by rows of every
-source. A topology that is there is never changed."""
-MORE = """Statuses: 0 drafted, and all is sure; 1 drafted, and something is missing or isn't sure. With --update 0
-nothing differs, 1 something does, a router is missing, or the time to live of a flow that isn't idle isn't known. 3 the
-topology is there already or can't be written, FILE can't be read, or nothing could be asked, 5 wrong words.
+The routers are given as for mcaudit-collect. LANs are the networks of their vifs, flows their (S,G) entries, with
+their rates. Anything that needs a decision is commented out: an interface of an unnumbered link, of a DVMRP tunnel or
+a register vif, of a network that the router has twice, of a link whose other end no router has. The TTL of a flow is
+measured on a router of the source's LAN, which needs tcpdump and root there. A flow that couldn't be measured is a
+comment with the command that measures it, and is named at the end as not judged. Comments are also what hosts send to
+groups of services, such as SSDP, and groups that are asked for without a flow, by lists of reports in SITE or by (*,G)
+entries. An existing topology is never changed."""
+MORE = """Statuses: 0 drafted, and all is certain; 1 drafted, and something is missing or needs a decision. With
+--update 0 nothing differs, 1 something does, a router is missing, or the TTL of a flow that isn't idle is unknown. 3
+the topology exists already or can't be written, FILE can't be read, or nothing could be asked, 5 usage error.
 
 Examples:
   mcaudit-draft --routers routers --ssh 'ssh -l root' site
@@ -46,13 +46,13 @@ Examples:
   mcaudit-draft --flows channels.csv --routers routers site"""
 
 OPTIONS = [*REACH, ("--timeout", "SECONDS", "give a router up when a reading takes longer (60)", 1, 999, 60),
-           ("--ttl", "N", "the time to live of all flows: none is measured", 1, 255, None),
-           ("--flows", "FILE", "take the flows of this list too: CSV with the columns source, group and ttl, or M3U "
+           ("--ttl", "N", "the TTL of all flows: none is measured", 1, 255, None),
+           ("--flows", "FILE", "also take the flows of this list: CSV with the columns source, group and ttl, or M3U "
             "with lines of udp://[SOURCE@]GROUP[:PORT] or rtp://; one without a source is a comment, and so is one "
-            "without a time to live, unless --ttl says it or it is measured"),
+            "without a TTL, unless --ttl says it or it is measured"),
            ("--measure", "SECONDS", "wait so long for packets of a flow (5)", 1, 600, 5),
-           ("--update", None, "change nothing, and print what differs from the topology that is there, which gives the "
-            "names and the times to live that weren't measured")]
+           ("--update", None, "change nothing, and print what differs from the existing topology, which gives the "
+            "names and the TTLs that weren't measured")]
 
 
 def write_topology(site, text):
@@ -76,7 +76,7 @@ def read_arguments():
     """Reads the arguments."""
     words = Parser(description=ABOUT, epilog=MORE)
     words.add_argument("site", metavar="SITE")
-    words.add_argument("ways", metavar="NAME=WAY", nargs="*", help="a router and the way to it")
+    words.add_argument("ways", metavar="NAME=ADDRESS", nargs="*", help="a router and its address")
     words.add_options(OPTIONS)
     words.add_version()
     found = words.parse_args()
@@ -93,7 +93,7 @@ def tell(draft, flow_list, is_update):
     unsure = [it for it in draft.unsure if it[2] not in HARMLESS]
     asked = [it for it in draft.asked if it.lans or it.is_given]
     for sentence in [*flow_list.sentences(), *(f"missing: {it}" for it in draft.doubts),
-                     *(f"unsure: {router} {device}: {why}" for router, device, why, _ in unsure),
+                     *(f"needs a decision: {router} {device}: {why}" for router, device, why, _ in unsure),
                      *(f"left out: {group}, {SERVICES[str(group)]}, a service of hosts: sources {count}"
                        for group, count in service_counts(draft).items()),
                      *(f"no flow: {it.source or '?'} {it.group}: {asked_words(it)}" for it in asked[:MOST_TOLD]),
@@ -121,14 +121,14 @@ def compare(words, draft, flow_list, topology):
         draft_flows(words, draft, flow_list, {(it["source"], it["group"]) for it in topology.get("flow", [])})
         return print_changes(draft, topology)
     except (KeyError, TypeError, AttributeError) as fault:
-        raise Failed(f"{words.site}/topology is no topology: see what mcaudit says of it") from fault
+        raise Failed(f"{words.site}/topology is not a valid topology: see what mcaudit says of it") from fault
 
 
 def draft_topology(words, scratch):
     """Drafts the topology, or compares it with the one that is there. Returns the status."""
     path = os.path.join(words.site, "topology")
     if os.path.lexists(path) and not words.update:
-        raise Failed(f"{path} is there already: --update prints what has changed")
+        raise Failed(f"{path} exists already: --update prints what has changed")
     topology = read_toml(os.path.realpath(words.site), words.site) if words.update else None
     flow_list = FlowList(words.flows)
     draft = Draft(*ask_routers(words, scratch))

@@ -56,7 +56,7 @@ def read_lists(draft, folder):
         try:
             yield lan, wants_of(messages_of(os.path.join(folder, name)))
         except (Failed, ValueError):
-            draft.doubts.append(f"{name} is no list of reports: see what mcaudit says of it")
+            draft.doubts.append(f"{name} is not a valid list of reports: see what mcaudit says of it")
 
 
 def unanswered(wanted, sources, networks):

@@ -41,7 +41,7 @@ class FlowList:
         try:
             text = data.decode("utf-8-sig")
         except UnicodeDecodeError as fault:
-            raise self.failed("it is no UTF-8") from fault
+            raise self.failed("it is not UTF-8") from fault
         if not self.take_csv(text):
             self.take_m3u(text)
         if not self.flows and not self.faults:
@@ -93,7 +93,7 @@ class FlowList:
             if place is not None and int(place[3] or 0) < 65536:
                 self.take(line, place[1] or "", place[2], "")
             elif found:
-                self.faults.append((line, "it is no [SOURCE@]GROUP[:PORT]"))
+                self.faults.append((line, "it is not [SOURCE@]GROUP[:PORT]"))
             else:
                 self.others += bool(word)
 
@@ -103,7 +103,7 @@ class FlowList:
         if joined is None:
             self.faults.append((line, "its group is none of 224.0.1.0 to 239.255.255.255"))
         elif source and host is None:
-            self.faults.append((line, "its source is no host's address"))
+            self.faults.append((line, "its source is not a host's address"))
         elif ttl and not (re.fullmatch("[1-9][0-9]{0,2}", ttl) and int(ttl) <= 255):
             self.faults.append((line, "its ttl is none of 1 to 255"))
         else:

@@ -34,7 +34,7 @@ def fault_of_device(device, flags, addresses):
         return f"unnumbered: {addresses[0].local} is a lone address"
     for network in networks:
         if not isinstance(network, Link) and network.prefixlen < LEAST_PREFIX:
-            return f"{network} is no network of a LAN"
+            return f"{network} is not a network of a LAN"
         if not isinstance(network, Link) and network.is_link_local:
             return f"{network} can be any link"
     return None

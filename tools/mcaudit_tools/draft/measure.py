@@ -18,7 +18,7 @@ MOST_PACKETS = 16 << 20  # bytes of the packets that a router prints
 START = """LC_ALL=C
 export LC_ALL
 command -v tcpdump > /dev/null || {
-    echo 'there is no tcpdump: install it there, or give the time to live of all flows by --ttl' >&2
+    echo 'there is no tcpdump: install it there, or set the TTL of all flows by --ttl' >&2
     exit
 }
 """
@@ -46,11 +46,11 @@ def find_flows(draft, given, services):
     groups = {flow.group for flow in draft.flows}
     draft.asked = [Asked(group, None, is_given=True) for source, group in given if not source and group not in groups]
     if not draft.flows:
-        draft.doubts.append("no router has a row of one source, so there is no flow")
+        draft.doubts.append("no router has an (S,G) entry, so there is no flow")
     for router in draft.routers:
         for group in sorted(router.wildcards - groups):
             if str(group) not in services:
-                draft.doubts.append(f"{router.name}: a row of every source of {group}, whose flows can't be told")
+                draft.doubts.append(f"{router.name}: a (*,G) entry of {group}, whose sources are unknown")
     for flow in draft.flows:
         flow.is_given = (flow.source, flow.group) in pairs
     busiest = sorted(draft.flows, key=lambda it: (not it.is_given, it.rate is None, -(it.rate or (0, 0))[0]))
@@ -90,7 +90,7 @@ def ask_packets(words, router, flows):
 
 def measure_on(words, router, flows):
     """Measures the flows on the router. Returns doubts."""
-    print(f"{router}: measuring the times to live of {len(flows)} flows", flush=True)
+    print(f"{router}: measuring the TTLs of flows: {len(flows)}", flush=True)
     printed, said = ask_packets(words, router, flows)
     lives = {}
     try:
@@ -104,13 +104,13 @@ def measure_on(words, router, flows):
         elif len(found) == 1 and found[0]:
             flow.ttl, flow.said = found[0], f"measured on {router} {clean(device)}"
         else:
-            flow.said = f"its packets come with other times to live: {', '.join(map(str, found))}"
+            flow.said = f"its packets come with different TTLs: {', '.join(map(str, found))}"
     last = [it for it in said if not re.match(r"\d+ packets? |listening on |.*verbose output", it)]
     return [f"{router}: {clean(last[-1])[:200]}"] if last and any(flow.ttl is None for flow, _ in flows) else []
 
 
 def measure_flows(words, draft, given):
-    """Gives the draft's flows their times to live, as they are given, as they were told by hand or as they are
+    """Gives the draft's flows their times to live, as they are given, as they were set by --ttl or as they are
     measured."""
     tasks = {}
     for flow in draft.flows:
@@ -120,9 +120,9 @@ def measure_flows(words, draft, given):
         if key in given and given[key].ttl is not None:
             flow.ttl, flow.said = given[key].ttl, "as the list of flows has it"
         elif words.ttl is not None:
-            flow.ttl, flow.said = words.ttl, "told by hand"
+            flow.ttl, flow.said = words.ttl, "set by --ttl"
         elif not any(key in it.rows for it in draft.routers):
-            flow.said = "the list of flows has no time to live of it, and no router a row"
+            flow.said = "the list of flows has no TTL of it, and no router an entry"
         elif flow.rate is not None and not any(key in it.counted for it in draft.routers):
             flow.said = IDLE
         elif flow.points:

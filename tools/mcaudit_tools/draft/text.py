@@ -72,9 +72,9 @@ def names(found):
 
 def asked_words(asked):
     """Returns what is known of a group of which no flow is."""
-    return "; ".join([*["the list of flows has no source of it"] * asked.is_given,
+    return "; ".join([*["the list of flows has no source for it"] * asked.is_given,
                       *[f"asked for on {names(asked.lans)}"] * bool(asked.lans),
-                      *[f"a row of every source on {names(asked.routers)}"] * bool(asked.routers)])
+                      *[f"a (*,G) entry on {names(asked.routers)}"] * bool(asked.routers)])
 
 
 def asked_lines(draft):
@@ -126,12 +126,12 @@ def text_of(draft):
         "lans": [f"{toml_text(it)}," for it in topology["lans"]],
         "router": [f"{it}," for it in tables_of(topology, "router")],
         "interface": [*(f"{it}," for it in tables_of(topology, "interface")),
-                      *(f"# {table_text(router=router, device=device, lan=lan)}, # unsure: {why}"
+                      *(f"# {table_text(router=router, device=device, lan=lan)}, # needs a decision: {why}"
                         for router, device, why, lan in draft.unsure)],
         "source": [*(f"{it}," for it in sources),
                    *(f"# {table_text(address=str(source), lan=lan)}," for source, lan in sorted(idle))],
         "flow": flow_lines(draft, topology)}
-    lines = ["# Drafted by mcaudit-draft of what the routers say: read it before anything is judged by it.",
+    lines = ["# Drafted by mcaudit-draft from what the routers say: read it before anything is judged by it.",
              *(f"# missing: {it}" for it in draft.doubts), *(f"# {it}" for it in draft.remarks), "version = 1"]
     for name, inner in sections.items():
         lines += [f"{name} = [", *inner, "]"]
@@ -170,7 +170,7 @@ def print_changes(draft, topology):
     for flow in draft.flows:
         key = str(flow.source), str(flow.group)
         if flow.ttl is None and flow.lan is not None and key in known:
-            flow.ttl, flow.said = known[key], "as it was"
+            flow.ttl, flow.said = known[key], "unchanged"
     changes = [it for it in difflib.ndiff(content_of(topology), content_of(topology_of(draft))) if it[0] in "+-"]
     print("".join(it + "\n" for it in changes), end="")
     return bool(changes)

@@ -24,7 +24,6 @@ from mcaudit_tools.monitor.words import read_arguments
 from mcaudit_tools.premises import beside
 from mcaudit_tools.programs import RUNNING, run
 
-MOST_SHOWN = 20  # flows that are wrong
 MOST_TEXT = 1 << 20  # bytes of what mcaudit-collect prints, and of what is kept of what mcaudit-diff does
 MOST_CHANGES = 1 << 30  # bytes of what mcaudit-diff prints
 MOST_STATE = 1 << 20  # bytes of what is kept
@@ -137,7 +136,7 @@ class Run:
         try:
             self.judged = judged_of(self.text)
         except (Refused, ValueError, KeyError, IndexError, TypeError, AttributeError) as fault:
-            raise Failed("what mcaudit printed is no whole audit") from fault
+            raise Failed("what mcaudit printed is not a whole audit") from fault
         if self.judged.is_right != (status == 0):
             raise Failed(f"mcaudit printed another verdict than that of its status {status}")
         self.read_origins()
@@ -204,13 +203,7 @@ class Run:
     def print_text(self):
         """Prints what was judged, and what changed."""
         judged, last = self.judged, self.state.get("judged")
-        numbers = ", ".join(f"{key} {judged.counts[key]}" for key in ("flows", "right", "wrong", "unwanted"))
-        lines = [f"{os.path.basename(self.folder)}: verdict {'yes' if judged.is_right else 'no'}, {numbers}, "
-                 f"unlisted {judged.unlisted}"]
-        lines += self.beside.sentences()
-        lines += [f"wrong: {it}" for it in judged.wrong[:MOST_SHOWN]]
-        if len(judged.wrong) > MOST_SHOWN:
-            lines.append(f"and {len(judged.wrong) - MOST_SHOWN} more")
+        lines = [f"{os.path.basename(self.folder)}: {judged.numbers()}", *self.beside.sentences(), *judged.lines()]
         if self.changes is not None:
             more = [f"and {self.count - len(self.changes)} more changes"] * (self.count > len(self.changes))
             lines += [f"changed since {last}:" if self.count else f"nothing changed since {last}", *self.changes, *more]

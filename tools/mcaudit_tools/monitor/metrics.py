@@ -22,7 +22,9 @@ def samples_of(work):
                 ("flows_right", "Listed flows that are right.", judged.counts["right"]),
                 ("flows_wrong", "Listed flows that are not right.", judged.counts["wrong"]),
                 ("flows_unwanted", "Listed flows that are right and wanted by no LAN.", judged.counts["unwanted"]),
-                ("unlisted_pairs", "Sources and groups in the caches that are no listed flow's.", judged.unlisted)]
+                ("unlisted_pairs", "Sources and groups in the caches that belong to no listed flow.", judged.unlisted),
+                ("wants_unanswered", "What hosts of a LAN ask for and no listed flow answers, counted for each LAN.",
+                 judged.wants.count)]
     metrics = [(name, about, [({}, value)]) for name, about, value in one if value is not None]
     return metrics + age_samples(work.ages()) + (work.beside.samples() if judged and work.beside else [])
 

@@ -51,7 +51,8 @@ def line_of(work):
         warnings = warnings_of(work)
         status, text = int(bool(warnings)), ", ".join([f"{judged.counts['right']} flows right", *warnings])
     if status != 3:
-        parts = [cut("; ".join(cut(it, MOST_PART) for it in work.beside.parts), MOST_PARTS)]
+        parts = [f"{judged.wants.count} wants unanswered"] if judged.wants.count else []
+        parts.append(cut("; ".join(cut(it, MOST_PART) for it in work.beside.parts), MOST_PARTS))
     most = MOST_LETTERS
     if status != 3 and work.count:
         parts.append(changes_text(work.count, work.changes))
@@ -61,4 +62,5 @@ def line_of(work):
         counts = judged.counts
         line += f" | right={counts['right']} wrong={counts['wrong']};;0 unwanted={counts['unwanted']};0"
         line += f" unlisted={judged.unlisted}"
+        line += "" if judged.wants.count is None else f" asked={judged.wants.count}"
     return line, status

@@ -11,16 +11,16 @@ from mcaudit_tools.ways import REACH
 WARN_AGE, WARN_REPORTS = 900, 3600  # seconds
 LABEL = re.compile(r"(?!__|router=|lan=)[A-Za-z_][A-Za-z0-9_]*=.*", re.DOTALL)
 ABOUT = """Collects the tables of SITE's routers (mcaudit-collect), audits them (mcaudit audit --json --unlisted) and
-says what changed since last time (mcaudit-diff). The routers are told as for mcaudit-collect.
+prints what changed since last time (mcaudit-diff). The routers are given as for mcaudit-collect.
 
-Of what changed, faults that came or went are printed first, and then paths that moved; with --plugin too.
+Of what changed, new and cleared faults come first, and then paths that moved; with --plugin too.
 
 Only one run at a time works on SITE: another one ends at once, and writes nothing. Where a router was not read
 nothing is judged. Each set keeps its audit as audit.json, and SITE.monitor.json says which one was judged last."""
 MORE = """Statuses: 0 verdict yes, 1 verdict no, 2 mcaudit refuses the folder, 3 a router was not read, another run is
-at work, or something failed, 4 no memory, 5 wrong words.
-With --plugin: 0 verdict yes; 1 yes, but a flow is wanted by nobody, or files are older than told; 2 verdict no; 3
-all else.
+at work, or something failed, 4 out of memory, 5 usage error.
+With --plugin: 0 verdict yes; 1 yes, but a flow is wanted by nobody, or files are older than allowed; 2 verdict no;
+3 anything else.
 
 Examples:
   mcaudit-monitor --routers routers --keep 100 site
@@ -31,10 +31,10 @@ COLLECTS = [*REACH,
             ("--pause", "SECONDS", "wait so long between two readings of a router"),
             ("--timeout", "SECONDS", "give a router up when a reading takes longer"),
             ("--at-once", "N", "read at most N routers side by side"),
-            ("--facts", None, "bring the routers' facts too, and warn where one of their own settings drops what its "
+            ("--facts", None, "also bring the routers' facts, and warn where one of their own settings drops what its "
              "tables forward (mcaudit-premises)"),
-            ("--from-daemon", None, "bring the lists of the LANs too, as the routers' daemons believe them"),
-            ("--empty-lan", "LAN", "with --from-daemon, write an empty list of this LAN too"),
+            ("--from-daemon", None, "also bring the lists of the LANs, as the routers' daemons believe them"),
+            ("--empty-lan", "LAN", "with --from-daemon, also write an empty list of this LAN"),
             ("--adopt", None, "if SITE is a plain folder, make it the first set")]
 MOST = 999_999_999  # sets that are kept, and seconds
 OPTIONS = [("--no-collect", None, "judge what SITE has: nothing is read of a router, compared or kept"),
@@ -52,7 +52,7 @@ class MonitorParser(Parser):
     def error(self, message):
         """Tells what is wrong."""
         if "--plugin" in sys.argv:
-            print(f"MCAUDIT UNKNOWN - wrong words: {clean(message, '|')[:MOST_LETTERS]}")
+            print(f"MCAUDIT UNKNOWN - usage error: {clean(message, '|')[:MOST_LETTERS]}")
             sys.exit(3)
         super().error(message)
 
@@ -60,7 +60,7 @@ class MonitorParser(Parser):
 def label(text):
     """Reads a label."""
     if not LABEL.fullmatch(text):
-        raise argparse.ArgumentTypeError(f"{text!r} is no NAME=VALUE of a label beside router and lan")
+        raise argparse.ArgumentTypeError(f"{text!r} is not a valid NAME=VALUE of a label other than router and lan")
     return tuple(text.split("=", 1))
 
 
@@ -69,7 +69,8 @@ def read_arguments():
     words = MonitorParser(description=ABOUT, epilog=MORE)
     words.add_version()
     words.add_argument("site", metavar="SITE")
-    words.add_argument("ways", metavar="NAME=WAY", nargs="*", help="a router and the way to it, as for mcaudit-collect")
+    words.add_argument("ways", metavar="NAME=ADDRESS", nargs="*",
+                       help="a router and its address, as for mcaudit-collect")
     words.add_options([*COLLECTS, *OPTIONS], ["--empty-lan"])
     words.add_argument("--label", metavar="NAME=VALUE", type=label, action="append", default=[],
                        help="a label of all metrics in FILE.prom, where one machine watches several sites")
@@ -82,16 +83,16 @@ def check_words(words, found):
     """Ends where words don't go together, and makes of them what is handed to mcaudit-collect."""
     found.site = found.site.rstrip("/")
     if os.path.basename(found.site) in ("", ".", ".."):
-        words.error("the site is wanted by its folder's name")
+        words.error("SITE has to be a folder's name")
     collects = options_of(found, *(it for it, *_ in COLLECTS))
     if found.no_collect and (collects or found.ways or found.keep or found.prometheus):
         words.error("--no-collect goes with no router, no option of mcaudit-collect, no --keep and no --prometheus")
     if not found.no_collect and not found.ways and not found.routers:
-        words.error("a site and a router are wanted")
+        words.error("SITE and at least one router are required")
     if (found.warn_age is not None or found.warn_reports is not None) and not found.plugin:
         words.error("--warn-age and --warn-reports go with --plugin")
     found.warn_age = WARN_AGE if found.warn_age is None else found.warn_age
     found.warn_reports = WARN_REPORTS if found.warn_reports is None else found.warn_reports
     if found.prometheus is not None and not found.prometheus.endswith(".prom"):
-        words.error("--prometheus wants a FILE.prom: node_exporter reads no other")
+        words.error("--prometheus requires a FILE.prom: node_exporter reads no other")
     found.collects, found.labels = collects, dict(found.label)

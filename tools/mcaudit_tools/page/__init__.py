@@ -16,15 +16,15 @@ from mcaudit_tools.page.plans import read_plans
 from mcaudit_tools.page.remarks import Folder
 from mcaudit_tools.page.render import page_of
 
-ABOUT = """Makes one page, an HTML file, of what `mcaudit audit` answers of the folder SITE: the verdict and what it
-rests on, the domain as a graph, each flow's way in it or its fault with the travel that shows it, and what isn't listed
-or judged.
+ABOUT = """Makes one page, an HTML file, from what `mcaudit audit` prints of the folder SITE: the verdict and what it
+rests on, the domain as a graph, each flow's path in it or its fault with the travel that shows it, and what isn't
+listed or judged.
 
 The page needs nothing but a browser: it has no script, font or picture from elsewhere. It is written beside FILE and
-then renamed, so FILE is the whole page or as it was."""
+then renamed, so FILE is the whole page or unchanged."""
 MORE = """Statuses: that of the verdict, 0 yes or 1 no; 2 the folder is refused, or what --audit gives is no audit; 3 a
-read or a write failed, or something that is needed isn't there; 4 no memory; 5 wrong words. With 2 to 5 there is no
-page.
+read or a write failed, or something that is needed isn't there; 4 out of memory; 5 usage error. With 2 to 5 there is
+no page.
 
 Examples:
   mcaudit-page site -o report.html
@@ -34,7 +34,7 @@ Examples:
 OPTIONS = [("-o", "FILE", "write the page into FILE; without it to standard output"),
            ("--audit", "FILE", "run no audit: take what one answered with --json --travel --unlisted from FILE, or "
             "from - for standard input"),
-           ("--plan", "FILE", "show the plans too that `mcaudit-plan --json` printed of the same set into FILE"),
+           ("--plan", "FILE", "also show the plans that `mcaudit-plan --json` printed of the same set into FILE"),
            ("--program", "PATH", "run PATH for mcaudit"),
            ("--without", "ROUTER", "audit without this router's tables, as mcaudit audit --without")]
 
@@ -47,7 +47,7 @@ def read_arguments():
     words.add_version()
     found = words.parse_args()
     if found.site is None and found.audit is None:
-        words.error("a folder SITE or --audit FILE is wanted")
+        words.error("SITE or --audit FILE is required")
     if found.audit is not None and (found.program or found.without):
         words.error("with --audit nothing is run: --program and --without go with a folder that is audited here")
     return found
@@ -83,6 +83,5 @@ def main():
     page = page_of(audit, graph if graph.lay_out() else None, folder)
     if words.audit is None:
         folder.check()
-    counts = " ".join(f"{name} {audit.summary[name]}" for name in audits.COUNTS)
-    write_page(words.o, page, f"{counts}, verdict {audit.verdict}")
+    write_page(words.o, page, f"{audits.counts_text(audit.summary)}, verdict {audit.verdict}")
     return 0 if audit.verdict == "yes" else 1

@@ -5,9 +5,10 @@ import sys
 
 from mcaudit_tools import audit as audits
 from mcaudit_tools.common import Failed, Refused, find_tool, options_of
-from mcaudit_tools.page.explain import FLOW, SEEN, device_text, explanation, some
+from mcaudit_tools.page.explain import (FLOW, SEEN, device_text, explanation, some, told_behind, told_of_ttls)
 from mcaudit_tools.page.travel import steps_of, tree_of
 from mcaudit_tools.premises import domain as premises
+from mcaudit_tools.wants import Wants
 
 Port = collections.namedtuple("Port", "router device vif lan")
 
@@ -45,12 +46,21 @@ class Domain:
         return next(number for number, it in enumerate(self.ports) if (it.router, it.device) == (router, device))
 
 
+def place_of(domain, finding):
+    """Returns the element of the graph where something is found, and how that is named."""
+    if finding["kind"] == "Stray":
+        port = domain.port(finding["router"], finding["vif"])
+        return f"p{port}", f"{finding['router']} {finding['vif']} ({domain.ports[port].device})"
+    return f"l{domain.lan_numbers[finding['lan']]}", str(finding["lan"])
+
+
 class Audit:
     """What an audit answers, taken line by line, which `audit` has seen to be all and in their order."""
 
     def __init__(self):
         """Begins with nothing."""
         self.domain = self.summary = self.verdict = None
+        self.wants, self.ignored = Wants(), []
         self.trees, self.flows, self.unlisted, self.without = [], [], [], []
         self.reasons, self.travels = {}, {}  # their numbers by their JSON, each once
         self.unlisted_more = 0
@@ -60,8 +70,11 @@ class Audit:
     def take(self, line):
         """Takes a line's object."""
         self.premises.take(line)
+        self.wants.take(line)
         if self.domain is None:
             self.domain = Domain(line["domain"])
+            words = [str(it) for it in line["words"]]
+            self.ignored = [it for before, it in zip(words, words[1:]) if before == "--ignore"]
         elif "entries" in line:
             self.trees.append(tree_of(self.domain, line["entries"]))
         elif "flow" in line:
@@ -74,7 +87,7 @@ class Audit:
         elif "without" in line:
             self.without = [str(it) for it in line["without"]]
         elif "summary" in line:
-            self.summary = {key: int(line["summary"][key]) for key in audits.COUNTS}
+            self.summary = {key: int(line["summary"][key]) for key in audits.counted(line["summary"])}
         elif "verdict" in line:
             self.verdict = {"yes": "yes", "no": "no"}[line["verdict"]]
 
@@ -92,22 +105,18 @@ class Audit:
     def fault(self, line, flow):
         """Returns what is told of a flow with a finding."""
         domain, finding, kind = self.domain, line["finding"], "doubt" if flow["state"] == "unknown" else "fault"
-        told = [[text.replace(f"({flow['source']},{flow['group']})", FLOW), marks]
-                for text, marks in explanation(domain, line["why"])]
+        told = told_of_ttls(line) + explanation(domain, line["why"])
         also = [str(lan) for lan in line["also"]]
         if also:
             marks = [[f"l{domain.lan_numbers[lan]}", kind, "missed"] for lan in also]
             told.append([f"also missed: {some(also)}", marks])
-        if finding["kind"] == "Stray":
-            port = domain.port(finding["router"], finding["vif"])
-            place, words = f"p{port}", f"{finding['router']} {finding['vif']} ({domain.ports[port].device})"
-        else:
-            place, words = f"l{domain.lan_numbers[finding['lan']]}", finding["lan"]
-        if line.get("shown_from") is not None:
-            told.insert(0, [f"shown by packets sent with ttl {int(line['shown_from'])} or more", []])
+        if line.get("behind") is not None:
+            told += told_behind(domain, line["behind"])
+        told = [[text.replace(f"({flow['source']},{flow['group']})", FLOW), marks] for text, marks in told]
+        place, words = place_of(domain, finding)
         told.insert(0, ["", [[place, kind, SEEN[finding["kind"]]]]])
         steps = json.dumps(steps_of(domain, line.get("events", [])))
-        return {"kind": finding["kind"], "place": str(words), "found_ttl": int(line["found_ttl"]),
+        return {"kind": finding["kind"], "place": words, "found_ttl": int(line["found_ttl"]),
                 "why": self.reasons.setdefault(json.dumps(told), len(self.reasons)),
                 "travel": self.travels.setdefault(steps, len(self.travels))}
 

@@ -1,6 +1,7 @@
 """What explains a fault, in audit's own sentences, and what each line of it marks in the graph."""
+from mcaudit_tools.audit import finding_text
+from mcaudit_tools.common import some
 
-SHOWN_NAMES = 8  # of a list of names
 SHOWN_LINES = 40  # of a search
 FLOW = "\x01"  # stands for (source,group) in lines that flows have in common
 UNPLACED = ("no_vif_line", "register_vif", "tunnel", "no_device", "on_no_lan")
@@ -31,21 +32,15 @@ MARKS = {
 }
 
 # What is seen at the place of a finding, and what that is in the network
-SEEN = {"Duplicate": "carries it twice", "Loop": "it came round", "Stray": "strays", "Missed": "missed"}
+SEEN = {"Duplicate": "carries it twice", "Loop": "loops back here", "Stray": "strays", "Missed": "missed"}
 MEANS = {
     "Duplicate": "The LAN carries each packet twice or more: hosts see double packets.",
-    "Loop": "A copy came round to a LAN where it had been, and goes on until its time to live is used up.",
+    "Loop": "A copy came back to a LAN where it had been, and circulates until its TTL is used up.",
     "Stray": "A router sends a copy where the topology knows nothing, or follows an entry that isn't audited.",
     "Missed": "The LAN wants the flow, and no copy reaches it.",
 }
 MISSED_PERHAPS = ("The LAN wants the flow, and by the known tables no copy reaches it. It may go on at an excluded "
                   "router: add no interface to another router's entry for it.")
-
-
-def some(names):
-    """Returns a list of names as it is shown."""
-    rest = len(names) - SHOWN_NAMES
-    return " ".join(map(str, names[:SHOWN_NAMES])) + (f" and {rest} more" if rest > 0 else "")
 
 
 def device_text(device, vif):
@@ -91,3 +86,30 @@ def explanation(domain, lines):
         return told_of(domain, lines)
     rest = len(lines) - 2 - SHOWN_LINES
     return told_of(domain, lines[:2 + SHOWN_LINES]) + ([[f"and {rest} more lines", []]] if rest > 0 else [])
+
+
+def told_of_ttls(line):
+    """Returns from which TTL on packets show a finding, and what one with the flow's own shows."""
+    told = []
+    if line.get("shown_from") is not None:
+        told.append([f"shown by packets sent with ttl {int(line['shown_from'])} or more", []])
+    if line.get("at_ttl") is not None:
+        told.append([f"with this flow's ttl {int(line['ttl'])}: {finding_text(line['at_ttl'])}", []])
+    return told
+
+
+def told_behind(domain, behind):
+    """Returns the texts of what is behind a stray, each with what it marks in the graph."""
+    finding = behind["finding"]
+    if finding is not None:
+        seen = [[f"l{domain.lan_numbers[finding['lan']]}", "fault", SEEN[finding["kind"]]]]
+        inner = explanation(domain, behind["why"]) + told_of_ttls({"shown_from": behind["shown_from"]})
+        return [[f"behind it: {finding_text(finding)}", seen], *([f"  {text}", marks] for text, marks in inner)]
+    ports = [domain.port(it["router"], it["vif"]) for it in behind["strays"]]
+    strays = [f"{domain.routers[it.router]} {it.device}" for it in map(domain.ports.__getitem__, ports)]
+    told = [["also leaves by " + some(strays, ", "), [[f"p{it}", "fault", SEEN["Stray"]] for it in ports]],
+            ["not known past " + some(behind["open"]),
+             [[f"r{domain.router_numbers[it]}", "doubt", "entry for every source"] for it in behind["open"]]],
+            ["missed, unless what leaves there reaches it: " + some(behind["missed"]),
+             [[f"l{domain.lan_numbers[it]}", "doubt", "missed?"] for it in behind["missed"]]]]
+    return [[f"behind it: {text}", marks] for text, marks in told if marks]

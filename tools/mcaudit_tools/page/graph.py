@@ -95,7 +95,7 @@ class Graph:
         try:
             self.place(json.loads(done.printed))
         except (ValueError, LookupError, TypeError, RecursionError) as fault:
-            raise Failed("dot drew the domain in a way that can't be read") from fault
+            raise Failed("what dot drew can't be read") from fault
         return True
 
     def place(self, drawn):
@@ -158,7 +158,7 @@ class Graph:
                    *(self.router_markup(it) for it in range(len(self.domain.routers))),
                    *(self.lan_markup(*it) for it in enumerate(self.domain.lans)), tag("g", id="signs"),
                    id="drawing", viewBox=f"0 0 {width} {height}", width=width, height=height, role="img",
-                   aria_label="The domain's LANs and routers; what is marked in it is told in words beside it")
+                   aria_label="The domain's LANs and routers; what is marked in it is written beside it")
 
 
 def name_markup(name, x, y):

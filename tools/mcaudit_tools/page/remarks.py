@@ -15,9 +15,10 @@ from mcaudit_tools.page.markup import table_of, tag
 from mcaudit_tools.premises import beside
 
 SHOWN_UNLISTED = 1000
+SHOWN_WANTS = 1000
 UNSEEN = ("What the files don't show: (*,G) entries and shared trees, netfilter, rp_filter, other "
           "multicast tables, links that are down, losses, and whatever changed since they were written. The guide "
-          "tells of each under “What lies outside”")
+          "has each of them under “What lies outside”")
 
 
 class Folder:
@@ -123,12 +124,13 @@ def unjudged_section(audit, folder):
     comments = comments_of(folder) if folder else []
     items = [(words, more) for is_there, words, more in (
         (audit.without, f"Excluded routers, whose tables are unknown: {' '.join(audit.without)}", []),
-        (audit.unlisted, f"Sources and groups that are no flow's: {len(audit.unlisted)}, told above", []),
+        (audit.unlisted, f"(S,G) that belong to no listed flow: {len(audit.unlisted)}, see above", []),
+        (audit.wants.count, f"What hosts ask for and no flow answers: {wants_words(audit.wants)}, see above", []),
         (lone, "Vifs on no LAN of the topology. A copy that is sent there has left the domain, which is a Stray",
          [f"{domain.routers[router]}: {' '.join(lone[router])}" for router in sorted(lone)]),
-        (absent, "Interfaces of the topology that the router's table of vifs hasn't", absent),
+        (absent, "Interfaces of the topology that the router's vif table doesn't have", absent),
         (alone, f"LANs that no router is on: {' '.join(alone)}", []),
-        (comments, "Comments of the topology, which nobody judges", comments), (True, UNSEEN, [])) if is_there]
+        (comments, "Comments of the topology, which are not judged", comments), (True, UNSEEN, [])) if is_there]
     return [tag("ul", *(tag("li", f"{words}.", *([tag("ul", *(tag("li", it) for it in more))] if more else []))
                         for words, more in items))]
 
@@ -136,7 +138,7 @@ def unjudged_section(audit, folder):
 def unlisted_section(audit):
     """Returns the sources and groups that no flow lists."""
     if not audit.unlisted:
-        return [tag("p", "None: each resolved row of one source is of a flow that the topology lists.")]
+        return [tag("p", "None: each resolved (S,G) entry is of a flow that the topology lists.")]
     rows = []
     for source, group, routers in audit.unlisted[:SHOWN_UNLISTED]:
         is_group = group.split(".")[0] in map(str, range(224, 240))
@@ -144,7 +146,34 @@ def unlisted_section(audit):
         rows.append(tag("tr", *(tag("td", it) for it in (source, group, len(routers), some(routers), remark))))
     rest = len(audit.unlisted) - len(rows)
     more = [f"{rest} more sources and groups"] if rest > 0 else []
-    more += [f"{audit.unlisted_more} further rows"] if audit.unlisted_more else []
-    return [tag("p", "The routers have rows of these, and no flow of the topology is of them: nothing is said of the "
-                     "ways they go." + (f" Not shown: {', '.join(more)}." if more else "")),
+    more += [f"{audit.unlisted_more} further entries"] if audit.unlisted_more else []
+    return [tag("p", "The routers have entries for these, which belong to no listed flow: their paths are not judged."
+                + (f" Not shown: {', '.join(more)}." if more else "")),
             tag("div", table_of(("Source", "Group", "Routers", "Which", "Remark"), rows), class_="scroll")]
+
+
+def wants_words(wants):
+    """Returns how many wants of LANs there are."""
+    return f"{wants.count} want{'s' * (wants.count != 1)} of LANs"
+
+
+def wants_section(audit):
+    """Returns what hosts ask for and no flow answers."""
+    wants = audit.wants
+    if wants.count is None:
+        return [tag("p", "This isn't known: the mcaudit that answered was too old to say it.")]
+    ignored = f" Ignored, by --ignore: {' '.join(audit.ignored)}." if audit.ignored else ""
+    services = ", ".join(f"{group} {name} on {some(lans)}" for group, name, lans in wants.services)
+    counted = [tag("p", f"Not counted, since most hosts ask for it by themselves: {services}.")] if services else []
+    if not wants.count:
+        return [tag("p", "Nothing: a flow that the topology lists answers whatever else the lists of the LANs have."
+                    + ignored), *counted]
+    rows = [tag("tr", *(tag("td", it) for it in (want.source, want.group, len(want.lans), some(want.lans),
+                                                 want.sentence(bool(audit.without)))))
+            for want in wants.all[:SHOWN_WANTS]]
+    rest = wants.count - sum(len(want.lans) for want in wants.all[:SHOWN_WANTS])
+    return [tag("p", f"{wants_words(wants)}, which no listed flow answers: the verdict says nothing about them. "
+                     "Where no router forwards what hosts ask for, they get nothing. * is any source."
+                     + ignored + (f" Not shown: {rest} more." if rest else "")),
+            tag("div", table_of(("Source", "Group", "LANs", "Which", "What the routers do"), rows), class_="scroll"),
+            *counted]

@@ -8,7 +8,8 @@ from mcaudit_tools.page.explain import FLOW, MEANS, MISSED_PERHAPS, SEEN, some
 from mcaudit_tools.page.graph import DRAWING
 from mcaudit_tools.page.markup import Markup, digest, json_markup, table_of, tag
 from mcaudit_tools.page.plans import plans_section
-from mcaudit_tools.page.remarks import basis_section, collected_section, unjudged_section, unlisted_section
+from mcaudit_tools.page.remarks import (basis_section, collected_section, unjudged_section, unlisted_section,
+                                        wants_section, wants_words)
 from mcaudit_tools.page.travel import OUTCOMES
 
 # Where the page's script runs, the table is laid out once, when it is whole, and not again and again
@@ -39,6 +40,8 @@ def verdict_words(audit):
     if unwanted:
         flows_are = "flow is" if unwanted == 1 else "flows are"
         said += f" {unwanted} {flows_are} wanted by no LAN, as far as the reports show."
+    if audit.wants.count:
+        said += f" Beside that, hosts ask for what no flow answers: {wants_words(audit.wants)}."
     return said
 
 
@@ -49,8 +52,8 @@ def tried_section(tried):
     items = [tag("li", tag("code", it)) for it in tried.changes]
     doubts = [tag("li", f"Not audited: {it}") for it in tried.unaudited] + [tag("li", it) for it in tried.assumed]
     return [tag("section", tag("h2", "Tried, not found"),
-                tag("p", f"This is no page of what was found in {tried.site}. It shows what mcaudit answers of a copy "
-                         "of it after these changes, which no router has made by that:"),
+                tag("p", f"This page does not show what was found in {tried.site}. It shows what mcaudit answers for a "
+                         "copy of it after these changes, which no router has made by that:"),
                 tag("ul", *items), *([tag("p", "What that rests on:"), tag("ul", *doubts)] * bool(doubts)), id="tried")]
 
 
@@ -70,7 +73,8 @@ def header(audit, folder, tried):
     summary, domain = audit.summary, audit.domain
     facts = [("Flows", summary["flows"]), *((it.capitalize(), summary[it]) for it in ("right", "wrong", "unknown")),
              ("Wanted by nobody", summary["unwanted"]), ("LANs", len(domain.lans)),
-             ("Routers", len(domain.routers)), ("Not listed", len(audit.unlisted))]
+             ("Routers", len(domain.routers)), ("Not listed", len(audit.unlisted)),
+             *([("Asked for, no flow", audit.wants.count)] if audit.wants.count is not None else [])]
     return tag("header", tag("p", sign, class_="sign", aria_hidden="true"),
                tag("div", tag("h1", heading), tag("p", said), class_="said"),
                tag("dl", *(tag("div", tag("dt", name), tag("dd", value)) for name, value in facts)),
@@ -133,10 +137,10 @@ def flow_section(graph):
     picture = [tag("div", *tools, class_="tools"), tag("div", graph.markup(), id="view", tabindex="0", role="region",
                                                        aria_label="Graph of the domain"),
                tag("figcaption", *(tag("span", words, class_=kind) for kind, words in KEY))] if graph else [
-                   tag("p", f"The domain was not drawn in {DRAWING} s: its flows are told in words alone.")]
+                   tag("p", f"The domain was not drawn in {DRAWING} s: its flows are shown as text only.")]
     return tag("section", tag("h2", "The domain", id="title"), tag("p", id="finding", role="status"),
                tag("div", tag("figure", *picture), tag("div", id="explained"), class_="beside"),
-               tag("noscript", tag("p", "This page shows a flow's way and what explains its fault by its own script, "
+               tag("noscript", tag("p", "This page shows a flow's path and what explains its fault by its own script, "
                                         "which doesn't run here. mcaudit audit says the same as text.")), id="flow")
 
 
@@ -162,7 +166,8 @@ def page_of(audit, graph, folder, tried=None):
     title = "not audited whole" if tried is not None and tried.unaudited else f"Verdict {audit.verdict}"
     title = "Tried: " * (tried is not None) + title
     planned = [] if audit.plans is None else [("What to do about it", plans_section(audit.plans))]
-    sections = [*planned, ("Flows that are not listed", unlisted_section(audit)),
+    sections = [*planned, ("What hosts ask for and no flow answers", wants_section(audit)),
+                ("Flows that are not listed", unlisted_section(audit)),
                 ("What was collected, and when", collected_section(audit.domain, folder)),
                 ("What is not judged", unjudged_section(audit, folder))]
     head = [tag("meta", charset="utf-8"), tag("meta", http_equiv="Content-Security-Policy", content=policy),
@@ -172,7 +177,7 @@ def page_of(audit, graph, folder, tried=None):
             tag("main", flows_section(audit), flow_section(graph)),
             *(tag("section", tag("h2", title), *inner) for title, inner in sections),
             tag("section", id="printed"),
-            tag("footer", f"Made by {PROGRAM.name} {PROGRAM.version} of what mcaudit audit answered."),
+            tag("footer", f"Made by {PROGRAM.name} {PROGRAM.version} from the output of mcaudit audit."),
             tag("script", json_markup(page_data(audit, graph)), type="application/json", id="data"),
             tag("script", Markup(script))]
     return "<!DOCTYPE html>\n" + tag("html", tag("head", *head), "\n", tag("body", *body), lang="en") + "\n"

@@ -26,8 +26,8 @@ from mcaudit_tools.tried import Copy
 ABOUT = """Finds for each flow of SITE that isn't right the fewest changes of (S,G) entries that make it right: commands
 of smcroutectl, router by router, in an order in which no step makes a loop, a duplicate or a stray, and as few LANs
 as possible lose the stream; lines of smcroute.conf; what was assumed. Each step and the end are audited by mcaudit
-on a copy: a flow that it doesn't find right has no plan. Where there is none, the reason is told. SITE is never
-changed, nor is a router.
+on a copy: a flow that it doesn't find right has no plan. Where there is none, the reason is printed. SITE is
+never changed, nor is a router.
 
 A CHANGE is made first: `r2: down`, and what then? Then it also says what is found once what is down is back."""
 MORE = """{grammar}
@@ -36,18 +36,18 @@ Where a router has PIM's register vif, or its facts name a PIM daemon, its entri
 hand (PIM)`, unless --smcroute names it.
 
 Statuses: 0 each flow is right or has a plan of commands, 1 one has none, or a step has to be done by hand; 2 SITE or a
-CHANGE is refused, 3 a read or a write failed, 4 no memory, 5 wrong words.
+CHANGE is refused, 3 a read or a write failed, 4 out of memory, 5 usage error.
 
 Examples:
   mcaudit-plan site
   mcaudit-plan site 'r2: down'
-  mcaudit-plan --flow 3 --keep mended site && mcaudit audit mended"""
+  mcaudit-plan --flow 3 --keep fixed site && mcaudit audit fixed"""
 OPTIONS = [
     ("--flow", "N", "plan this flow alone, by its number in the topology"),
-    ("--new", None, "plan flows of which no router has an entry, too"),
-    ("--use", "ROUTER", "give this router an entry of the flow though it has only an unresolved one, or one for every "
-     "source; may be repeated"),
-    ("--smcroute", "ROUTER", "print commands for this router though it has PIM; may be repeated"),
+    ("--new", None, "also plan flows of which no router has an entry"),
+    ("--use", "ROUTER", "give this router an entry of the flow even if it has only an unresolved or a (*,G) one; may "
+     "be repeated"),
+    ("--smcroute", "ROUTER", "print commands for this router even if it has PIM; may be repeated"),
     ("--keep", "FOLDER", "keep the copy with all plans carried out"),
     ("--json", None, "print an object a line")]
 MOST_FLOWS, MOST_SEARCH, SEARCH = 4096, 1_000_000, 2000
@@ -66,7 +66,7 @@ def read_arguments():
     parser.add_version()
     found = parser.parse_intermixed_args()
     if not found.site:
-        parser.error("the site is wanted by its folder's name")
+        parser.error("SITE has to be a folder's name")
     if found.flow is not None:
         try:
             found.flow = whole_number(1, MOST_FLOWS, "")(found.flow)

@@ -45,7 +45,7 @@ class Reasons:
         hops = self.path(lan, NO_LIMIT)
         stops = self.stops(hops) if hops and len(hops) < self.task.ttl else []
         if stops:
-            return [f"{lan} is reached by no ttl, for thresholds on the way: lower {', '.join(stops)}"]
+            return [f"{lan} is reached by no ttl, for thresholds on the path: lower {', '.join(stops)}"]
         return [self.around(lan), *self.absent(lan),
                 f"  to plan the flow without it: '{lan}: leave {self.flow.group}'", *self.unused(lan)]
 

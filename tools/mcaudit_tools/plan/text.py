@@ -2,7 +2,7 @@
 import json
 
 from mcaudit_tools import igmp
-from mcaudit_tools.audit import COUNTS
+from mcaudit_tools.audit import counts_text
 from mcaudit_tools.common import clean
 from mcaudit_tools.plan.words import PIM, Words, assumed
 
@@ -42,7 +42,7 @@ class Printer:
         lans = self.without_source(flow) if igmp.address_of(flow.group)[0] == igmp.SSM else []
         if lans:
             notes.append(f"{flow.group} is a group of SSM, and {' '.join(lans)} asks for it without naming a source, "
-                         "which routers ignore: mend the hosts or the querier first")
+                         "which routers ignore: fix the hosts or the querier first")
         for router in plan.routers():
             if router in plan.task.every_source and not plan.entries[router][1]:
                 notes.append(f"{router} has an entry for every source too, which forwards the flow once this entry to "
@@ -109,8 +109,7 @@ class Printer:
         if not plans:
             yield "no flow to plan"
         yield from self.common_lines(plans)
-        counts = [it for it in (*COUNTS, "asked") if it in after.summary]
-        yield " ".join(["after the plan: summary", *(f"{it} {after.summary[it]}" for it in counts)])
+        yield f"after the plan: summary {counts_text(after.summary)}"
         yield f"verdict {after.verdict}"
 
     # JSON

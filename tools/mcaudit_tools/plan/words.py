@@ -88,5 +88,5 @@ def assumed(domain, plan):
             if is_told and threshold == usual == 1:
                 continue
             why = ("as the entry has it now" if vif in was else "as its other entries have it" if is_told else
-                   "since no other entry tells it" if threshold == 1 else "as most of its other entries have it")
+                   "since no other entry shows it" if threshold == 1 else "as most of its other entries have it")
             yield f"{router} {domain.interface(router, vif)}: threshold {threshold}, {why}"

@@ -18,20 +18,20 @@ from mcaudit_tools.premises.findings import BAD, counts_of
 PAUSES = "1,5,1"
 NUMBERS = re.compile(r"([0-9]{1,3}(?:\.[0-9]{1,3})?),([0-9]{1,3}(?:\.[0-9]{1,3})?),([0-9]{1,3}(?:\.[0-9]{1,3})?)")
 ABOUT = """Judges what the verdict about SITE rests on, beside the verdict itself: what of each router's own settings
-contradicts its tables (rp_filter, links, netfilter, ip mrule, bridges that snoop ..), of the facts that
+contradicts its tables (rp_filter, links, netfilter, ip mrule, bridges that snoop ..), from the facts that
 `mcaudit-collect --facts` brings; and whether packets flow as the tables say, by the counters of the last
-four sets, or with --watch by four readings now, for which the routers are told as for mcaudit-collect.
+four sets, or with --watch by four readings now, for which the routers are given as for mcaudit-collect.
 
-Each line says how sure it is: `drops`, the kernel drops these packets although the table says forward; `may drop`,
-that can't be told; `beside`, something else than the table decides; `not known`, the router could not say it. Of
-counters: `none comes`, `at least n are lost`, `more come than were sent`, `by another vif`. Below a line stands one
-that ends it, where there is one."""
+Each line says how certain it is: `drops`, the kernel drops these packets although the table says forward; `may drop`,
+that is unknown; `beside`, something else than the table decides; `not known`, the router could not say it. Of
+counters: `none comes`, `at least n are lost`, `more come than were sent`, `by another vif`. The line below it is the
+command that ends it, where there is one."""
 MORE = """What a router took in between the second reading and the third, the next one must have seen between the
 first and the last: so neither clocks nor bursts matter, only a delay of more than the first and the last pause.
 
 Statuses: 0 nothing contradicts the tables, 1 something does: `drops`, `none comes` or packets that are lost (with
---strict anything that was found or isn't known), 2 mcaudit refuses the folder, 3 a read failed, 4 no memory,
-5 wrong words.
+--strict anything that was found or isn't known), 2 mcaudit refuses the folder, 3 a read failed, 4 out of
+memory, 5 usage error.
 
 Examples:
   mcaudit-collect --facts --routers routers site && mcaudit-premises site
@@ -40,7 +40,7 @@ Examples:
 OPTIONS = [
     ("--timeout", "SECONDS", "with --watch, give a router up when a reading takes longer (20)", 1, 999, 20),
     ("--json", None, "print an object a line"),
-    ("--strict", None, "end with status 1 also where something may drop packets, stands beside the tables, or is not "
+    ("--strict", None, "also end with status 1 where something may drop packets, decides beside the tables, or is not "
      "known")]
 
 
@@ -48,7 +48,7 @@ def read_arguments():
     """Reads the arguments."""
     parser = Parser(description=ABOUT, epilog=MORE)
     parser.add_argument("site", metavar="SITE", help="the folder, as mcaudit-collect makes it")
-    parser.add_argument("ways", metavar="NAME=WAY", nargs="*", help="with --watch, a router and the way to it")
+    parser.add_argument("ways", metavar="NAME=ADDRESS", nargs="*", help="with --watch, a router and its address")
     parser.add_options(ways.REACH)
     parser.add_argument("--watch", metavar="[A,B,C]", help="read the counters of all routers four times, with these "
                         f"pauses in seconds between ({PAUSES})")
@@ -56,7 +56,7 @@ def read_arguments():
     parser.add_version()
     found = parser.parse_intermixed_args(list(with_pauses(sys.argv[1:])))
     if not found.site:
-        parser.error("the site is wanted by its folder's name")
+        parser.error("SITE has to be a folder's name")
     found.site = found.site.rstrip("/") or found.site
     check_words(parser, found)
     return found
@@ -92,7 +92,7 @@ def check_words(parser, found):
             raise
         parser.error(str(fault))
     if not found.all:
-        parser.error("--watch wants the routers")
+        parser.error("--watch requires the routers")
     found.ssh = found.ssh or ways.SSH
 
 
@@ -108,7 +108,7 @@ def main():
     words = read_arguments()
     folder = os.path.realpath(words.site)
     if not os.path.isdir(folder):
-        raise Failed(f"{words.site} is no folder")
+        raise Failed(f"{words.site} is not a folder")
     try:
         answer = domain.run_audit(find_tool("mcaudit"), folder, "mcaudit audit")
         ages = Ages.of_set(folder, words.site, answer.routers, answer.lans)

@@ -83,7 +83,7 @@ def reading_in(folder, router, wanted, known, since):
 def of_sets(answer, site, current):
     """Returns what the counters of the last four sets say."""
     if not os.path.islink(site) or os.path.dirname(current) != os.path.realpath(f"{site}.sets"):
-        return Counters(reason=f"{site} is no link to a set, so there are no sets before it")
+        return Counters(reason=f"{site} is not a link to a set, so there are no sets before it")
     found = chosen(site, current, answer.routers)
     if len(found) < ROUNDS:
         return Counters(reason=f"{len(found)} of {ROUNDS} sets, each read after the one before")

@@ -64,9 +64,9 @@ class RouterJudge:
         self.add(netfilter.KIND, self.filters.faults_found())
         self.add("igmp", self.judge_igmp())
         for name, kind in DAEMONS.items():
-            reason = self.facts.fault(name) or "it is no JSON of that"
+            reason = self.facts.fault(name) or "it is not such JSON"
             if self.facts.is_asked(name) and not isinstance(self.facts.json(name), dict):
-                self.add(kind, [(NOT_KNOWN, f"what its FRR says of {kind}: {reason}", "")])
+                self.add(kind, [(NOT_KNOWN, f"what its FRR says about {kind}: {reason}", "")])
         return self.found
 
     def add_known(self, kind, key, judge, flow=None):
@@ -194,7 +194,7 @@ class Judge:
         for router, device, address in self.neighbors:
             if address not in listed:
                 yield Finding(BESIDE, "neighbors", router, clean(
-                    f"{device}: its PIM neighbour {address} is no listed router's"))
+                    f"{device}: its PIM neighbour {address} belongs to no listed router"))
 
 
 def looked_at(domain, findings):

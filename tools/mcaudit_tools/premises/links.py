@@ -21,7 +21,7 @@ def judge_link(facts, vif, side):
         yield NOT_KNOWN, f"whether {name} is up", ""
         return
     if vif.index not in (None, index):
-        yield DROPS, f"{name} was made anew: the vif is of interface {vif.index}, and {device} is {index} now", ""
+        yield DROPS, f"{name} was recreated: the vif is of interface {vif.index}, and {device} is {index} now", ""
     if not flags & UP:
         yield DROPS, f"{name} is down", f"ip link set {shlex.quote(device)} up"
     elif facts.link(device, "carrier") != "1":

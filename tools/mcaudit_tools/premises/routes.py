@@ -81,7 +81,7 @@ class MainTable:
         self.networks = dict(sorted(self.networks.items(), reverse=True))
 
     def route_back(self, source):
-        """Returns the route to an address, which is a number; None where there is nothing that says it."""
+        """Returns the route to an address, which is a number; None where nothing shows it."""
         for mask, known in self.networks.items():
             if source & mask in known:
                 _, device, flags = known[source & mask]

@@ -64,7 +64,7 @@ class Tables:
         if self.unread:
             yield NOT_KNOWN, f"ip mrule: {self.unread[0][:80]}", ""
         if self.others:
-            yield BESIDE, f"it has rows in other tables: {some(sorted(self.others))}", ""
+            yield BESIDE, f"it has entries in other tables: {some(sorted(self.others))}", ""
         for line in self.facts.lines("mroute"):
             if OFFLOAD.search(line):
                 yield BESIDE, f"hardware forwards: {' '.join(line.split())[:80]}", ""

@@ -130,11 +130,11 @@ class Windows:
             return None, self.faults[router]
         rows = [one[router].rows.get(flow) for one in self.rounds]
         if None in rows:
-            return None, "there was no row of it all the while"
+            return None, "there was no entry of it all the while"
         if len({it.vif for it in rows}) > 1:
-            return None, "its row had another incoming vif meanwhile"
+            return None, "its entry had another incoming vif meanwhile"
         if rise_of([it.taken for it in rows]) is None or not self.is_vif_kept(router, rows[0].vif):
-            return None, "its row was made anew meanwhile"
+            return None, "its entry was recreated meanwhile"
         return rows, None
 
     def is_vif_kept(self, router, number):
@@ -223,7 +223,7 @@ class Windows:
         vifs = self.rounds[0][router].vifs
         is_registering = any(vifs[it].is_register for one in rows for it in one.outgoing if it in vifs)
         if strangers and strangers.inner >= LEAST and strangers.inner > 0.05 * taken.inner and not is_registering:
-            self.add(STRANGERS, router, f"{strangers.inner} packets came by another vif than its row's, beside "
+            self.add(STRANGERS, router, f"{strangers.inner} packets came by another vif than its entry's, beside "
                      f"{taken.inner}: somebody else sends it onto a LAN of {router}", flow)
 
     def add_copies(self, flow, router, rows):
@@ -258,7 +258,7 @@ class Windows:
         if (router, number) in self.explained:
             return
         if copies >= LEAST and is_less(out.outer, copies):
-            self.add(LOST, router, f"{device}: its rows made {copies} copies, and {out.outer} left by this vif: "
+            self.add(LOST, router, f"{device}: its entries made {copies} copies, and {out.outer} left by this vif: "
                      + places.VIF)
             self.coming -= self.by_vif.get((router, number), set())
         sent, dropped = (self.rise(router, "devices", device, it) for it in ("sent", "sent_dropped"))

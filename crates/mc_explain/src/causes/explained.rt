@@ -23,7 +23,7 @@ use mc_topology::{LanNo, RouterNo};
 use std::alloc::Global;
 
 /// Adds the sender of a copy onto a LAN, if it isn't the source.
-fn add_sender(
+pub(crate) fn add_sender(
     causes: &mut Vec<Cause>,
     lan: LanNo,
     sender: Option<(RouterNo, u8)>,
@@ -93,7 +93,7 @@ fn explain_duplicate(
 }
 
 /// A cause for each hop of a circle, in the order in which packets take them.
-fn circle_causes(alloc: Global, circle: &[Hop]) -> Result<Vec<Cause>, Memory>
+pub(crate) fn circle_causes(alloc: Global, circle: &[Hop]) -> Result<Vec<Cause>, Memory>
     ensures { IfOk result (λ causes. causes.items ≡ reverse (map circle_cause circle.now)) }
 {
     let mut causes = Vec::new(alloc);

@@ -1,16 +1,27 @@
 //! What explains the finding of a flow's packet.
 
 use crate::causes::Cause;
+use crate::causes::behind::Behind;
 use crate::searches::searching::LanSearch;
+use mc_replay::Finding;
 use mc_topology::LanNo;
+
+/// Which packets show a finding of a packet with TTL 255.
+#[derive(Clone, Copy, Debug)]
+pub struct ShownBy {
+    /// The TTL from which on each packet shows it, if that is said.
+    pub from: Option<u8>,
+    /// What a packet with the flow's own TTL meets, if that is said.
+    pub at_flow_ttl: Option<Finding>,
+}
 
 /// How certain a finding is.
 #[derive(Clone, Copy, Debug)]
 pub struct Certainty {
     /// Whether it is known that the flow isn't right: not where the search comes to an excluded router.
     pub known: bool,
-    /// The TTL from which on each packet shows the finding, if that is said.
-    pub shown_from: Option<u8>,
+    /// Which packets show the finding.
+    pub shown_by: ShownBy,
 }
 
 /// What explains the finding of a flow's packet.
@@ -22,6 +33,8 @@ pub struct Explanation<'e> {
     pub search: &'e Option<LanSearch>,
     /// The LANs that the packet also missed.
     pub also: &'e [LanNo],
+    /// What is behind the stray, if the finding is one.
+    pub behind: &'e Option<Behind>,
     /// How certain the finding is.
     pub certainty: Certainty,
 }

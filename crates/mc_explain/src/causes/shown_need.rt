@@ -66,7 +66,7 @@ fn need_behind(hops: &[Hop], threshold: u8) -> u8
 }
 
 /// The greater need of the LAN's first copy and of the first duplicate.
-fn need_of_two_copies(
+pub(crate) fn need_of_two_copies(
     alloc: Global,
     view: &FlowView<'_>,
     copies: &[CarriedCopy],

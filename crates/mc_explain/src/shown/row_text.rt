@@ -71,8 +71,9 @@ impl<'v> fmt::Display for ShownOifs<'v> {
 
 /// A row's source or group. The address 0.0.0.0 means every source or group, and is written `*`.
 #[derive(Clone, Copy, Drop)]
-struct ShownAddress {
-    address: Addr,
+pub(crate) struct ShownAddress {
+    /// The address.
+    pub(crate) address: Addr,
 }
 
 impl fmt::Display for ShownAddress {

@@ -7,10 +7,10 @@ use mc_topology::{LanNo, RouterNo, Topology};
 use std::fmt;
 
 /// How many names of a list are shown at most.
-const MAX_SHOWN_NAMES: usize = 8;
+pub(crate) const MAX_SHOWN_NAMES: usize = 8;
 
 /// The first 8 of a list.
-fn first_eight<N>(list: &[N]) -> &[N]
+pub(crate) fn first_eight<N>(list: &[N]) -> &[N]
     ensures { result.now ≡ take 8 list.now }
 {
     if list.len() > MAX_SHOWN_NAMES {
@@ -22,8 +22,9 @@ fn first_eight<N>(list: &[N]) -> &[N]
 
 /// How many more there are, such as ` and 3 more`, or nothing if there are none.
 #[derive(Clone, Copy, Drop)]
-struct ShownMore {
-    more: usize,
+pub(crate) struct ShownMore {
+    /// How many.
+    pub(crate) more: usize,
 }
 
 impl fmt::Display for ShownMore {

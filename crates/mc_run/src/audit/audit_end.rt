@@ -3,25 +3,26 @@
 ghost use Rattle.std.specs.Prelude.{◌≡◌, ◌++◌, IfOk, OnOk, flat_map, map};
 ghost use Rattle.std.specs.String.{string_bytes};
 ghost use Rattle.mc_forward.specs.ListedTables.{facts};
-ghost use Rattle.mc_run.specs.AuditEnd.{begin_lines, option_words};
-ghost use Rattle.mc_run.specs.AuditEnd.{strict_lines, summary_line, verdict_line, word_if_asked};
-ghost use Rattle.mc_run.specs.AuditEnd.{without_words};
-ghost use Rattle.mc_run.specs.AuditPieces.{end_objects_of, end_text_of, end_text_or_objects_of};
+ghost use Rattle.mc_run.specs.AuditEnd.{begin_lines, ignore_words, option_words, strict_line, strict_lines};
+ghost use Rattle.mc_run.specs.AuditEnd.{summary_line, verdict_line, without_words, word_if_asked};
+ghost use Rattle.mc_run.specs.AuditPieces.{audited_value, end_objects_of, end_text_of};
+ghost use Rattle.mc_run.specs.AuditPieces.{end_text_or_objects_of};
 
+use crate::audit::audit_asked::push_asked_lines;
 use crate::audit::audited_domain::AuditedDomain;
 use crate::audit::flow_status::FlowCounts;
 use crate::shown::verdict_text::push_overall_verdict;
 use mc_cli::{
-    AuditOptions, FAULTS_WORD, JSON_WORD, STRICT_WORD, TRAVEL_WORD, UNLISTED_WORD, WITHOUT_WORD,
+    AuditOptions, FAULTS_WORD, IGNORE_WORD, JSON_WORD, STRICT_WORD, TRAVEL_WORD, UNLISTED_WORD,
+    WITHOUT_WORD,
 };
 use mc_explain::{
     list_excluded_routers, push_excluded_routers, push_unlisted, push_verdict_reason,
 };
-use mc_forward::Domain;
 use mc_json::{
     push_domain_line, push_summary_line, push_unlisted_lines, push_verdict_line, push_without_line,
 };
-use mc_text::Memory as NoMemory;
+use mc_text::{GroupRange, Memory as NoMemory};
 use mc_topology::{RouterNo, Topology};
 use std::alloc::Global;
 
@@ -75,15 +76,45 @@ fn push_all_without_words(
     Ok(())
 }
 
-/// The words of a call with these options that excludes the marked routers.
+/// Adds the two words that leave a range of groups aside.
+fn push_ignore_words(
+    alloc: Global,
+    words: &mut Vec<String>,
+    range: GroupRange,
+) -> Result<(), NoMemory>
+    ensures { OnOk result (map string_bytes words.new.items
+        ≡ map string_bytes words.old.items ++ ignore_words range) }
+{
+    words.push(String::from_str(alloc, IGNORE_WORD)?)?;
+    words.push(format!(in alloc; "{range}")?)?;
+    Ok(())
+}
+
+/// Adds the words that leave these ranges of groups aside.
+fn push_all_ignore_words(
+    alloc: Global,
+    words: &mut Vec<String>,
+    ranges: &[GroupRange],
+) -> Result<(), NoMemory>
+    ensures { OnOk result (map string_bytes words.new.items
+        ≡ map string_bytes words.old.items ++ flat_map ignore_words ranges.now) }
+{
+    for range in ranges {
+        push_ignore_words(alloc, words, *range)?;
+    }
+    Ok(())
+}
+
+/// The words of a call with these options that excludes the marked routers and leaves these ranges aside.
 fn option_words(
     alloc: Global,
     topology: &Topology,
     options: AuditOptions,
     excluded: &[bool],
+    ignored: &[GroupRange],
 ) -> Result<Vec<String>, NoMemory>
     ensures { IfOk result (λ words.
-        map string_bytes words.items ≡ option_words options topology.now excluded.now) }
+        map string_bytes words.items ≡ option_words options topology.now excluded.now ignored.now) }
 {
     let mut words = Vec::new(alloc);
     push_option_word(alloc, &mut words, options.travels, TRAVEL_WORD)?;
@@ -93,34 +124,40 @@ fn option_words(
     push_option_word(alloc, &mut words, options.json, JSON_WORD)?;
     let routers = list_excluded_routers(alloc, topology, excluded)?;
     push_all_without_words(alloc, &mut words, topology, &routers)?;
+    push_all_ignore_words(alloc, &mut words, ignored)?;
     Ok(words)
 }
 
 /// The begin of the text: in JSON a line with the domain and the words of the call, else nothing.
 pub(crate) fn begin_lines(
     alloc: Global,
-    domain: &Domain,
+    audited: &AuditedDomain<'_>,
     options: AuditOptions,
-    excluded: &[bool],
 ) -> Result<String, NoMemory>
-    ensures { IfOk result (λ text.
-        string_bytes text ≡ begin_lines options (facts domain.now) excluded.now) }
+    ensures { IfOk result (λ text. string_bytes text ≡ begin_lines options
+        (facts (audited_value audited.now).domain) audited.now.excluded.now audited.now.ignored.now) }
 {
     let mut text = String::new(alloc);
     if options.json {
-        let words = option_words(alloc, domain.topology(), options, excluded)?;
-        push_domain_line(alloc, &mut text, domain, &words)?;
+        let topology = audited.domain.topology();
+        let words = option_words(alloc, topology, options, audited.excluded, audited.ignored)?;
+        push_domain_line(alloc, &mut text, audited.domain, &words)?;
     }
     Ok(text)
 }
 
 // ---- after the flows, as text
 
-/// Writes how many flows there are, and how many have each status.
-fn push_summary(text: &mut String, flows: u32, flow_counts: FlowCounts) -> Result<(), NoMemory>
+/// Writes how many flows there are, how many have each status, and how many wants of LANs no flow answers.
+fn push_summary(
+    text: &mut String,
+    flows: u32,
+    flow_counts: FlowCounts,
+    asked: u64,
+) -> Result<(), NoMemory>
     ensures { OnOk result (string_bytes text.new ≡ string_bytes text.old
         ++ summary_line flows flow_counts.right flow_counts.wrong flow_counts.unknown
-        flow_counts.unwanted) }
+        flow_counts.unwanted asked) }
 {
     let FlowCounts {
         right,
@@ -128,26 +165,45 @@ fn push_summary(text: &mut String, flows: u32, flow_counts: FlowCounts) -> Resul
         unknown,
         unwanted,
     } = flow_counts;
-    writeln!(
+    write!(
         text,
         "summary flows {flows} right {right} wrong {wrong} unknown {unknown} unwanted {unwanted}"
-    )
-    .map_err(|_| NoMemory)
+    )?;
+    writeln!(text, " asked {asked}")?;
+    Ok(())
 }
 
-/// Writes, if the option strict is set, that a yes isn't enough since some flows are wanted by nobody.
-fn push_strict(text: &mut String, strict: bool, all: bool, unwanted: u32) -> Result<(), NoMemory>
+/// Writes that a yes isn't enough where there are some of what these words name.
+fn push_strict_line(
+    text: &mut String,
+    fails: bool,
+    count: u64,
+    words: &str,
+) -> Result<(), NoMemory>
     ensures { OnOk result (string_bytes text.new ≡ string_bytes text.old
-        ++ strict_lines strict all unwanted) }
+        ++ strict_line fails count words.now) }
 {
-    if strict && all && unwanted > 0 {
-        writeln!(
-            text,
-            "  strict: {unwanted} flows that nobody wants, status 1"
-        )
-        .map_err(|_| NoMemory)?;
+    if fails && count > 0 {
+        writeln!(text, "  strict: {count}{words}, status 1")?;
     }
     Ok(())
+}
+
+/// Writes, if the option strict is set, that a yes isn't enough since some flows are wanted by nobody, or
+/// since no flow answers some wants.
+fn push_strict(
+    text: &mut String,
+    strict: bool,
+    all: bool,
+    unwanted: u32,
+    asked: u64,
+) -> Result<(), NoMemory>
+    ensures { OnOk result (string_bytes text.new ≡ string_bytes text.old
+        ++ strict_lines strict all unwanted asked) }
+{
+    let fails = strict && all;
+    push_strict_line(text, fails, u64::from(unwanted), " flows that nobody wants")?;
+    push_strict_line(text, fails, asked, " wants that no flow answers")
 }
 
 /// Writes the lines after the flows as text. `all` says whether the verdict is yes.
@@ -157,18 +213,21 @@ fn push_end_text(
     audited: &AuditedDomain<'_>,
     options: AuditOptions,
     flow_counts: FlowCounts,
+    asked: u64,
     all: bool,
 ) -> Result<(), NoMemory>
+    requires asked { asked ≡ (audited_value audited.now).asked.count }
     ensures { OnOk result (string_bytes text.new ≡ string_bytes text.old
         ++ end_text_of audited.now options flow_counts all) }
 {
     let topology = audited.domain.topology();
     let routers = list_excluded_routers(alloc, topology, audited.excluded)?;
     push_unlisted(alloc, text, topology, audited.summary, options.unlisted)?;
+    push_asked_lines(alloc, text, audited, false)?;
     push_excluded_routers(text, topology, &routers)?;
-    push_summary(text, topology.flows(), flow_counts)?;
+    push_summary(text, topology.flows(), flow_counts, asked)?;
     push_verdict_reason(text, topology, &routers)?;
-    push_strict(text, options.strict, all, flow_counts.unwanted)
+    push_strict(text, options.strict, all, flow_counts.unwanted, asked)
 }
 
 // ---- after the flows, in JSON
@@ -180,7 +239,9 @@ fn push_end_objects(
     audited: &AuditedDomain<'_>,
     options: AuditOptions,
     flow_counts: FlowCounts,
+    asked: u64,
 ) -> Result<(), NoMemory>
+    requires asked { asked ≡ (audited_value audited.now).asked.count }
     ensures { OnOk result (string_bytes text.new ≡ string_bytes text.old
         ++ end_objects_of audited.now options flow_counts) }
 {
@@ -193,29 +254,32 @@ fn push_end_objects(
     } = flow_counts;
     let routers = list_excluded_routers(alloc, topology, audited.excluded)?;
     push_unlisted_lines(alloc, text, topology, audited.summary, options.unlisted)?;
+    push_asked_lines(alloc, text, audited, true)?;
     push_without_line(alloc, text, topology, &routers)?;
-    push_summary_line(alloc, text, right, unknown, unwanted, wrong)
+    push_summary_line(alloc, text, asked, right, unknown, unwanted, wrong)
 }
 
 // ---- both
 
-/// Writes the lines after the flows, with the counts of flows, and the verdict.
+/// Writes the lines after the flows, with the counts of flows and of wants, and the verdict.
 pub(crate) fn push_end(
     alloc: Global,
     text: &mut String,
     audited: &AuditedDomain<'_>,
     options: AuditOptions,
     flow_counts: FlowCounts,
+    asked: u64,
     all: bool,
 ) -> Result<(), NoMemory>
+    requires asked { asked ≡ (audited_value audited.now).asked.count }
     ensures { OnOk result (string_bytes text.new ≡ string_bytes text.old
         ++ (end_text_or_objects_of audited.now options flow_counts all ++ verdict_line options.json all)) }
 {
     if options.json {
-        push_end_objects(alloc, text, audited, options, flow_counts)?;
+        push_end_objects(alloc, text, audited, options, flow_counts, asked)?;
         push_verdict_line(alloc, text, all)
     } else {
-        push_end_text(alloc, text, audited, options, flow_counts, all)?;
+        push_end_text(alloc, text, audited, options, flow_counts, asked, all)?;
         push_overall_verdict(text, all)
     }
 }

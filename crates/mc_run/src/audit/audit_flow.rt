@@ -12,12 +12,12 @@ ghost use Rattle.mc_run.specs.AuditRun.{is_whole};
 ghost use Rattle.mc_run.specs.MakeRun.{IsExamined};
 
 use crate::audit::audit_right::push_checked;
-use crate::audit::audit_wrong::{push_wrong, search_if_missed, shown_from_if_less};
+use crate::audit::audit_wrong::{behind_if_stray, push_wrong, search_if_missed, shown_by};
 use crate::audit::audited_domain::AuditedDomain;
 use crate::audit::flow_status::FlowStatus;
 use mc_cert::DistinctTrees;
 use mc_cli::AuditOptions;
-use mc_explain::{Cause, explain};
+use mc_explain::{Cause, ShownBy, explain};
 use mc_forward::FlowView;
 use mc_maker::{ExaminedFlights, examine_to_end};
 use mc_replay::FinishedTravel;
@@ -80,9 +80,10 @@ fn push_found_at_255(
 {
     let causes = causes_to_print(alloc, audited, flow, flights)?;
     let found = search_if_missed(alloc, audited, flow, ended)?;
-    let shown_from = shown_from_if_less(alloc, audited, flow, ended)?;
+    let behind = behind_if_stray(alloc, audited, flow, ended.travel.finding)?;
+    let shown_by = shown_by(alloc, audited, flow, ended)?;
     push_wrong(
-        alloc, audited, flow, ended, 255, options, &causes, &found, shown_from, text,
+        alloc, audited, flow, ended, 255, options, &causes, &found, &behind, shown_by, text,
     )
 }
 
@@ -109,8 +110,12 @@ fn push_found_at_flow_ttl(
     let view = FlowView::new(audited.domain, flow);
     let ttl = view.ttl();
     let causes = causes_to_print(alloc, audited, flow, flights)?;
+    let unsaid = ShownBy {
+        from: None,
+        at_flow_ttl: None,
+    };
     push_wrong(
-        alloc, audited, flow, least, ttl, options, &causes, &None, None, text,
+        alloc, audited, flow, least, ttl, options, &causes, &None, &None, unsaid, text,
     )
 }
 

@@ -7,10 +7,14 @@ ghost use Rattle.mc_maker.specs.declared.examined_flights.ExaminedFlights.TheVar
 ghost use Rattle.mc_run.specs.AuditPieces.{HasItsMarksAndInterfaces, audited_value, explanation_lines_of};
 ghost use Rattle.mc_run.specs.AuditPieces.{explanation_value, search_context_of, searched_lines_of};
 ghost use Rattle.mc_run.specs.AuditPieces.{explained_lines_of, status_of_wrong_flow, wrong_flow_lines_of};
-ghost use Rattle.mc_run.specs.AuditPieces.{wrong_lines_of, wrong_object_of};
-ghost use Rattle.mc_run.specs.AuditExplanation.{IsSearchIfMissed, IsShownFromAt255};
-ghost use Rattle.mc_run.specs.AuditExplanation.{is_known_wrong as says_known_wrong};
-ghost use Rattle.mc_run.specs.AuditText.{events_if_shown, found_flow_line, known_word, shown_from_text};
+ghost use Rattle.mc_run.specs.AuditPieces.{behind_lines_of, second_behind_of, wrong_lines_of, wrong_object_of};
+ghost use Rattle.mc_run.specs.AuditExplanation.{IsBehindIfStray, IsFoundBelow, IsSearchIfMissed, IsShownBy};
+ghost use Rattle.mc_run.specs.AuditExplanation.{IsShownFromAt255};
+ghost use Rattle.mc_run.specs.AuditExplanation.{certain_finding, is_known_wrong as says_known_wrong};
+ghost use Rattle.mc_run.specs.AuditRun.{is_whole};
+ghost use Rattle.mc_run.specs.AuditText.{at_flow_ttl_text, deeper_shown_from_text, events_if_shown};
+ghost use Rattle.mc_run.specs.AuditText.{found_flow_line, known_word};
+ghost use Rattle.mc_run.specs.AuditText.{shown_by_text, shown_from_text};
 
 use crate::audit::audited_domain::AuditedDomain;
 use crate::audit::flow_status::FlowStatus;
@@ -18,12 +22,13 @@ use crate::shown::travel_text::push_events;
 use crate::shown::verdict_text::FlowWords;
 use mc_cli::AuditOptions;
 use mc_explain::{
-    Cause, Certainty, Explanation, LanSearch, missed_besides, push_also_missed, search, shown_from,
+    Behind, Cause, Certainty, Explanation, LanSearch, ShownBy, behind_stray, missed_besides,
+    push_also_missed, push_leaks_behind, search, shown_from,
 };
-use mc_forward::FlowView;
+use mc_forward::{FlowView, Stray};
 use mc_json::push_wrong_line;
-use mc_lines::{push_causes, push_search};
-use mc_replay::{Finding, FinishedTravel, Travel};
+use mc_lines::{push_causes, push_deeper_causes, push_search};
+use mc_replay::{Finding, FinishedTravel, First, Travel, replay};
 use mc_text::Memory as NoMemory;
 use mc_topology::{Flow, Topology};
 use std::alloc::Global;
@@ -60,7 +65,7 @@ pub(crate) fn search_if_missed(
 
 /// The TTL from which on packets show the finding of the travel at TTL 255. None is said where the flow's own
 /// TTL is 255.
-pub(crate) fn shown_from_if_less(
+fn shown_from_if_less(
     alloc: Global,
     audited: &AuditedDomain<'_>,
     flow: u32,
@@ -77,6 +82,79 @@ pub(crate) fn shown_from_if_less(
         return Ok(None);
     }
     shown_from(alloc, audited.domain, flow, ended)
+}
+
+/// A finding of a packet with the flow's own TTL; without the whole domain, only if no tables of the excluded
+/// routers take it away.
+fn certain_finding(whole: bool, finding: Finding) -> Option<Finding>
+    ensures { result ≡ certain_finding whole finding }
+{
+    match finding {
+        Finding::Clean | Finding::Missed(_) => { if whole { Some(finding) } else { None } }
+        Finding::Duplicate(_) | Finding::Loop(_) | Finding::Stray(_, _) => Some(finding),
+    }
+}
+
+/// What a packet with the flow's own TTL meets, where packets show the finding at TTL 255 only from a greater
+/// one on.
+fn found_below(
+    alloc: Global,
+    audited: &AuditedDomain<'_>,
+    flow: u32,
+    shown_from: Option<u8>,
+) -> Result<Option<Finding>, NoMemory>
+    requires flow { flow < length (audited_value audited.now).domain.topology.flows }
+    ensures found { IfOk result (IsFoundBelow (is_whole (audited_value audited.now))
+        (audited_value audited.now).domain flow shown_from) }
+{
+    let ttl = audited.domain.topology().flow(flow).ttl;
+    let Some(from) = shown_from else {
+        return Ok(None);
+    };
+    if from <= ttl {
+        return Ok(None);
+    }
+    let travel = replay(alloc, audited.domain, flow, ttl, &mut First)?;
+    Ok(certain_finding(audited.without.is_empty(), travel.finding))
+}
+
+/// Which packets show the finding of the travel at TTL 255.
+pub(crate) fn shown_by(
+    alloc: Global,
+    audited: &AuditedDomain<'_>,
+    flow: u32,
+    ended: &FinishedTravel<'_>,
+) -> Result<ShownBy, NoMemory>
+    requires flow { flow < length (audited_value audited.now).domain.topology.flows }
+    requires ended { IsFinishedTravelOf (audited_value audited.now).domain flow 255 ended.now }
+    ensures shown { IfOk result (IsShownBy (is_whole (audited_value audited.now))
+        (audited_value audited.now).domain flow (FoundAtTtl255 ended.now)) }
+{
+    let from = shown_from_if_less(alloc, audited, flow, ended)?;
+    let at_flow_ttl = found_below(alloc, audited, flow, from)?;
+    Ok(ShownBy { from, at_flow_ttl })
+}
+
+/// What is behind a stray of a packet with TTL 255, if its finding is one.
+pub(crate) fn behind_if_stray(
+    alloc: Global,
+    audited: &AuditedDomain<'_>,
+    flow: u32,
+    finding: Finding,
+) -> Result<Option<Behind>, NoMemory>
+    requires flow { flow < length (audited_value audited.now).domain.topology.flows }
+    ensures behind { IfOk result (IsBehindIfStray (is_whole (audited_value audited.now))
+        (audited_value audited.now).domain flow finding) }
+{
+    match finding {
+        Finding::Stray(router, vif) => {
+            let own = Stray { router, vif };
+            let whole = audited.without.is_empty();
+            let behind = behind_stray(alloc, audited.domain, whole, flow, own)?;
+            Ok(Some(behind))
+        }
+        Finding::Clean | Finding::Duplicate(_) | Finding::Loop(_) | Finding::Missed(_) => Ok(None),
+    }
 }
 
 // ---- as text
@@ -99,7 +177,66 @@ fn push_search_if_any(
     }
 }
 
-/// Writes what explains a finding: its causes, a search if there was one, and the other missed LANs.
+/// Writes from which TTL on packets show a second copy behind a stray, if that is said.
+fn push_deeper_shown_from(text: &mut String, shown_from: Option<u8>) -> Result<(), NoMemory>
+    ensures { OnOk result (string_bytes text.new ≡ string_bytes text.old
+        ++ deeper_shown_from_text shown_from) }
+{
+    if let Some(ttl) = shown_from {
+        writeln!(text, "    shown by packets sent with ttl {ttl} or more")?;
+    }
+    Ok(())
+}
+
+/// Writes the second copy behind a stray, if there is one.
+fn push_second_behind(
+    alloc: Global,
+    text: &mut String,
+    audited: &AuditedDomain<'_>,
+    flow: u32,
+    behind: &Behind,
+) -> Result<(), NoMemory>
+    requires known { flow < length (audited_value audited.now).domain.topology.flows }
+    ensures added { OnOk result (string_bytes text.new ≡ string_bytes text.old
+        ++ second_behind_of audited.now flow behind.now) }
+{
+    let Some(finding) = behind.finding else {
+        return Ok(());
+    };
+    let finding = finding.shown(audited.domain.topology());
+    writeln!(text, "  behind it: {finding}")?;
+    push_deeper_causes(
+        alloc,
+        text,
+        audited.domain,
+        audited.summary,
+        flow,
+        &behind.causes,
+    )?;
+    push_deeper_shown_from(text, behind.shown_from)
+}
+
+/// Writes what is behind a stray, if the finding is one.
+fn push_behind_if_any(
+    alloc: Global,
+    text: &mut String,
+    audited: &AuditedDomain<'_>,
+    flow: u32,
+    behind: &Option<Behind>,
+) -> Result<(), NoMemory>
+    requires known { flow < length (audited_value audited.now).domain.topology.flows }
+    ensures added { OnOk result (string_bytes text.new ≡ string_bytes text.old
+        ++ behind_lines_of audited.now flow behind.now) }
+{
+    let Some(behind) = behind else {
+        return Ok(());
+    };
+    push_second_behind(alloc, text, audited, flow, behind)?;
+    push_leaks_behind(text, audited.domain, flow, behind)
+}
+
+/// Writes what explains a finding: its causes, a search if there was one, the other missed LANs, and what is
+/// behind a stray.
 fn push_explanation(
     alloc: Global,
     text: &mut String,
@@ -115,11 +252,13 @@ fn push_explanation(
         causes,
         search,
         also,
+        behind,
         ..
     } = *explanation;
     push_causes(text, audited.domain, audited.summary, flow, causes)?;
     push_search_if_any(alloc, text, audited, flow, search)?;
-    push_also_missed(text, audited.domain.topology(), also)
+    push_also_missed(text, audited.domain.topology(), also)?;
+    push_behind_if_any(alloc, text, audited, flow, behind)
 }
 
 /// Writes the events of a travel, if travels are to be printed.
@@ -172,6 +311,37 @@ fn push_shown_from(text: &mut String, shown_from: Option<u8>) -> Result<(), NoMe
     Ok(())
 }
 
+/// Writes what a packet with the flow's own TTL meets, if that is said.
+fn push_at_flow_ttl(
+    text: &mut String,
+    topology: &Topology,
+    ttl: u8,
+    found: Option<Finding>,
+) -> Result<(), NoMemory>
+    ensures { OnOk result (string_bytes text.new ≡
+        string_bytes text.old ++ at_flow_ttl_text topology.now ttl found) }
+{
+    if let Some(finding) = found {
+        let finding = finding.shown(topology);
+        writeln!(text, "  with this flow's ttl {ttl}: {finding}")?;
+    }
+    Ok(())
+}
+
+/// Writes which packets show a finding, for a flow with this TTL.
+fn push_shown_by(
+    text: &mut String,
+    topology: &Topology,
+    ttl: u8,
+    shown_by: ShownBy,
+) -> Result<(), NoMemory>
+    ensures { OnOk result (string_bytes text.new ≡
+        string_bytes text.old ++ shown_by_text topology.now ttl shown_by) }
+{
+    push_shown_from(text, shown_by.from)?;
+    push_at_flow_ttl(text, topology, ttl, shown_by.at_flow_ttl)
+}
+
 /// Writes that a flow is wrong, or unknown, by what its packet meets, why, and the packet's travel, if
 /// travels are to be printed.
 fn push_wrong_lines(
@@ -190,9 +360,9 @@ fn push_wrong_lines(
     let view = FlowView::new(audited.domain, flow);
     let listed = view.flow();
     let topology = audited.domain.topology();
-    let Certainty { known, shown_from } = explanation.certainty;
+    let Certainty { known, shown_by } = explanation.certainty;
     push_found_flow(text, topology, &listed, known, travel.finding)?;
-    push_shown_from(text, shown_from)?;
+    push_shown_by(text, topology, listed.ttl, shown_by)?;
     push_explanation(alloc, text, audited, flow, explanation)?;
     push_travel(text, topology, travels, travel)
 }
@@ -288,15 +458,16 @@ pub(crate) fn push_wrong(
     options: AuditOptions,
     causes: &[Cause],
     found: &Option<LanSearch>,
-    shown_from: Option<u8>,
+    behind: &Option<Behind>,
+    shown_by: ShownBy,
     text: &mut String,
 ) -> Result<FlowStatus, NoMemory>
     requires flow { flow < length (audited_value audited.now).domain.topology.flows }
     ensures flow_status { IfOk result (λ flow_status.
         flow_status ≡ status_of_wrong_flow audited.now found.now) }
     ensures added { OnOk result (string_bytes text.new ≡ string_bytes text.old
-        ++ wrong_flow_lines_of audited.now options flow ttl ended.now causes.now found.now
-        shown_from) }
+        ++ wrong_flow_lines_of audited.now options flow ttl ended.now causes.now found.now behind.now
+        shown_by) }
 {
     let also = missed_besides(alloc, &ended.flight, ended.travel.finding)?;
     let whole = audited.without.is_empty();
@@ -305,7 +476,8 @@ pub(crate) fn push_wrong(
         causes,
         search: found,
         also: &also,
-        certainty: Certainty { known, shown_from },
+        behind,
+        certainty: Certainty { known, shown_by },
     };
     push_explained(
         alloc,

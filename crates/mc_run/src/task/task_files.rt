@@ -3,10 +3,11 @@
 ghost use Rattle.std.specs.Prelude.{◌≡◌, ◌≢◌, ◌<◌, IfErr};
 ghost use Rattle.mc_text.specs.Device.{failures_after};
 ghost use Rattle.mc_run.specs.Failures.{is_read, is_write};
-ghost use Rattle.mc_run.specs.TaskRuns.{IsAuditResult, IsAuditRun, IsPackRun, enough_of, excluded_names};
+ghost use Rattle.mc_run.specs.TaskRuns.{IsAuditResult, IsAuditRun, IsPackRun, enough_of, left_out_by};
 ghost use Rattle.mc_run.specs.TaskRuns.{is_enough};
 
-use crate::audit::audit_output::AuditAnswer;
+use crate::audit::audit_output::{AuditAnswer, AuditCounts};
+use crate::audit::left_out::LeftOut;
 use crate::audit::run_audit;
 use crate::commands::pack::run_pack;
 use crate::fault::RunFault;
@@ -38,11 +39,13 @@ pub(crate) fn pack_task<F: PieceSource, W: Output>(
     }
 }
 
-/// Whether an audit's answer is enough: it is yes and, with `strict`, no right flow is wanted by nobody.
+/// Whether an audit's answer is enough: it is yes and, with `strict`, no right flow is wanted by nobody, and a
+/// flow answers each want.
 fn is_enough(answer: AuditAnswer, strict: bool) -> bool
     ensures { result ≡ is_enough strict answer }
 {
-    answer.yes && (answer.unwanted == 0 || !strict)
+    let AuditCounts { unwanted, asked } = answer.counts;
+    answer.yes && (unwanted == 0 && asked == 0 || !strict)
 }
 
 /// Whether an audit's answer is enough, or the audit's fault.
@@ -66,13 +69,17 @@ fn audit_with_words<F: PieceSource, W: Output>(
     requires writes { W.failed output.old < u64.MAX }
     ensures files_same { F.borrows files.new ≡ F.borrows files.old }
     ensures output_same { W.borrows output.new ≡ W.borrows output.old }
-    ensures answered { IsAuditResult words.now.options (excluded_names words.now)
+    ensures answered { IsAuditResult words.now.options (left_out_by words.now)
         (F.contents files.old) result (W.written output.old) (W.written output.new) }
     ensures unwritten { IfErr result (λ fault. fault ≢ RunFault.Write → output.new ≡ output.old) }
     ensures read_failures { F.failed files.new ≡ failures_after is_read result (F.failed files.old) }
     ensures write_failures { W.failed output.new ≡ failures_after is_write result (W.failed output.old) }
 {
-    run_audit(alloc, files, words.options, &words.without, output)
+    let left = LeftOut {
+        without: &words.without,
+        ignored: &words.ignored,
+    };
+    run_audit(alloc, files, words.options, &left, output)
 }
 
 /// `mcaudit audit`, which returns whether the audit's answer is enough.

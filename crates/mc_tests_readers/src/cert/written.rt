@@ -81,7 +81,7 @@ const OF_TWO_FLOWS: &str = r#"# equal lists of two flows are one tree
 {"flows":[{"group":"239.1.2.3","source":"10.0.0.5","tree":0},{"group":"239.1.2.4","source":"10.0.0.5","tree":1}],"trees":[[{"lan":"l0","need":1,"rank":0},{"lan":"l2","need":255,"rank":255,"router":"r2","vif":31}],[{"lan":"l2","need":255,"rank":255,"router":"r2","vif":31},{"lan":"l0","need":1,"rank":0}]],"version":2}"#;
 
 /// Each certificate of the blocks is written as its block says.
-fn check_blocks(rt: &impl Abort, alloc: Global, network: &str, blocks: &str) {
+pub(super) fn check_blocks(rt: &impl Abort, alloc: Global, network: &str, blocks: &str) {
     for block in blocks.split("\n\n") {
         let (_, texts) = block.split_once('\n').expect(rt, "a comment");
         let (text, wanted) = texts.split_once('\n').expect(rt, "two texts");

@@ -25,7 +25,7 @@ loop-number-preserved c =
     let size : length parts ≡ i =
     omega (arith, length-map (take i lans) kept, length-take i lans, c.loop-number-test.true) in
     let next : parts ++ c.lowest.result.now ∷ [] ≡ wants_of_lans (take (i + 1) lans) =
-    ap (λ (o : List (ℕ × ℕ)). parts ++ o ∷ []) c.lowest.ensures
+    ap (λ (o : List (ℕ × ℕ)). parts ++ o ∷ []) c.lowest.ensures.value
     ∙ sym (map-append kept (take i lans) (own ∷ []))
     ∙ ap (map kept) (sym (take_more lans i own c.loop-number-test.true
     ∙ ap (λ (l : LanWantsValue). take i lans ++ l ∷ []) (sym c.index-lans-number.is))) in

@@ -25,7 +25,7 @@ returns-in_err-certificate-clause-fault g c =
     let s = c.args.slots.now in
     rw (p.1, p.2) (λ stream known loud.
     let x = c.in_ok-kept.ensures.read stream known in
-    read_after_topology-end_Err s.certified t stream x.0 x.1 c.in_err-certificate.field-0.0 x.5
+    read_after_topology-end_Err s.certified t stream x.0 x.1 c.in_err-certificate.field-0.0 x.6
     (c.in_err-certificate.ensures.fault x.0 x.2 loud))
 
 pub returns-in_err-certificate-clause-advances : goal.returns-in_err-certificate-clause-advances
@@ -41,7 +41,7 @@ returns-clause-read g c = λ stream known.
     let text = certificate_text c.in_ok-certificate.certificate in (
       input_of_contents t x.1,
       x.3,
-      read_after_topology-Ok s.certified t stream x.0 x.1 text x.5
+      read_after_topology-Ok s.certified t stream x.0 x.1 text x.6
           (c.in_ok-certificate.ensures.certificate x.0 x.2)
           (is_some-certificate_text c.in_ok-certificate.certificate ∙ c.in_ok-certificate.ensures.certified
           ∙ c.in_ok-kept.ensures.advances.0),

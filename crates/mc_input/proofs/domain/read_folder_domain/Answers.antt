@@ -1,6 +1,7 @@
 use Rattle.std.proofs.Common.{◌≡◌, Err, map}
 use Rattle.mc_input.specs.ExcludedRouters.{IsReadOrMemoryWithout, input_of_files_without}
 use Rattle.mc_input.specs.ExcludedRouters.{files_with_exclusions}
+use Rattle.mc_input.specs.AskedOfFiles.{IsAskedOf}
 use Rattle.mc_input.specs.SummariesOfFiles.{AreSummariesOf}
 use Rattle.mc_input.proofs.FilesMeansLemmas.{IfErr-from_known_contents}
 use Rattle.mc_input.proofs.FilesMeansLemmas.{FilesMeanDomain-from_result}
@@ -21,9 +22,15 @@ returns-clause-only g c =
 
 pub returns-clause-summary : goal.returns-clause-summary
 returns-clause-summary g c =
-    IfOk-from_known_contents (λ files read. AreSummariesOf c.args.all
+    IfOk-from_known_contents (λ files read. AreSummariesOf c.args.options.all
     (files_with_exclusions (map (λ n. n.now) c.args.without.now) files) read.domain.topology read.summary.items)
     (g.F.FileSource.contents c.args.files.now) c.read_files_with_buffer.result c.read_files_with_buffer.ensures.summary
+
+pub returns-clause-asked : goal.returns-clause-asked
+returns-clause-asked g c =
+    IfOk-from_known_contents (λ files read. IsAskedOf c.args.options.all c.args.options.ignored.items
+    (files_with_exclusions (map (λ n. n.now) c.args.without.now) files) read.domain read.asked)
+    (g.F.FileSource.contents c.args.files.now) c.read_files_with_buffer.result c.read_files_with_buffer.ensures.asked
 
 pub returns-clause-fault : goal.returns-clause-fault
 returns-clause-fault g c =

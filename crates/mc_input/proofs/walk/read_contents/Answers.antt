@@ -36,5 +36,6 @@ returns-clause-read g c = λ stream known.
         wanted = y.3;
       },
       x.4,
-      read_contents-Ok c.args.topology.now stream x.0 y.0 x.1 y.1 x.5 y.4,
+      y.4,
+      read_contents-Ok c.args.topology.now stream x.0 y.0 x.1 y.1 x.5 y.5,
     )

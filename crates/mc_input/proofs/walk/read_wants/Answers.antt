@@ -1,5 +1,5 @@
 use Rattle.std.proofs.Common.{◌≡◌, ℕ, ◌+◌, ◌*◌, ◌∙◌, Bool, List, [], ◌∷◌, ◌++◌, Result, Some, ap, arith, drop}
-use Rattle.std.proofs.Common.{false, length, refl, rules, slice_get, subst, sym}
+use Rattle.std.proofs.Common.{false, inr, length, refl, rules, slice_get, subst, sym}
 use Rattle.std.proofs.lemmas.List.{drop_all, length-append}
 use Rattle.std.proofs.lemmas.Result.{err_from_is_err_and}
 use Rattle.mc_text.specs.Steps.{map_fault}
@@ -34,14 +34,19 @@ loop-lan-init g c =
       advances = g.met.S.Slots.stays c.args.slots.now;
       failures = refl;
       room = c.requires.room;
+      settings = refl;
       end = c.lans-lan-end.ensures.count;
       count = ap length items;
+      ready = c.requires.ready;
       flows = λ lan wanted at. absurd (none_there lan items at);
+      some = ([], refl, c.requires.none_kept);
       taken = λ stream known. (
         stream,
         [],
         subst (λ (n : ℕ). g.S.Slots.gives c.args.slots.now t n ≡ Some stream) first known,
         subst (λ (ws : List (List Bool)). AreWantedBy t [] ws) (sym items) tt,
+        c.requires.none_kept,
+        refl,
         read_each-start read t.lans stream,
       );
     }
@@ -75,7 +80,7 @@ returns-in_err-reports-clause-fault g c =
     (λ part small. ap (map_fault (Reports part.name)) (c.new-reader.ensures.reads part.bytes))) in
     rw (p.1, p.2) (λ stream known loud.
     let x = c.loop-lan.invariant.taken stream known in
-    x.4 ∙ ap (λ (more : List (List ℕ)). read_stream (read_each_after read x.1 more) x.0)
+    x.6 ∙ ap (λ (more : List (List ℕ)). read_stream (read_each_after read x.1 more) x.0)
     (drop-slice_get t.lans k lan.0 lan.1)
     ∙ read_stream-Err_implied (read lan.0) (read_each_after read x.1 (lan.0 ∷ drop (k + 1) t.lans))
     (read_each-Err read x.1 lan.0 (drop (k + 1) t.lans)) x.0 own
@@ -91,7 +96,7 @@ pub loop-lan-preserved : goal.loop-lan-preserved
 loop-lan-preserved g c =
     let t = c.args.topology.now in
     let k = c.loop-lan.lan in
-    let own = c.in_ok-wanted.field-0 in
+    let own = c.in_ok-wanted.wanted in
     let items = c.in_ok-push.ensures.items in
     let are = c.in_ok-channels.ensures in
     let lan = slice_get-exists t.lans k (omega (arith, c.loop-lan-test.true, c.loop-lan.invariant.end)) in
@@ -110,9 +115,17 @@ loop-lan-preserved g c =
         length-append c.loop-lan.wants.items (own ∷ []),
         c.loop-lan.invariant.count,
       );
+      ready = c.keep_list.ensures.ready;
+      settings = c.keep_list.ensures.settings ∙ c.loop-lan.invariant.settings;
       flows = rw items (length-answers_push (length t.flows) c.loop-lan.wants.items own
           c.loop-lan.invariant.flows
           (c.in_ok-wanted.ensures.count ∙ length-flow_pairs t.flows c.in_ok-channels.channels are));
+      some =
+          let lists = c.loop-lan.invariant.some in (
+            lists.0 ++ c.in_ok-reports.reports ∷ [],
+            length-append lists.0 (c.in_ok-reports.reports ∷ []) ∙ ap (λ n. n + 1) lists.1,
+            c.in_ok-keep_list.ensures.kept lists.0 lists.1 lists.2,
+          );
       taken = λ stream known.
           let x = c.loop-lan.invariant.taken stream known in
           let y = c.in_ok-reports.ensures.value reports_of
@@ -126,7 +139,10 @@ loop-lan-preserved g c =
                 x.3 (are_wanted-from_channels t.flows y.4.0 c.in_ok-channels.channels own are
                 (subst (λ (records : List Record). AreChannelsWanted c.in_ok-channels.channels records own) y.4.2
                 c.in_ok-wanted.ensures))),
-            x.4 ∙ ap (λ (more : List (List ℕ)). read_stream (read_each_after read x.1 more) x.0)
+            subst (λ (records : List Record). g.L.ListKeeper.has_kept c.keep_list.new.self (x.1 ++ records ∷ [])) y.4.2
+                (c.in_ok-keep_list.ensures.kept x.1 x.5 x.4),
+            length-append x.1 (y.4.0 ∷ []) ∙ ap (λ n. n + 1) x.5,
+            x.6 ∙ ap (λ (more : List (List ℕ)). read_stream (read_each_after read x.1 more) x.0)
                 (drop-slice_get t.lans k lan.0 lan.1)
                 ∙ read_each-more read x.1 lan.0 (drop (k + 1) t.lans) x.0 y.0 y.4.0
                 (ap (read_stream read_lan) y.3 ∙ read_lan-Ok y.0 y.1 y.4.0 y.4.1),
@@ -151,6 +167,56 @@ returns-clause-wants g c = λ stream known.
       x.1,
       subst (λ (n : ℕ). g.S.Slots.gives c.loop-lan.slots t n ≡ Some x.0) number x.2,
       x.3,
-      x.4 ∙ ap (λ (more : List (List ℕ)). read_stream (read_each_after read x.1 more) x.0) none
+      x.4,
+      x.6 ∙ ap (λ (more : List (List ℕ)). read_stream (read_each_after read x.1 more) x.0) none
           ∙ read_each-end read x.1 x.0,
     )
+
+pub returns-in_err-reports-clause-advances : goal.returns-in_err-reports-clause-advances
+returns-in_err-reports-clause-advances g c = g.met.S.Slots.advances_twice c.args.slots.now c.loop-lan.slots
+    c.read_slot.new.slots c.loop-lan.invariant.advances c.in_err-reports.ensures.advances
+
+pub returns-in_err-wanted-clause-advances : goal.returns-in_err-wanted-clause-advances
+returns-in_err-wanted-clause-advances g c = g.met.S.Slots.advances_twice c.args.slots.now c.loop-lan.slots
+    c.read_slot.new.slots c.loop-lan.invariant.advances c.in_ok-reports.ensures.advances
+
+pub returns-in_err-keep_list-clause-advances : goal.returns-in_err-keep_list-clause-advances
+returns-in_err-keep_list-clause-advances g c = g.met.S.Slots.advances_twice c.args.slots.now c.loop-lan.slots
+    c.read_slot.new.slots c.loop-lan.invariant.advances c.in_ok-reports.ensures.advances
+
+pub returns-in_err-push-clause-advances : goal.returns-in_err-push-clause-advances
+returns-in_err-push-clause-advances g c = g.met.S.Slots.advances_twice c.args.slots.now c.loop-lan.slots
+    c.read_slot.new.slots c.loop-lan.invariant.advances c.in_ok-reports.ensures.advances
+
+pub returns-in_err-keep_list-clause-fault : goal.returns-in_err-keep_list-clause-fault
+returns-in_err-keep_list-clause-fault g c =
+    let p = err_from_is_err_and c.from_residual-in_err-keep_list.result
+    c.from_residual-in_err-keep_list.ensures.1 in
+    rw (p.1, p.2) (λ stream known loud. absurd (loud (inr refl)))
+
+pub returns-in_err-keep_list-clause-faults : goal.returns-in_err-keep_list-clause-faults
+returns-in_err-keep_list-clause-faults g c =
+    let p = err_from_is_err_and c.from_residual-in_err-keep_list.result
+    c.from_residual-in_err-keep_list.ensures.1 in
+    rw (p.1, p.2) (g.met.S.Slots.possible (Input Memory) refl)
+
+pub returns-in_err-push-clause-fault : goal.returns-in_err-push-clause-fault
+returns-in_err-push-clause-fault g c =
+    let p = err_from_is_err_and c.from_residual-in_err-push.result c.from_residual-in_err-push.ensures.1 in
+    rw (p.1, p.2) (λ stream known loud. absurd (loud (inr refl)))
+
+pub returns-in_err-push-clause-faults : goal.returns-in_err-push-clause-faults
+returns-in_err-push-clause-faults g c =
+    let p = err_from_is_err_and c.from_residual-in_err-push.result c.from_residual-in_err-push.ensures.1 in
+    rw (p.1, p.2) (g.met.S.Slots.possible (Input Memory) refl)
+
+pub returns-clause-lists : goal.returns-clause-lists
+returns-clause-lists g c =
+    let lists = c.loop-lan.invariant.some in
+    let all : c.loop-lan.lan ≡ length c.args.topology.now.lans = omega (
+      arith,
+      c.loop-lan-test.false,
+      c.loop-lan.invariant.end,
+      c.loop-lan.auto.lan-end,
+    ) in
+    (lists.0, lists.1 ∙ all, lists.2)

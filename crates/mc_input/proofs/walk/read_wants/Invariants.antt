@@ -12,12 +12,17 @@ invariant-loop-lan g l = record {
   room : 0 < length l.buffer;
   end : l.lan-end ≡ length l.fn.topology.lans;
   count : length l.wants.items ≡ l.lan;
+  ready : g.L.ListKeeper.is_ready l.keeper l.fn.topology.flows;
+  settings : g.L.ListKeeper.settings l.keeper ≡ g.L.ListKeeper.settings l.fn.keeper;
   flows : (lan : ℕ) (wanted : List Bool) → slice_get l.wants.items lan ≡ Some wanted
       → length wanted ≡ length l.fn.topology.flows;
+  some : (lists : List (List Record)) × (length lists ≡ l.lan) × g.L.ListKeeper.has_kept l.keeper lists;
   taken : (stream : Stream) → g.S.Slots.gives l.fn.slots l.fn.topology (first_lan_number l.fn.topology) ≡ Some stream →
       (later : Stream) × (reports : List (List Record))
       × (g.S.Slots.gives l.slots l.fn.topology (first_lan_number l.fn.topology + l.lan) ≡ Some later)
       × AreWantedBy l.fn.topology reports l.wants.items
+      × g.L.ListKeeper.has_kept l.keeper reports
+      × (length reports ≡ l.lan)
       × (read_stream (read_lans l.fn.topology.lans) stream
       ≡ read_stream (read_each_after (λ lan. read_lan) reports (drop l.lan l.fn.topology.lans)) later);
 }

@@ -1,8 +1,7 @@
-use Rattle.std.proofs.Common.{Option, Some, ap}
+use Rattle.std.proofs.Common.{Option, ap}
 use Rattle.std.specs.Prelude.{unwrap_or}
 use Rattle.mc_text.specs.declared.text.addr.Order.{Order}
 use Rattle.mc_text.specs.declared.text.addr.Order.TheVariants.{Little}
-use Rattle.mc_json.specs.DomainData.{order_word, router_order}
 use Rattle.mc_json.proofs.domain_line.router_value.Goals as goal
 
 pub returns : goal.returns

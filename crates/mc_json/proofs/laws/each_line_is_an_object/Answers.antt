@@ -2,7 +2,8 @@
 use Rattle.mc_json.proofs.EachLineLemmas.{are_object_lines-domain, are_object_lines-right}
 use Rattle.mc_json.proofs.EachLineLemmas.{are_object_lines-summary, are_object_lines-tree}
 use Rattle.mc_json.proofs.EachLineLemmas.{are_object_lines-all_unlisted, are_object_lines-without}
-use Rattle.mc_json.proofs.EachLineLemmas.{are_object_lines-wrong_flow}
+use Rattle.mc_json.proofs.EachLineLemmas.{are_object_lines-asked, are_object_lines-asked_more}
+use Rattle.mc_json.proofs.EachLineLemmas.{are_object_lines-asked_services, are_object_lines-wrong_flow}
 use Rattle.mc_json.proofs.laws.each_line_is_an_object.Goals as goal
 
 pub returns-clause-domain : goal.returns-clause-domain
@@ -23,5 +24,14 @@ returns-clause-unlisted c = λ all t summary. are_object_lines-all_unlisted all 
 pub returns-clause-without : goal.returns-clause-without
 returns-clause-without c = λ t excluded. are_object_lines-without t excluded
 
+pub returns-clause-asked : goal.returns-clause-asked
+returns-clause-asked c = are_object_lines-asked
+
+pub returns-clause-asked_more : goal.returns-clause-asked_more
+returns-clause-asked_more c = are_object_lines-asked_more
+
+pub returns-clause-asked_services : goal.returns-clause-asked_services
+returns-clause-asked_services c = are_object_lines-asked_services
+
 pub returns-clause-summary : goal.returns-clause-summary
-returns-clause-summary c = λ right unwanted wrong. are_object_lines-summary right unwanted wrong
+returns-clause-summary c = are_object_lines-summary

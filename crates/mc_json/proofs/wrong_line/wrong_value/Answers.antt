@@ -1,3 +1,4 @@
+use Rattle.std.proofs.Common.{refl}
 use Rattle.mc_json.proofs.wrong_line.wrong_value.Goals as goal
 
 pub returns-then-not-events_asked : goal.returns-then-not-events_asked
@@ -8,8 +9,10 @@ returns-then-not-events_asked c = record {
         c.flow.ensures,
         c.in_ok-wanted.ensures,
         ← c.requires.number,
-      ) at (c.object.ensures _ (c.value-fields.ensures _ _ (c.list.ensures _ _
-      c.wrong_fields.ensures c.lan_names.ensures) c.finding_value.ensures)));
+      ) at (c.object.ensures _ (c.value-fields.ensures _ _ (c.value-2.ensures _ _
+      (c.value.ensures _ _ (c.list.ensures _ _ c.wrong_fields.ensures c.lan_names.ensures)
+      c.optional_finding_value-at_flow_ttl.ensures) refl)
+      c.finding_value.ensures)));
 }
 
 pub returns : goal.returns
@@ -22,6 +25,8 @@ returns c = record {
         c.deref.ensures.value,
         ← c.requires.number,
       ) at (c.object-2.ensures _
-      (c.list-2.ensures _ _ (c.value-fields.ensures _ _ (c.list.ensures _ _ c.wrong_fields.ensures
-      c.lan_names.ensures) c.finding_value.ensures) c.event_values-events.ensures)));
+      (c.list-2.ensures _ _ (c.value-fields.ensures _ _ (c.value-2.ensures _ _
+      (c.value.ensures _ _ (c.list.ensures _ _ c.wrong_fields.ensures c.lan_names.ensures)
+      c.optional_finding_value-at_flow_ttl.ensures) refl)
+      c.finding_value.ensures) c.event_values-events.ensures)));
 }

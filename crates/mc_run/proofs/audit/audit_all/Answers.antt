@@ -10,11 +10,12 @@ returns-clause-text c =
     (length-map c.args.audited.now.without.now (λ name. name.now)) c.in_ok-text.ensures
     c.in_ok-flow_counts.ensures.appended.1 c.is_yes-yes.ensures c.in_ok-push_end.ensures
 
-pub returns-clause-unwanted : goal.returns-clause-unwanted
-returns-clause-unwanted c =
+pub returns-clause-counts : goal.returns-clause-counts
+returns-clause-counts c =
     let pushed = c.in_ok-flow_counts.ensures.appended.1 in
     record {
       answers = pushed.answers;
       are_answers = record { count = pushed.count_is; each = pushed.each };
-      counted = pushed.unwanted;
+      unwanted = pushed.unwanted;
+      asked = c.in_ok-asked.ensures;
     }

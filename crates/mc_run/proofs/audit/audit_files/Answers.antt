@@ -1,34 +1,40 @@
-use Rattle.std.proofs.Common.{map}
+use Rattle.std.proofs.Common.{ℕ, List, subst}
+use Rattle.std.specs.Prelude.{IfSome}
+use Rattle.mc_input.specs.AskedOfFiles.{IsAskedOf}
+use Rattle.mc_input.specs.ExcludedRouters.{files_with_exclusions}
 use Rattle.std.specs.String.{string_bytes}
-use Rattle.mc_run.specs.AuditRun.{HasUnwanted, IsAudited}
+use Rattle.mc_run.specs.AuditRun.{HasCounts, IsAudited, left_out}
 use Rattle.mc_run.proofs.AuditTextLemmas.{of_domain-means_audited}
 use Rattle.std.proofs.lemmas.Result.{err_from_is_err_and}
 use Rattle.mc_run.proofs.FaultLemmas.{is_fault_of_audit-without_fault}
 use Rattle.mc_run.proofs.audit.audit_files.Goals as goal
 
-pub returns-in-Ok-clause-text : goal.returns-in-Ok-clause-text
-returns-in-Ok-clause-text g c =
+pub returns-in-Ok-audit-clause-text : goal.returns-in-Ok-audit-clause-text
+returns-in-Ok-audit-clause-text g c =
     let o = c.args.options in
-    let names = map (λ name. name.now) c.args.without.now in
-    let all = c.in-Ok.audit.run_output.yes in
-    let written = string_bytes c.in-Ok.audit.run_output.text in
-    let summary = c.in_ok-read.read.summary.items in
-    of_domain-means_audited (λ v. IsAudited v o all written) o names
-    (g.F.FileSource.contents c.args.files.now)
-    c.in_ok-read.read.domain summary
+    let left = left_out c.args.left.now in
+    let contents = g.F.FileSource.contents c.args.files.now in
+    let all = c.in-Ok-audit.audit.run_output.yes in
+    let written = string_bytes c.in-Ok-audit.audit.run_output.text in
+    let read = c.in_ok-read.read in
+    of_domain-means_audited (λ v. IsAudited v o all written) o left contents read.domain read.summary.items read.asked
     c.in_ok-read.ensures.means c.in_ok-read.ensures.routers c.in_ok-read.ensures.summary
-    c.in-Ok.ensures.text
+    (subst (λ (groups : List (ℕ × ℕ)). IfSome contents (λ files.
+    IsAskedOf o.unlisted groups (files_with_exclusions left.routers files) read.domain read.asked))
+    c.in-Ok.ensures.items c.in_ok-read.ensures.asked) c.in-Ok-audit.ensures.text
 
-pub returns-in-Ok-clause-unwanted : goal.returns-in-Ok-clause-unwanted
-returns-in-Ok-clause-unwanted g c =
+pub returns-in-Ok-audit-clause-counts : goal.returns-in-Ok-audit-clause-counts
+returns-in-Ok-audit-clause-counts g c =
     let o = c.args.options in
-    let names = map (λ name. name.now) c.args.without.now in
-    let unwanted = c.in-Ok.audit.unwanted in
-    let summary = c.in_ok-read.read.summary.items in
-    of_domain-means_audited (λ v. HasUnwanted v o unwanted) o names (g.F.FileSource.contents c.args.files.now)
-    c.in_ok-read.read.domain summary
+    let left = left_out c.args.left.now in
+    let contents = g.F.FileSource.contents c.args.files.now in
+    let counts = c.in-Ok-audit.audit.counts in
+    let read = c.in_ok-read.read in
+    of_domain-means_audited (λ v. HasCounts v o counts) o left contents read.domain read.summary.items read.asked
     c.in_ok-read.ensures.means c.in_ok-read.ensures.routers c.in_ok-read.ensures.summary
-    c.in-Ok.ensures.unwanted
+    (subst (λ (groups : List (ℕ × ℕ)). IfSome contents (λ files.
+    IsAskedOf o.unlisted groups (files_with_exclusions left.routers files) read.domain read.asked))
+    c.in-Ok.ensures.items c.in_ok-read.ensures.asked) c.in-Ok-audit.ensures.counts
 
 pub returns-in_err-read-clause-faults : goal.returns-in_err-read-clause-faults
 returns-in_err-read-clause-faults g c =

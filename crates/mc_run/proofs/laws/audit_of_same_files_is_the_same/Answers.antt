@@ -2,4 +2,4 @@ use Rattle.mc_run.proofs.UniqueAudit.{is_audit_text-unique}
 use Rattle.mc_run.proofs.laws.audit_of_same_files_is_the_same.Goals as goal
 
 pub returns : goal.returns
-returns c = is_audit_text-unique c.summaries_are_unique.ensures
+returns c = is_audit_text-unique c.summaries_are_unique.ensures c.asked_is_unique.ensures

@@ -13,8 +13,8 @@ pub returns-clause-audit_has_line : goal.returns-clause-audit_has_line
 returns-clause-audit_has_line c = has_line-audit_text
 
 pub returns-clause-audit_last : goal.returns-clause-audit_last
-returns-clause-audit_last c = λ names files o all written is words front rest starts are at.
-    is_last_line_yes-audit_text names files o all words written front rest is starts are at
+returns-clause-audit_last c = λ left files o all written is words front rest starts are at.
+    is_last_line_yes-audit_text left files o all words written front rest is starts are at
 
 pub returns-clause-audit_whole : goal.returns-clause-audit_whole
 returns-clause-audit_whole c = audit_yes-no_excluded_router

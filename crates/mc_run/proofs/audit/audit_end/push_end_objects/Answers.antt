@@ -1,5 +1,6 @@
 use Rattle.std.proofs.Common.{◌∙◌}
 use Rattle.mc_run.specs.AuditPieces.{audited_value}
+use Rattle.mc_run.specs.AuditRun.{is_whole}
 use Rattle.mc_run.proofs.AuditEndLemmas.{end_objects-parts}
 use Rattle.mc_run.proofs.audit.audit_end.push_end_objects.Goals as goal
 
@@ -7,7 +8,8 @@ pub returns : goal.returns
 returns c =
     end_objects-parts c.args.options c.topology-topology.result.now
     (audited_value c.args.audited.now).domain.topology (audited_value c.args.audited.now).summary
-    c.args.audited.now.excluded.now c.deref.result.now _ _ _ _ c.push_summary_line.result _ _ _ _
-    c.topology-topology.ensures.topology (c.deref.ensures.value ∙ c.in_ok-routers.ensures)
-    c.in_ok-push_unlisted_lines.ensures.lines
+    (audited_value c.args.audited.now).asked c.args.audited.now.excluded.now
+    (is_whole (audited_value c.args.audited.now)) c.deref.result.now _ _ _ _ _ c.push_summary_line.result _ _ _ _ _
+    c.topology-topology.ensures.topology (c.deref.ensures.value ∙ c.in_ok-routers.ensures) c.requires.asked
+    c.in_ok-push_unlisted_lines.ensures.lines c.in_ok-push_asked_lines.ensures
     c.in_ok-push_without_line.ensures c.push_summary_line.ensures.line

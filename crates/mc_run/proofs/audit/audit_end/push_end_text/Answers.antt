@@ -1,5 +1,6 @@
 use Rattle.std.proofs.Common.{◌∙◌}
 use Rattle.mc_run.specs.AuditPieces.{audited_value}
+use Rattle.mc_run.specs.AuditRun.{is_whole}
 use Rattle.mc_run.proofs.AuditEndLemmas.{end_text-parts}
 use Rattle.mc_run.proofs.audit.audit_end.push_end_text.Goals as goal
 
@@ -7,9 +8,11 @@ pub returns : goal.returns
 returns c =
     end_text-parts c.args.options c.topology-topology.result.now
     (audited_value c.args.audited.now).domain.topology (audited_value c.args.audited.now).summary
-    c.args.audited.now.excluded.now c.deref.result.now c.deref-2.result.now c.args.all _ _ _ _ _
-    c.push_strict.result _ _ _ _ _ _
+    (audited_value c.args.audited.now).asked c.args.audited.now.excluded.now c.deref.result.now
+    c.deref-2.result.now (is_whole (audited_value c.args.audited.now)) c.args.all _ _ _ _ _ _
+    c.push_strict.result _ _ _ _ _ _ _
     c.topology-topology.ensures.topology c.flows.ensures.count
     (c.deref.ensures.value ∙ c.in_ok-routers.ensures) (c.deref-2.ensures.value ∙ c.in_ok-routers.ensures)
-    c.in_ok-push_unlisted.ensures.lines c.in_ok-push_excluded_routers.ensures c.in_ok-push_summary.ensures
+    c.requires.asked c.in_ok-push_unlisted.ensures.lines c.in_ok-push_asked_lines.ensures
+    c.in_ok-push_excluded_routers.ensures c.in_ok-push_summary.ensures
     c.in_ok-push_verdict_reason.ensures c.push_strict.ensures

@@ -13,8 +13,8 @@ search_if_missed-requires-clause-ended c =
     c.args.flights.now c.args.ended.now
     c.requires.is c.requires.flights
 
-pub shown_from_if_less-requires-clause-ended : goal.shown_from_if_less-requires-clause-ended
-shown_from_if_less-requires-clause-ended c =
+pub shown_by-requires-clause-ended : goal.shown_by-requires-clause-ended
+shown_by-requires-clause-ended c =
     is_finished_travel-at_255 (audited_value c.args.audited.now).domain c.args.flow
     c.args.flights.now c.args.ended.now
     c.requires.is c.requires.flights
@@ -28,18 +28,19 @@ returns c = record {
       let ended = c.args.ended.now in
       let causes = c.in_ok-causes.causes.items in
       let found = c.in_ok-found.found in
-      let shown = c.in_ok-shown_from.shown_from in
+      let behind = c.in_ok-behind.behind in
+      let shown = c.in_ok-shown_by.shown_by in
       is_flow_pushed-status v o c.args.flow c.push_wrong.result (status_of_wrong_flow a found) _ _
       c.push_wrong.ensures.flow_status
       (is_flow_pushed-added v o c.args.flow c.push_wrong.result (status_of_wrong_flow a found) _ _
-      (wrong_flow_lines_of a o c.args.flow 255 ended c.deref.result.now found shown)
+      (wrong_flow_lines_of a o c.args.flow 255 ended c.deref.result.now found behind shown)
       (λ written puts. is_flow_pushed-wrong v o c.args.flow c.args.flights.now 255 ended.travel
-      (explanation_in (is_whole v) ended causes found shown) _ written c.requires.flow c.requires.flights
+      (explanation_in (is_whole v) ended causes found behind shown) _ written c.requires.flow c.requires.flights
       c.requires.examined (ap (without_flights v.domain c.args.flow) c.requires.is)
-      (is_explanation-at_255 v c.args.flow c.args.flights.now ended causes found shown
+      (is_explanation-at_255 v c.args.flow c.args.flights.now ended causes found behind shown
       c.requires.is c.requires.flights c.in_ok-causes.ensures.causes c.in_ok-found.ensures.search
-      c.in_ok-shown_from.ensures.shown)
-      (wrong_flow_lines-same_causes v o c.args.flow 255 ended c.deref.result.now causes found shown _ written
+      c.in_ok-behind.ensures.behind c.in_ok-shown_by.ensures.shown)
+      (wrong_flow_lines-same_causes v o c.args.flow 255 ended c.deref.result.now causes found behind shown _ written
       c.deref.ensures.value puts))
       c.push_wrong.ensures.added));
 }

@@ -4,7 +4,7 @@ use Rattle.mc_run.specs.AuditPieces.{audited_value, explanation_in, status_of_wr
 use Rattle.mc_run.specs.AuditRun.{is_whole}
 use Rattle.mc_run.proofs.AuditFlows.{is_flow_pushed-added, is_flow_pushed-status, is_flow_pushed-wrong}
 use Rattle.mc_run.proofs.AuditFlows.{wrong_flow_lines-same_causes, found-ttl_of_view}
-use Rattle.mc_run.proofs.ExplanationLemmas.{is_explanation-at_flow_ttl}
+use Rattle.mc_run.proofs.ExplanationLemmas.{is_explanation-at_flow_ttl, unsaid}
 use Rattle.mc_run.proofs.audit.audit_flow.push_found_at_flow_ttl.Goals as goal
 
 pub returns : goal.returns
@@ -19,16 +19,16 @@ returns c = record {
       is_flow_pushed-status v o c.args.flow c.push_wrong.result (status_of_wrong_flow a None) _ _
       c.push_wrong.ensures.flow_status
       (is_flow_pushed-added v o c.args.flow c.push_wrong.result (status_of_wrong_flow a None) _ _
-      (wrong_flow_lines_of a o c.args.flow ttl least c.deref.result.now None None)
+      (wrong_flow_lines_of a o c.args.flow ttl least c.deref.result.now None None unsaid)
       (λ written puts. is_flow_pushed-wrong v o c.args.flow c.args.flights.now ttl least.travel
-      (explanation_in (is_whole v) least causes None None) _ written c.requires.flow c.requires.flights
+      (explanation_in (is_whole v) least causes None None unsaid) _ written c.requires.flow c.requires.flights
       c.requires.examined
       (ap (without_flights v.domain c.args.flow) c.requires.is
       ∙ found-ttl_of_view v.domain c.args.flow ttl c.new-view.result least.travel c.new-view.ensures.flow
       c.ttl-ttl.ensures)
       (is_explanation-at_flow_ttl v c.args.flow c.args.flights.now c.args.greatest.now least causes
       c.requires.is c.requires.flights c.in_ok-causes.ensures.causes)
-      (wrong_flow_lines-same_causes v o c.args.flow ttl least c.deref.result.now causes None None _ written
+      (wrong_flow_lines-same_causes v o c.args.flow ttl least c.deref.result.now causes None None unsaid _ written
       c.deref.ensures.value puts))
       c.push_wrong.ensures.added));
 }

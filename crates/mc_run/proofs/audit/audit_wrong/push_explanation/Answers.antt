@@ -6,7 +6,8 @@ pub returns : goal.returns
 returns c = record {
   added = (
       explanation_lines-pushed (audited_value c.args.audited.now) c.args.flow
-      (explanation_value c.args.explanation.now) c.topology.result.now c.push_also_missed.result _ _ _ _
+      (explanation_value c.args.explanation.now) c.topology.result.now c.push_behind_if_any.result _ _ _ _ _
       c.topology.ensures.topology c.in_ok-push_causes.ensures.lines
-      c.in_ok-push_search_if_any.ensures.added c.push_also_missed.ensures);
+      c.in_ok-push_search_if_any.ensures.added c.in_ok-push_also_missed.ensures
+      c.push_behind_if_any.ensures.added);
 }

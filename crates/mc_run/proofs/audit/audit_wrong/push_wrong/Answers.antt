@@ -12,6 +12,6 @@ returns-clause-added c =
     let whole : c.is_empty-whole.result ≡ is_whole v = c.is_empty-whole.ensures
     ∙ ap (λ (k : ℕ). k == 0) (sym (length-map c.args.audited.now.without.now (λ name. name.now))) in
     wrong_flow_lines-same_parts v c.args.options c.args.flow c.args.ttl c.args.ended.now c.args.causes.now
-    c.args.found.now c.args.shown_from c.deref.result.now c.is_empty-whole.result
+    c.args.found.now c.args.behind.now c.args.shown_by c.deref.result.now c.is_empty-whole.result
     c.is_known_wrong-known.result _ _ (c.deref.ensures.value ∙ c.in_ok-also.ensures) whole
     c.is_known_wrong-known.ensures c.in_ok-push_explained.ensures.added

@@ -14,5 +14,6 @@ returns c = record {
       c.topology-topology.ensures.topology
       (c.flow-listed.ensures
       ∙ ap (λ (w : FlowOfDomain). flow_at w.domain.topology w.flow) c.new-view.ensures.flow)
-      c.in_ok-push_found_flow.ensures c.in_ok-push_shown_from.ensures c.in_ok-push_explanation.ensures.added c.push_travel.ensures);
+      c.in_ok-push_found_flow.ensures c.in_ok-push_shown_by.ensures
+      c.in_ok-push_explanation.ensures.added c.push_travel.ensures);
 }

@@ -1,0 +1,218 @@
+-- What a router has for several wants, by one more row.
+use Rattle.std.proofs.Common.{◌≡◌, ℕ, ◌==◌, Bool, true, false, cond, not, List, [], ◌∷◌, map, refl, sym, ap, ◌∙◌}
+use Rattle.std.proofs.Common.{ap₂, inl, inr, Option, Some, None, ◌++◌, append-nil, append_assoc}
+use Rattle.std.specs.Prelude.{◌&&◌}
+use Rattle.std.specs.FinMap.{FinMap}
+use Rattle.std.specs.Ordering.{nat_cmp}
+use Rattle.std.proofs.lemmas.Bool.{cases_Bool, eq-eqb, eqb-true, false≢true, ne_eqb}
+use Rattle.mc_tables.specs.CacheTable.{EntryValue, RowValue}
+use Rattle.mc_tables.specs.EachRow.{with_entry, with_rows}
+use Rattle.mc_tables.specs.VifTable.{VifValue}
+use Rattle.mc_asked.specs.declared.forwarding.RouterState.{RouterState}
+use Rattle.mc_asked.specs.declared.forwarding.RouterState.TheVariants.{Nothing, EverySource, NoneOut}
+use Rattle.mc_asked.specs.declared.forwarding.RouterState.TheVariants.{Forwards}
+use Rattle.mc_asked.specs.Forwarding.{greater, is_counted, is_counted_source, router_state, row_of}
+use Rattle.mc_filter.specs.SourceFilter.{has}
+use Rattle.mc_asked.specs.ListWants.{Want}
+use Rattle.mc_asked.specs.WantStates.{StatedWantValue, is_key, stated_by, states_by, states_start, unstated}
+use Rattle.mc_asked.specs.WantStates.{states_with_row, want_with_row, want_with_row_at, want_with_row_of}
+use Rattle.mc_asked.proofs.ForwardingLemmas.{router_state-append}
+use Rattle.mc_asked.proofs.OneKeyLemmas.{equal-from_is_key, is_key-itself}
+
+greater-nothing : (state : RouterState) → greater state Nothing ≡ state
+greater-nothing Nothing = refl
+greater-nothing EverySource = refl
+greater-nothing NoneOut = refl
+greater-nothing Forwards = refl
+
+pub and-false : (b : Bool) → (b && false) ≡ false
+and-false true = refl
+and-false false = refl
+
+-- an entry of one source counts for no want but that of its group and any source, and that of its group and
+-- its source
+counted_source-other : (unadmitted : List ℕ) (want : Want) (key : ℕ × ℕ) → (key.1 == want.0) ≡ true
+    → (want ≡ (key.1, 0) → ⊥) → (want ≡ (key.1, key.0) → ⊥)
+    → is_counted_source unadmitted want key.0 ≡ false
+counted_source-other unadmitted want key group any one =
+    let is_group : want.0 ≡ key.1 = sym (eqb-true key.1 want.0 group) in
+    elim (cases_Bool (want.1 == 0)) [
+      | inl is_any ↦ absurd (any (ap₂ (λ (g s : ℕ). (g, s)) is_group (eqb-true want.1 0 is_any)))
+      | inr other ↦
+          ap (λ b. cond b (not (has unadmitted key.0)) (key.0 == want.1)) other
+          ∙ elim (cases_Bool (key.0 == want.1)) [
+            | inl same ↦ absurd (one (ap₂ (λ (g s : ℕ). (g, s)) is_group (sym (eqb-true key.0 want.1 same))))
+            | inr differs ↦ differs
+          ]
+    ]
+
+counted-other : (unadmitted : List ℕ) (want : Want) (key : ℕ × ℕ) (entry : EntryValue)
+    → (want ≡ (key.1, 0) → ⊥) → (want ≡ (key.1, key.0) → ⊥)
+    → is_counted unadmitted want (row_of key entry) ≡ false
+counted-other unadmitted want key entry any one =
+    elim (cases_Bool (key.1 == want.0)) [
+      | inl group ↦
+          ap (λ b. (key.1 == want.0) && (not (key.0 == 0) && b))
+          (counted_source-other unadmitted want key group any one)
+          ∙ ap (λ b. (key.1 == want.0) && b) (and-false (not (key.0 == 0))) ∙ and-false (key.1 == want.0)
+      | inr differs ↦ ap (λ b. b && (not (key.0 == 0) && is_counted_source unadmitted want key.0)) differs
+    ]
+
+state-other : (vifs : FinMap nat_cmp VifValue) (unadmitted : List ℕ) (want : Want) (key : ℕ × ℕ)
+    (entry : EntryValue) → (key.0 == 0) ≡ false → (want ≡ (key.1, 0) → ⊥) → (want ≡ (key.1, key.0) → ⊥)
+    → router_state vifs unadmitted want (row_of key entry ∷ []) ≡ Nothing
+state-other vifs unadmitted want key entry source any one =
+    rw (counted-other unadmitted want key entry any one, source) refl
+
+-- so it changes nothing for another want
+row-other : (vifs : FinMap nat_cmp VifValue) (key : ℕ × ℕ) (entry : EntryValue) (w : StatedWantValue)
+    → (key.0 == 0) ≡ false → (w.want ≡ (key.1, 0) → ⊥) → (w.want ≡ (key.1, key.0) → ⊥)
+    → w ≡ want_with_row vifs key entry w
+row-other vifs key entry w source any one =
+    ap (λ state. record { want = w.want; unadmitted = w.unadmitted; state = state })
+    (sym (ap (greater w.state) (state-other vifs w.unadmitted w.want key entry source any one)
+    ∙ greater-nothing w.state))
+
+-- and what it changes for these two is what it changes
+pub row-at_both : (vifs : FinMap nat_cmp VifValue) (key : ℕ × ℕ) (entry : EntryValue) (w : StatedWantValue)
+    → (key.0 == 0) ≡ false
+    → want_with_row_at (key.1, key.0) vifs key entry (want_with_row_at (key.1, 0) vifs key entry w)
+    ≡ want_with_row vifs key entry w
+row-at_both vifs key entry w source =
+    let after : StatedWantValue = want_with_row vifs key entry w in
+    let second : StatedWantValue → StatedWantValue = want_with_row_at (key.1, key.0) vifs key entry in
+    elim (cases_Bool (is_key (key.1, 0) w.want)) [
+      | inl any ↦
+          let is_any = equal-from_is_key (key.1, 0) w.want any in
+          ap (λ b. second (cond b after w)) any
+          ∙ elim (cases_Bool (is_key (key.1, key.0) w.want)) [
+            | inl one ↦
+                let is_one = equal-from_is_key (key.1, key.0) w.want one in
+                let zero_is : key.0 ≡ 0 = ap (λ (p : ℕ × ℕ). p.1) (sym is_one ∙ is_any) in
+                absurd (false≢true (sym source ∙ ap (λ n. n == 0) zero_is))
+            | inr other ↦ ap (λ b. cond b (want_with_row vifs key entry after) after) other
+          ]
+      | inr not_any ↦
+          ap (λ b. second (cond b after w)) not_any
+          ∙ elim (cases_Bool (is_key (key.1, key.0) w.want)) [
+            | inl one ↦ ap (λ b. cond b after w) one
+            | inr not_one ↦
+                ap (λ b. cond b after w) not_one
+                ∙ row-other vifs key entry w source
+                (λ is. false≢true (sym not_any ∙ ap (is_key (key.1, 0)) is ∙ is_key-itself (key.1, 0) (key.1, 0) refl))
+                (λ is. false≢true (sym not_one ∙ ap (is_key (key.1, key.0)) is ∙ is_key-itself (key.1, key.0) (key.1, key.0) refl))
+          ]
+    ]
+
+-- for all wants
+pub rows-at_both : (vifs : FinMap nat_cmp VifValue) (key : ℕ × ℕ) (entry : EntryValue)
+    (ws : List StatedWantValue) → (key.0 == 0) ≡ false
+    → map (want_with_row_at (key.1, key.0) vifs key entry) (map (want_with_row_at (key.1, 0) vifs key entry) ws)
+    ≡ map (want_with_row vifs key entry) ws
+rows-at_both vifs key entry [] source = refl
+rows-at_both vifs key entry (w ∷ ws) source =
+    ap₂ (λ (x : StatedWantValue) (xs : List StatedWantValue). x ∷ xs) (row-at_both vifs key entry w source)
+    (rows-at_both vifs key entry ws source)
+
+-- ---- row by row
+
+-- a row that isn't resolved has nothing for a want
+state-unresolved : (vifs : FinMap nat_cmp VifValue) (unadmitted : List ℕ) (want : Want) (row : RowValue)
+    → row.entry ≡ None → router_state vifs unadmitted want (row ∷ []) ≡ Nothing
+state-unresolved vifs unadmitted want row none = rw none refl
+
+-- one row more
+stated-one_more : (vifs : FinMap nat_cmp VifValue) (earlier : List RowValue) (row : RowValue)
+    (w : Want × List ℕ)
+    → greater (router_state vifs w.1 w.0 earlier) (router_state vifs w.1 w.0 (row ∷ []))
+    ≡ router_state vifs w.1 w.0 (earlier ++ row ∷ [])
+stated-one_more vifs earlier row w = router_state-append vifs w.1 w.0 earlier (row ∷ [])
+
+stated-resolved : (vifs : FinMap nat_cmp VifValue) (earlier : List RowValue) (row : RowValue)
+    (entry : EntryValue) (ws : List (Want × List ℕ)) → row.entry ≡ Some entry
+    → map (want_with_row vifs (row.origin, row.group) entry) (map (stated_by vifs earlier) ws)
+    ≡ map (stated_by vifs (earlier ++ row ∷ [])) ws
+stated-resolved vifs earlier row entry [] is = refl
+stated-resolved vifs earlier row entry (w ∷ ws) is =
+    let whole : row_of (row.origin, row.group) entry ≡ row =
+    ap (λ e. record { group = row.group; origin = row.origin; entry = e }) (sym is) in
+    ap₂ (λ (x : StatedWantValue) (xs : List StatedWantValue). x ∷ xs)
+    (ap (λ state. record { want = w.0; unadmitted = w.1; state = state })
+    (ap (λ r. greater (router_state vifs w.1 w.0 earlier) (router_state vifs w.1 w.0 (r ∷ []))) whole
+    ∙ stated-one_more vifs earlier row w))
+    (stated-resolved vifs earlier row entry ws is)
+
+stated-unresolved : (vifs : FinMap nat_cmp VifValue) (earlier : List RowValue) (row : RowValue)
+    (ws : List (Want × List ℕ)) → row.entry ≡ None
+    → map (stated_by vifs earlier) ws ≡ map (stated_by vifs (earlier ++ row ∷ [])) ws
+stated-unresolved vifs earlier row [] none = refl
+stated-unresolved vifs earlier row (w ∷ ws) none =
+    ap₂ (λ (x : StatedWantValue) (xs : List StatedWantValue). x ∷ xs)
+    (ap (λ state. record { want = w.0; unadmitted = w.1; state = state })
+    (sym (ap (greater (router_state vifs w.1 w.0 earlier)) (state-unresolved vifs w.1 w.0 row none)
+    ∙ greater-nothing (router_state vifs w.1 w.0 earlier)) ∙ stated-one_more vifs earlier row w))
+    (stated-unresolved vifs earlier row ws none)
+
+states-one_more : (vifs : FinMap nat_cmp VifValue) (ws : List (Want × List ℕ)) (earlier : List RowValue)
+    (row : RowValue) (entry : Option EntryValue) → row.entry ≡ entry
+    → with_entry states_with_row (states_by vifs ws earlier) (row.origin, row.group) entry
+    ≡ states_by vifs ws (earlier ++ row ∷ [])
+states-one_more vifs ws earlier row None is =
+    ap (λ l. record { vifs = vifs; wants = l }) (stated-unresolved vifs earlier row ws is)
+states-one_more vifs ws earlier row (Some entry) is =
+    ap (λ l. record { vifs = vifs; wants = l }) (stated-resolved vifs earlier row entry ws is)
+
+states-more : (vifs : FinMap nat_cmp VifValue) (ws : List (Want × List ℕ)) (earlier rows : List RowValue)
+    → with_rows states_with_row (states_by vifs ws earlier) rows ≡ states_by vifs ws (earlier ++ rows)
+states-more vifs ws earlier [] = ap (states_by vifs ws) (sym (append-nil earlier))
+states-more vifs ws earlier (row ∷ rows) =
+    ap (λ s. with_rows states_with_row s rows) (states-one_more vifs ws earlier row row.entry refl)
+    ∙ states-more vifs ws (earlier ++ row ∷ []) rows
+    ∙ ap (states_by vifs ws) (append_assoc earlier (row ∷ []) rows)
+
+-- all rows of a router
+pub states-of_rows : (vifs : FinMap nat_cmp VifValue) (ws : List (Want × List ℕ)) (rows : List RowValue)
+    → with_rows states_with_row (states_start vifs ws) rows ≡ states_by vifs ws rows
+states-of_rows vifs ws rows = states-more vifs ws [] rows
+
+-- the wants before the first row are these wants
+pub wants-of_unstated : (ws : List (Want × List ℕ))
+    → map (λ (w : StatedWantValue). w.want) (map unstated ws) ≡ map (λ (w : Want × List ℕ). w.0) ws
+wants-of_unstated [] = refl
+wants-of_unstated (w ∷ ws) = ap (λ l. w.0 ∷ l) (wants-of_unstated ws)
+
+-- ---- a row for every source
+
+eqb-flip : (m n : ℕ) → (m == n) ≡ false → (n == m) ≡ false
+eqb-flip m n other = ne_eqb n m (λ same. false≢true (sym other ∙ eq-eqb m n (sym same)))
+
+-- a row for every source of a group has nothing for wants of another one
+row-of_other_group : (vifs : FinMap nat_cmp VifValue) (key : ℕ × ℕ) (entry : EntryValue) (w : StatedWantValue)
+    → (key.0 == 0) ≡ true → (key.1 == 0) ≡ false → (w.want.0 == key.1) ≡ false
+    → w ≡ want_with_row vifs key entry w
+row-of_other_group vifs key entry w every one other =
+    ap (λ state. record { want = w.want; unadmitted = w.unadmitted; state = state })
+    (sym (ap (greater w.state) (state-of_other_group vifs w.unadmitted w.want key entry every one other)
+    ∙ greater-nothing w.state))
+  where
+    state-of_other_group : (vifs : FinMap nat_cmp VifValue) (unadmitted : List ℕ) (want : Want) (key : ℕ × ℕ)
+        (entry : EntryValue) → (key.0 == 0) ≡ true → (key.1 == 0) ≡ false → (want.0 == key.1) ≡ false
+        → router_state vifs unadmitted want (row_of key entry ∷ []) ≡ Nothing
+    state-of_other_group vifs unadmitted want key entry every one other =
+        let differs : (key.1 == want.0) ≡ false = eqb-flip want.0 key.1 other in
+        rw (differs, every, one) refl
+
+-- so it counts for those of its group alone
+pub rows-of_group : (vifs : FinMap nat_cmp VifValue) (key : ℕ × ℕ) (entry : EntryValue)
+    (ws : List StatedWantValue) → (key.0 == 0) ≡ true → (key.1 == 0) ≡ false
+    → map (want_with_row_of key.1 vifs key entry) ws ≡ map (want_with_row vifs key entry) ws
+rows-of_group vifs key entry [] every one = refl
+rows-of_group vifs key entry (w ∷ ws) every one =
+    ap₂ (λ (x : StatedWantValue) (xs : List StatedWantValue). x ∷ xs)
+    (elim (cases_Bool (w.want.0 == key.1)) [
+      | inl same ↦ ap (λ b. cond b (want_with_row vifs key entry w) w) same
+      | inr other ↦
+          ap (λ b. cond b (want_with_row vifs key entry w) w) other
+          ∙ row-of_other_group vifs key entry w every one other
+    ])
+    (rows-of_group vifs key entry ws every one)

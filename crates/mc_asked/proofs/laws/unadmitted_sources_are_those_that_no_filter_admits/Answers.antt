@@ -1,0 +1,10 @@
+use Rattle.mc_asked.proofs.LanByLanLemmas.{unadmitted-of_line}
+use Rattle.mc_asked.proofs.NoFilterLemmas.{unadmitted_in-of_merged}
+use Rattle.mc_asked.proofs.laws.unadmitted_sources_are_those_that_no_filter_admits.Goals as goal
+
+pub returns-clause-list : goal.returns-clause-list
+returns-clause-list c = λ records groups group filter merged mode h.
+    unadmitted_in-of_merged records groups group filter merged mode h
+
+pub returns-clause-line : goal.returns-clause-line
+returns-clause-line c = λ all a lists group lans source h. unadmitted-of_line all a lists group lans source h

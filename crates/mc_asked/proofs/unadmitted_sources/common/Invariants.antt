@@ -1,0 +1,7 @@
+use Rattle.std.proofs.Common.{◌≡◌, filter, take}
+use Rattle.mc_filter.specs.SourceFilter.{has}
+use Rattle.mc_asked.proofs.unadmitted_sources.common.Given as goal
+
+-- those so far
+abbrev pub invariant-loop-address : goal.invariant-loop-address
+invariant-loop-address l = l.kept.items ≡ filter (has l.fn.ascending) (take l.address-index l.fn.addresses)

@@ -1,0 +1,58 @@
+use Rattle.std.proofs.Common.{◌≡◌, ◌==◌, Bool, true, false, cond, List, arith, length, map, refl, subst, sym, ap, ◌∙◌}
+use Rattle.std.specs.List.Sorted.{IsStrictlySortedBy}
+use Rattle.std.proofs.lemmas.List.{length-map}
+use Rattle.mc_tables.specs.CacheTable.{key_cmp}
+use Rattle.mc_asked.specs.WantStates.{StatedWantValue, WantStatesValue, states_with_row_of, want_with_row}
+use Rattle.mc_asked.specs.WantStates.{want_with_row_of}
+use Rattle.mc_asked.proofs.GroupRunLemmas.{with_run-of_keys}
+use Rattle.mc_asked.proofs.OneKeyLemmas.{map-same_keys}
+use Rattle.mc_asked.proofs.want_states.WantStates.add_to_group.Goals as goal
+use Rattle.mc_asked.proofs.want_states.WantStates.add_to_group.Goals.{After-add_to_run}
+
+-- the wants of the group have the row
+rows : (c : After-add_to_run)
+    → c.add_to_run.new.wants.items
+    ≡ map (want_with_row_of c.args.group c.self.inside.vifs.now c.args.key.now c.args.entry.now) c.self.inside.wants.items
+rows c =
+    let row = want_with_row c.self.inside.vifs.now c.args.key.now c.args.entry.now in
+    c.add_to_run.ensures
+    ∙ with_run-of_keys (λ (w : StatedWantValue). w.want) row c.args.group c.deref.result.now
+    c.self.inside.wants.items c.run_of_group-run.result (c.deref.ensures.value ∙ c.self.invariant.0)
+    c.run_of_group-run.ensures
+
+pub run_of_group-run-requires : goal.run_of_group-run-requires
+run_of_group-run-requires c = record {
+  sorted = subst (IsStrictlySortedBy key_cmp) (sym c.deref.ensures.value) c.self.invariant.1;
+}
+
+pub add_to_run-requires : goal.add_to_run-requires
+add_to_run-requires c =
+    let count = ap length (c.deref.ensures.value ∙ c.self.invariant.0)
+    ∙ length-map c.self.inside.wants.items (λ (w : StatedWantValue). w.want) in
+    record {
+      ordered = c.run_of_group-run.ensures.ordered;
+      within = omega (arith, c.run_of_group-run.ensures.within, count);
+    }
+
+-- each want stays
+same_want : (row : StatedWantValue → StatedWantValue) → ((w : StatedWantValue) → (row w).want ≡ w.want)
+    → (w : StatedWantValue) (b : Bool) → (cond b (row w) w).want ≡ w.want
+same_want row same w true = same w
+same_want row same w false = refl
+
+pub invariant_of-self : goal.invariant_of-self
+invariant_of-self c =
+    let row = want_with_row_of c.args.group c.self.inside.vifs.now c.args.key.now c.args.entry.now in (
+      c.self.invariant.0
+          ∙ sym (ap (map (λ (w : StatedWantValue). w.want)) (rows c)
+          ∙ map-same_keys (λ (w : StatedWantValue). w.want) row c.self.inside.wants.items (λ w.
+          same_want (want_with_row c.self.inside.vifs.now c.args.key.now c.args.entry.now) (λ w. refl) w
+          (w.want.0 == c.args.group))),
+      c.self.invariant.1,
+    )
+
+pub returns : goal.returns
+returns c =
+    let vifs = c.self.inside.vifs.now in
+    ap (λ (l : List StatedWantValue). record { vifs = vifs; wants = l }) (rows c)
+    ∙ ap (λ (s : WantStatesValue). states_with_row_of c.args.group s c.args.key.now c.args.entry.now) c.self.view_is

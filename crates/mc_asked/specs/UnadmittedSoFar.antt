@@ -1,0 +1,81 @@
+-- The sources that the filter of none of a want's LANs admits, LAN by LAN.
+use Rattle.std.specs.Prelude.{◌≡◌, ℕ, ◌==◌, ◌&&◌, Bool, false, true, not, List, [], ◌∷◌, filter, map, take, Some}
+use Rattle.std.specs.Prelude.{if◌then◌else◌}
+use Rattle.mc_igmp.specs.declared.record.Record.{Record}
+use Rattle.mc_filter.specs.SourceFilter.{has}
+use Rattle.mc_tables.specs.ListedRows.{is_listed}
+use Rattle.mc_asked.specs.Answers.{AnswersValue}
+use Rattle.mc_asked.specs.AskedLines.{lan_wants_from, wants_of_lans}
+use Rattle.mc_asked.specs.GroupRun.{seconds_of}
+use Rattle.mc_asked.specs.ListWants.{Want, any_source}
+use Rattle.mc_asked.specs.PairParts.{with_parts}
+use Rattle.mc_asked.specs.Unadmitted.{with_unadmitted}
+use Rattle.mc_asked.specs.WantStates.{is_key}
+
+-- a want, whether one of its LANs is among those so far, and the sources that the filter of none of these
+-- admits
+pub record WantSourcesValue : Type 0 where
+  pub want : Want
+  pub is_begun : Bool
+  pub unadmitted : List ℕ
+
+-- a want before the first LAN
+abbrev pub without_sources : Want → WantSourcesValue
+without_sources want = record { want = want; is_begun = false; unadmitted = [] }
+
+-- the want alone with these sources
+abbrev pub as_asked : WantSourcesValue → Want × List ℕ
+as_asked s = (s.want, s.unadmitted)
+
+-- ---- one LAN more
+
+-- with the sources that one more LAN doesn't admit
+abbrev pub with_lan : (own : List ℕ) → WantSourcesValue → WantSourcesValue
+with_lan own s = record {
+  want = s.want;
+  is_begun = true;
+  unadmitted = if s.is_begun then filter (has s.unadmitted) own else own;
+}
+
+-- the same if the want is of any source of a group
+abbrev pub with_lan_at : (group : ℕ) → (own : List ℕ) → WantSourcesValue → WantSourcesValue
+with_lan_at group own s = if is_key (group, any_source) s.want then with_lan own s else s
+
+-- with one more LAN, if the want is of any source of one of these groups, by the sources that the LAN
+-- doesn't admit, each behind its group
+abbrev pub with_unadmitted_of : (groups : List ℕ) → (unadmitted : List (ℕ × ℕ)) → WantSourcesValue
+    → WantSourcesValue
+with_unadmitted_of groups unadmitted s =
+    if (s.want.1 == any_source) && has groups s.want.0 then with_lan (seconds_of s.want.0 unadmitted) s else s
+
+-- whether a want of a LAN is of any source and among others
+abbrev pub is_shared_any : (wants : List Want) → Want → Bool
+is_shared_any wants want = (want.1 == any_source) && is_listed (Some wants) want
+
+-- the groups of these
+abbrev pub groups_from_any : (wants own : List Want) → List ℕ
+groups_from_any wants own = map (λ want. want.0) (filter (is_shared_any wants) own)
+
+-- ---- by the lists of all LANs
+
+abbrev pub is_empty : List ℕ → Bool
+is_empty [] = true
+is_empty (lan ∷ lans) = false
+
+-- what is kept of a want with some of its LANs
+abbrev pub sources_so_far : List (List Record) → Want × List ℕ → WantSourcesValue
+sources_so_far lists line = record {
+  want = line.0;
+  is_begun = not (is_empty line.1) && (line.0.1 == any_source);
+  unadmitted = (with_unadmitted lists line).1;
+}
+
+-- the wants that are kept of the LANs below a number
+abbrev pub wants_below : (all : Bool) → AnswersValue → List (List Record) → (lan : ℕ) → List (List Want)
+wants_below all a lists lan = take lan (wants_of_lans (lan_wants_from all a 0 lists))
+
+-- this is what is kept of each of these wants with its LANs below a number
+abbrev pub AreSourcesBelow : (all : Bool) → AnswersValue → List (List Record) → (lan : ℕ) → List Want
+    → List WantSourcesValue → Type 0
+AreSourcesBelow all a lists lan wants sources =
+    sources ≡ map (λ want. sources_so_far lists (with_parts (wants_below all a lists lan) want)) wants

@@ -1,0 +1,282 @@
+//! The sources that the filter of none of a want's LANs admits, found LAN by LAN.
+
+ghost use Rattle.std.specs.Prelude.{◌≡◌, ◌+◌, ℕ, Bool, List, Some, IfOk, OnOk, false, filter, length, map};
+ghost use Rattle.std.specs.Prelude.{slice_get};
+ghost use Rattle.std.specs.List.{list_any};
+ghost use Rattle.std.specs.List.Sorted.{IsStrictlyIncreasing, IsStrictlySortedBy};
+ghost use Rattle.mc_igmp.specs.declared.record.Record.{Record};
+ghost use Rattle.mc_filter.specs.SourceFilter.{has};
+ghost use Rattle.mc_tables.specs.CacheTable.{key_cmp};
+ghost use Rattle.mc_asked.specs.Answers.{AnswersValue};
+ghost use Rattle.mc_asked.specs.AskedLines.{asked_lines, lan_wants_from};
+ghost use Rattle.mc_asked.specs.ListWants.{Want};
+ghost use Rattle.mc_asked.specs.Unadmitted.{with_unadmitted};
+ghost use Rattle.mc_asked.specs.UnadmittedSoFar.{AreSourcesBelow, as_asked, groups_from_any, is_shared_any};
+ghost use Rattle.mc_asked.specs.UnadmittedSoFar.{with_lan, with_lan_at, with_unadmitted_of, without_sources};
+
+use crate::group_run::seconds_of;
+use crate::lan_wants::LanWants;
+use crate::shared_pairs::SharedPair;
+use crate::unadmitted::{has_address, unadmitted_in};
+use crate::want_states::AskedWant;
+use mc_igmp::ReportList;
+use mc_text::{Addr, Memory};
+use std::alloc::{AllocError, Global};
+use std::marker::Model;
+
+/// A want, and the sources that the filter of none of its LANs so far admits.
+#[derive(Debug, Drop)]
+pub struct WantSources {
+    want: (Addr, Addr),
+    // whether one of its LANs is among those so far
+    is_begun: bool,
+    // ascending
+    unadmitted: Vec<Addr>,
+}
+
+impl Model for WantSources {
+    ghost use Rattle.std.specs.List.Sorted.{IsStrictlyIncreasing};
+    ghost use Rattle.mc_asked.specs.UnadmittedSoFar.{WantSourcesValue};
+
+    ghost Value = { WantSourcesValue };
+
+    ghost view = { λ s. record {
+      want = s.want;
+      is_begun = s.is_begun;
+      unadmitted = s.unadmitted.items;
+    } };
+
+    ghost invariant = { λ s. IsStrictlyIncreasing s.unadmitted.items };
+}
+
+/// Of these addresses those that are among some ascending ones.
+fn common(alloc: Global, ascending: &[Addr], addresses: &[Addr]) -> Result<Vec<Addr>, AllocError>
+    requires ascending { IsStrictlyIncreasing ascending.now }
+    ensures { IfOk result (λ kept. kept.items ≡ filter (has ascending.now) addresses.now) }
+{
+    let mut kept = Vec::new(alloc);
+    for address in addresses {
+        if has_address(ascending, *address) {
+            kept.push(*address)?;
+        }
+    }
+    Ok(kept)
+}
+
+impl WantSources {
+    /// Before the first LAN.
+    fn new(alloc: Global, want: (Addr, Addr)) -> WantSources
+        ensures { result ≡ without_sources want }
+    {
+        WantSources {
+            want,
+            is_begun: false,
+            unadmitted: Vec::new(alloc),
+        }
+    }
+
+    /// Takes the ascending sources that one more LAN doesn't admit.
+    fn add_lan(&mut self, alloc: Global, own: Vec<Addr>) -> Result<(), AllocError>
+        requires ascending { IsStrictlyIncreasing own.items }
+        ensures same { self.new.want ≡ self.old.want }
+        ensures added { OnOk result (self.new ≡ with_lan own.items self.old) }
+    {
+        if self.is_begun {
+            self.unadmitted = common(alloc, &self.unadmitted, &own)?;
+        } else {
+            self.is_begun = true;
+            self.unadmitted = own;
+        }
+        Ok(())
+    }
+
+    /// The want with the sources.
+    fn into_asked(self) -> AskedWant
+        ensures { result ≡ as_asked self }
+    {
+        let WantSources {
+            want,
+            unadmitted,
+            ..
+        } = self;
+        AskedWant::new(want, unadmitted)
+    }
+}
+
+/// Wants, ascending and each once, and of each that is of any source the sources that the filter of none of
+/// its LANs so far admits. Its value in contracts is the list of these.
+#[derive(Debug, Drop)]
+pub struct UnadmittedSources {
+    // the wants, in the order of `sources`
+    keys: Vec<(Addr, Addr)>,
+    sources: Vec<WantSources>,
+}
+
+impl Model for UnadmittedSources {
+    ghost use Rattle.std.specs.Prelude.{◌≡◌, List, map};
+    ghost use Rattle.std.specs.List.Sorted.{IsStrictlySortedBy};
+    ghost use Rattle.mc_tables.specs.CacheTable.{key_cmp};
+    ghost use Rattle.mc_asked.specs.UnadmittedSoFar.{WantSourcesValue};
+
+    ghost Value = { List WantSourcesValue };
+
+    ghost view = { λ s. s.sources.items };
+
+    ghost invariant = { λ s. (s.keys.items ≡ map (λ own. own.want) s.sources.items)
+        × IsStrictlySortedBy key_cmp s.keys.items };
+}
+
+/// The wants of lines.
+fn wants_of(alloc: Global, lines: &[SharedPair]) -> Result<Vec<(Addr, Addr)>, Memory>
+    ensures { IfOk result (λ wants. wants.items ≡ map (λ line. line.0) lines.now) }
+{
+    let mut wants = Vec::with_capacity(alloc, lines.len())?;
+    for line in lines {
+        wants.push(*line.pair())?;
+    }
+    Ok(wants)
+}
+
+/// Wants before the first LAN.
+fn without_sources(alloc: Global, wants: &[(Addr, Addr)]) -> Result<Vec<WantSources>, Memory>
+    ensures { IfOk result (λ sources. sources.items ≡ map without_sources wants.now) }
+{
+    let mut sources = Vec::with_capacity(alloc, wants.len())?;
+    for want in wants {
+        sources.push(WantSources::new(alloc, *want))?;
+    }
+    Ok(sources)
+}
+
+/// Whether a want of a LAN is of any source and among these ascending ones.
+fn is_shared_any(wants: &[(Addr, Addr)], want: &(Addr, Addr)) -> bool
+    requires sorted { IsStrictlySortedBy key_cmp wants.now }
+    ensures { result ≡ is_shared_any wants.now want.now }
+{
+    want.1.is_unspecified() && wants.binary_search(want).is_ok()
+}
+
+impl UnadmittedSources {
+    /// The wants of these lines before the first LAN.
+    ///
+    /// # Errors
+    ///
+    /// `Memory` if an allocation is refused.
+    pub fn of_lines(alloc: Global, lines: &[SharedPair]) -> Result<UnadmittedSources, Memory>
+        requires sorted { IsStrictlySortedBy key_cmp (map (λ line. line.0) lines.now) }
+        ensures { IfOk result (λ sources. (all : Bool) (a : AnswersValue) (lists : List (List Record)) →
+            AreSourcesBelow all a lists 0 (map (λ line. line.0) lines.now) sources) }
+    {
+        let keys = wants_of(alloc, lines)?;
+        let sources = without_sources(alloc, &keys)?;
+        Ok(UnadmittedSources { keys, sources })
+    }
+
+    /// Whether the list of the next LAN is needed, of whose wants these are kept. If not, this has what it is
+    /// to have with that LAN.
+    pub fn needs_list(&self, own: &LanWants) -> bool
+        ensures value { result
+            ≡ list_any (is_shared_any (map (λ s. s.want) self.now)) own.now.lowest }
+        ensures skipped { (all : Bool) (a : AnswersValue) (lists : List (List Record)) (lan : ℕ)
+            (wants : List Want) → slice_get (lan_wants_from all a 0 lists) lan ≡ Some own.now →
+            AreSourcesBelow all a lists lan wants self.now → result ≡ false →
+            AreSourcesBelow all a lists (lan + 1) wants self.now }
+    {
+        for want in own.lowest() {
+            if is_shared_any(&self.keys, want) {
+                return true;
+            }
+        }
+        false
+    }
+
+    /// The groups of those of a LAN's wants that are of any source and among these.
+    fn groups_from_any(&self, alloc: Global, own: &LanWants) -> Result<Vec<Addr>, AllocError>
+        ensures groups { IfOk result (λ groups.
+            groups.items ≡ groups_from_any (map (λ s. s.want) self.now) own.now.lowest) }
+        ensures ascending { IfOk result (λ groups. IsStrictlyIncreasing groups.items) }
+    {
+        let mut groups = Vec::new(alloc);
+        for want in own.lowest() {
+            if is_shared_any(&self.keys, want) {
+                groups.push(want.0)?;
+            }
+        }
+        Ok(groups)
+    }
+
+    /// Takes the ascending sources of a group that one more LAN doesn't admit, which wants it from any.
+    fn add_lan(&mut self, alloc: Global, group: Addr, own: Vec<Addr>) -> Result<(), AllocError>
+        requires ascending { IsStrictlyIncreasing own.items }
+        ensures { OnOk result (self.new ≡ map (with_lan_at group own.items) self.old) }
+    {
+        let any_source = Addr::unspecified();
+        if let Ok(place) = self.keys.binary_search(&(group, any_source)) {
+            self.sources[place].add_lan(alloc, own)?;
+        }
+        Ok(())
+    }
+
+    /// Takes the sources that one more LAN doesn't admit, each behind its group, of some groups.
+    fn add_unadmitted(
+        &mut self,
+        alloc: Global,
+        groups: &[Addr],
+        unadmitted: &[(Addr, Addr)],
+    ) -> Result<(), AllocError>
+        requires groups { IsStrictlyIncreasing groups.now }
+        requires sorted { IsStrictlySortedBy key_cmp unadmitted.now }
+        ensures { OnOk result (self.new ≡ map (with_unadmitted_of groups.now unadmitted.now) self.old) }
+    {
+        for group in groups {
+            let own = seconds_of(alloc, unadmitted, *group)?;
+            self.add_lan(alloc, *group, own)?;
+        }
+        Ok(())
+    }
+
+    /// Takes the list of the next LAN, of whose wants these are kept. The list is read twice, in time in
+    /// proportion to n log n.
+    ///
+    /// # Errors
+    ///
+    /// `Memory` if an allocation is refused.
+    pub fn add_list(
+        &mut self,
+        alloc: Global,
+        own: &LanWants,
+        list: &ReportList,
+    ) -> Result<(), Memory>
+        ensures { OnOk result ((all : Bool) (a : AnswersValue) (lists : List (List Record)) (lan : ℕ)
+            (wants : List Want) → slice_get lists lan ≡ Some list.now →
+            slice_get (lan_wants_from all a 0 lists) lan ≡ Some own.now →
+            AreSourcesBelow all a lists lan wants self.old →
+            AreSourcesBelow all a lists (lan + 1) wants self.new) }
+    {
+        let groups = self.groups_from_any(alloc, own)?;
+        let unadmitted = unadmitted_in(alloc, list, &groups)?;
+        self.add_unadmitted(alloc, &groups, &unadmitted)?;
+        Ok(())
+    }
+
+    /// The wants with the sources.
+    ///
+    /// # Errors
+    ///
+    /// `Memory` if an allocation is refused.
+    pub fn into_wants(self, alloc: Global) -> Result<Vec<AskedWant>, Memory>
+        // With all LANs these are the sources that are unadmitted.
+        ensures asked { IfOk result (λ wants. (all : Bool) (a : AnswersValue) (lists : List (List Record))
+            (lines : List (Want × List ℕ)) → lines ≡ asked_lines all (lan_wants_from all a 0 lists) →
+            AreSourcesBelow all a lists (length lists) (map (λ line. line.0) lines) self →
+            wants.items ≡ map (with_unadmitted lists) lines) }
+        ensures sorted { IfOk result (λ wants. IsStrictlySortedBy key_cmp (map (λ w. w.0) wants.items)) }
+    {
+        let UnadmittedSources { sources, .. } = self;
+        let mut wants = Vec::with_capacity(alloc, sources.len())?;
+        for own in sources {
+            wants.push(own.into_asked())?;
+        }
+        Ok(wants)
+    }
+}

@@ -1,0 +1,11 @@
+use Rattle.serde_json.specs.Data.{object}
+use Rattle.mc_cert.proofs.FieldLemmas.{HoldsSharedFlow-none}
+use Rattle.mc_cert.proofs.tokens.shared_flow.tree_number_value.Goals as goal
+
+pub read_object-requires : goal.read_object-requires
+read_object-requires c = rw c.new.ensures (record { empty = HoldsSharedFlow-none })
+
+pub returns : goal.returns
+returns c =
+    let (ms, reads, held) = c.in_ok-fields.ensures in
+    (object ms, reads, c.in-Some.ensures ms held)

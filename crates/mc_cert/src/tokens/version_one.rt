@@ -1,0 +1,97 @@
+//! Reads a certificate of version 1.
+
+ghost use Rattle.std.specs.Prelude.{◌≡◌, ◌≤◌, None, IfOk, length, map, option_map};
+ghost use Rattle.serde_json.specs.Data.{Members};
+ghost use Rattle.mc_cert.specs.Denotation.{DenotesCertificate};
+ghost use Rattle.mc_cert.specs.Tokens.{HoldsVersionOne, IsVersionOne};
+
+use crate::certificate::Certificate;
+use crate::reached::Reached;
+use crate::tokens::NotRead;
+use crate::tokens::flow::flows_value;
+use crate::tokens::object::{Fields, read_document};
+use crate::tokens::value::whole_value;
+use json::{Reader, Scratch};
+use mc_topology::Topology;
+use std::alloc::Global;
+
+/// What was read of a certificate.
+#[derive(Drop)]
+struct VersionOneFields {
+    version: Option<u32>,
+    flows: Option<Vec<Vec<Reached>>>,
+}
+
+impl Fields for VersionOneFields {
+    ghost levels = { 4 };
+
+    ghost holds = { λ t f. HoldsVersionOne t f.version
+        (option_map (λ flows. map (λ es. es.items) flows.items) f.flows) };
+
+    fn read_field(
+        self,
+        alloc: Global,
+        topology: &Topology,
+        key: &str,
+        reader: &mut Reader<'_>,
+    ) -> Result<VersionOneFields, NotRead> {
+        match key {
+            "version" => {
+                let version = whole_value(1, 1, reader)?;
+                Ok(VersionOneFields {
+                    version: Some(version),
+                    ..self
+                })
+            }
+            "flows" => {
+                let flows = flows_value(alloc, topology, reader)?;
+                Ok(VersionOneFields {
+                    flows: Some(flows),
+                    ..self
+                })
+            }
+            _ => Err(NotRead),
+        }
+    }
+}
+
+impl VersionOneFields {
+    fn new() -> VersionOneFields
+        ensures { result ≡ record { version = None; flows = None } }
+    {
+        VersionOneFields {
+            version: None,
+            flows: None,
+        }
+    }
+
+    /// The certificate, if it has what it must have.
+    fn certificate(self, topology: &Topology) -> Result<Certificate, NotRead>
+        requires read { (ms : Members) × HoldsVersionOne topology.now self.version
+            (option_map (λ flows. map (λ es. es.items) flows.items) self.flows) ms }
+        ensures { IfOk result (λ certificate. (ms : Members) → HoldsVersionOne topology.now self.version
+            (option_map (λ flows. map (λ es. es.items) flows.items) self.flows) ms →
+            IsVersionOne topology.now ms certificate) }
+    {
+        let _rules = topology.flows();
+        match (self.version, self.flows) {
+            (Some(_), Some(flows)) => Ok(Certificate::from_flows(flows)),
+            _ => Err(NotRead),
+        }
+    }
+}
+
+/// Reads a certificate of version 1.
+pub(crate) fn version_one(
+    alloc: Global,
+    topology: &Topology,
+    text: &str,
+    scratch: &mut Scratch,
+) -> Result<Certificate, NotRead>
+    requires few { length text.now ≤ 16777216 }
+    ensures { IfOk result (DenotesCertificate topology.now text.now) }
+{
+    let fields = read_document(alloc, topology, VersionOneFields::new(), text, scratch)?;
+    let certificate = fields.certificate(topology)?;
+    Ok(certificate)
+}

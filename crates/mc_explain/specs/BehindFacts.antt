@@ -1,0 +1,52 @@
+-- What holds of what is said to be behind a stray.
+use Rattle.std.specs.Prelude.{◌≡◌, ℕ, ◌≤◌, true, List, [], ◌++◌, map, reverse, Some}
+use Rattle.mc_theory.specs.Lists.{In}
+use Rattle.mc_theory.specs.Nets.{Net, Interface}
+use Rattle.mc_theory.specs.Flights.{Copy, Flight, start}
+use Rattle.mc_theory.specs.Certificates.{lans}
+use Rattle.mc_theory.specs.Findings.{Finding, first_copy_on}
+use Rattle.mc_theory.specs.Findings.Finding.{Duplicate, Loop}
+use Rattle.mc_theory.specs.FindingMeaning.{IsFirstDouble, Shows}
+use Rattle.mc_theory.specs.Paths.{Hop, CameFromLan}
+use Rattle.mc_theory.specs.ShownFrom.{EachCompleteRunHasFault}
+use Rattle.mc_forward.specs.Domains.{DomainValue, net_of}
+use Rattle.mc_replay.specs.FindingValues.{optional_finding_value}
+use Rattle.mc_replay.specs.PastStrays.{EndsPastStrays}
+use Rattle.mc_explain.specs.Explained.{circle_cause, sender_causes}
+use Rattle.mc_explain.specs.declared.causes.Cause.{Cause}
+use Rattle.mc_explain.specs.declared.causes.behind.Behind.{Behind}
+
+-- The causes are the senders of the LAN's first copy and of its second.
+pub record HasSenders (cs : List Copy) (lan : ℕ) (causes : List Cause) : Type 0 where
+  pub first : Copy
+  pub second : Copy
+  pub first_on : first_copy_on cs lan ≡ Some first
+  pub is_double : IsFirstDouble cs second
+  pub on : second.lan ≡ lan
+  pub causes_are : causes ≡ sender_causes lan first.sender ++ sender_causes lan second.sender
+
+-- The causes are the path by which the LAN's second copy came from the LAN itself, from its beginning.
+pub record HasCircle (n : Net) (cs : List Copy) (lan : ℕ) (causes : List Cause) : Type 0 where
+  pub second : Copy
+  pub is_double : IsFirstDouble cs second
+  pub on : second.lan ≡ lan
+  pub circle : List Hop
+  pub came_by_hops : CameFromLan n cs lan second circle
+  pub causes_are : causes ≡ reverse (map circle_cause circle)
+
+-- All of it is true of one run of the flow, that of a packet with TTL 255 which goes on past strays: it shows the
+-- finding, by these causes, and so does each complete run of a packet with at least the TTL that is said; its copies
+-- left by the interfaces and came to the routers; and it is complete and brought the missed LANs no copy.
+pub record IsTrueBehind (d : DomainValue) (flow : ℕ) (b : Behind) : Type 0 where
+  pub flight : Flight
+  pub run : EndsPastStrays (net_of d flow) (start (net_of d flow) 255) flight
+  pub shows : (x : Finding) → optional_finding_value b.finding ≡ Some x → Shows (net_of d flow) flight x
+  pub duplicate : (lan : ℕ) → optional_finding_value b.finding ≡ Some (Duplicate lan)
+      → HasSenders flight.carried lan b.causes.items
+  pub loop_back : (lan : ℕ) → optional_finding_value b.finding ≡ Some (Loop lan)
+      → HasCircle (net_of d flow) flight.carried lan b.causes.items
+  pub shown : (x : Finding) (k t : ℕ) → optional_finding_value b.finding ≡ Some x → b.shown_from ≡ Some k → k ≤ t
+      → EachCompleteRunHasFault (net_of d flow) t x
+  pub strays : (i : Interface) → In i b.strays.items → In i flight.strays
+  pub missed : (lan : ℕ) → In lan b.missed.items → (flight.waiting ≡ []) × ((net_of d flow).wants lan ≡ true)
+      × (In lan (lans flight.carried) → ⊥)

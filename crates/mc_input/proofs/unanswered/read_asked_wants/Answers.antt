@@ -1,0 +1,47 @@
+use Rattle.std.proofs.Common.{◌≡◌, ◌<◌, ◌∙◌, ℕ, List, Some, ap, arith, length, map, refl, rules, subst}
+use Rattle.std.specs.Prelude.{slice_get}
+use Rattle.std.proofs.lemmas.Option.{slice_get_read}
+use Rattle.mc_asked.specs.AskedLines.{asked_lines}
+use Rattle.mc_asked.specs.LanWants.{LanWantsValue}
+use Rattle.mc_asked.specs.ListWants.{Want}
+use Rattle.mc_asked.specs.UnadmittedSoFar.{AreSourcesBelow}
+use Rattle.mc_input.proofs.unanswered.read_asked_wants.Goals as goal
+
+pub loop-lan-preserved : goal.loop-lan-preserved
+loop-lan-preserved g c =
+    let wants = c.args.wants.now in
+    let lan = c.loop-lan.lan in
+    let own = c.index-wants-lan.result in
+    let within : lan < length wants = omega (
+      arith,
+      c.loop-lan-test.true,
+      c.loop-lan.invariant.end,
+      c.requires.count,
+    ) in
+    let own_at = slice_get_read wants (length wants) lan own refl within c.index-wants-lan.is in
+    record {
+      room = search rules;
+      end = c.loop-lan.invariant.end;
+      same = c.take_list.ensures.same ∙ c.loop-lan.invariant.same;
+      kept = c.take_list.ensures.kept ∙ c.loop-lan.invariant.kept;
+      failures = c.in_ok-take_list.ensures.failures ∙ c.loop-lan.invariant.failures;
+      sources = λ all a lists contents is are wants_are.
+          c.in_ok-take_list.ensures.sources all a lists contents
+          (map (λ (line : Want × List ℕ). line.0) c.args.lines.now) (c.loop-lan.invariant.kept ∙ is) are
+          (subst (λ (ws : List LanWantsValue). slice_get ws lan ≡ Some own) wants_are own_at)
+          (c.loop-lan.invariant.sources all a lists contents is are wants_are);
+    }
+
+pub returns-clause-wants : goal.returns-clause-wants
+returns-clause-wants g c = λ all a lists contents is are wants_are lines_are.
+    let keys = map (λ (line : Want × List ℕ). line.0) c.args.lines.now in
+    let end : c.loop-lan.lan ≡ length lists = omega (
+      arith,
+      c.loop-lan-test.false,
+      c.loop-lan.auto.lan-end,
+      c.loop-lan.invariant.end,
+      are.count,
+    ) in
+    c.in_ok-into_wants.ensures.asked all a lists c.args.lines.now (lines_are ∙ ap (asked_lines all) wants_are)
+    (subst (λ (n : ℕ). AreSourcesBelow all a lists n keys c.loop-lan.sources) end
+    (c.loop-lan.invariant.sources all a lists contents is are wants_are))

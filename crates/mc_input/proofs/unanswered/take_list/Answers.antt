@@ -1,0 +1,53 @@
+use Rattle.std.proofs.Common.{◌≡◌, ◌+◌, ◌*◌, List, Some, ap, arith, false, subst}
+use Rattle.std.specs.Prelude.{slice_get}
+use Rattle.std.proofs.lemmas.Result.{err_from_is_err_and}
+use Rattle.mc_text.specs.Steps.{map_fault}
+use Rattle.mc_igmp.specs.declared.record.Record.{Record}
+use Rattle.mc_files.specs.Layout.{reports_slot}
+use Rattle.mc_files.proofs.SlotLemmas.{slots-reports_slot}
+use Rattle.mc_input.specs.ExcludedRouters.{files_without}
+use Rattle.mc_input.specs.PartsReading.{reports_of}
+use Rattle.mc_input.specs.declared.fault.InputFault.TheVariants.{Reports}
+use Rattle.mc_input.proofs.AskedOfFilesLemmas.{IsListOf-at, same_list-read}
+use Rattle.mc_input.proofs.FinishLemmas.{lan_slot-within_count}
+use Rattle.mc_input.proofs.unanswered.take_list.Goals as goal
+
+pub read_file_again-requires-clause-within : goal.read_file_again-requires-clause-within
+read_file_again-requires-clause-within g c =
+    omega (
+      arith,
+      c.routers.ensures.count,
+      lan_slot-within_count false c.args.topology.now c.args.lan c.requires.lan,
+    )
+
+pub returns-in_err-list-clause-fault : goal.returns-in_err-list-clause-fault
+returns-in_err-list-clause-fault g c = λ lists contents is are.
+    let p = err_from_is_err_and c.from_residual.result c.from_residual.ensures.1 in
+    let t = c.args.topology.now in
+    let lan = c.args.lan in
+    let files = files_without c.args.without.now contents in
+    let own = IsListOf-at files t lists lan are c.requires.lan in
+    let here = slots-reports_slot false t (1 + 2 * c.routers.result + lan) lan own.0 (omega (arith, c.routers.ensures.count))
+    own.1 in
+    rw (p.1, p.2)
+    (c.in_err-list.ensures.fault reports_of (reports_slot own.0) contents own.4.part own.2
+    (λ part small. ap (map_fault (Reports part.name)) (c.new-reader.ensures.reads part.bytes)) here is own.4.made
+    (ap (map_fault (Reports own.4.part.name)) own.4.read))
+
+pub returns-clause-sources : goal.returns-clause-sources
+returns-clause-sources g c = λ all a lists contents wants is are own_at so_far.
+    let t = c.args.topology.now in
+    let lan = c.args.lan in
+    let files = files_without c.args.without.now contents in
+    let own = IsListOf-at files t lists lan are c.requires.lan in
+    let here = slots-reports_slot false t (1 + 2 * c.routers.result + lan) lan own.0 (omega (arith, c.routers.ensures.count))
+    own.1 in
+    let read = c.in_ok-list.ensures.value reports_of (reports_slot own.0) contents
+    (λ part small. ap (map_fault (Reports part.name)) (c.new-reader.ensures.reads part.bytes)) here is in
+    let list = subst (λ (records : List Record). slice_get lists lan ≡ Some records)
+    (same_list-read files own.0 own.2 c.in_ok-list.list own.4 read) own.3 in
+    c.in_ok-add_list.ensures all a lists lan wants list own_at so_far
+
+pub returns-then-not-needs_list-clause-sources : goal.returns-then-not-needs_list-clause-sources
+returns-then-not-needs_list-clause-sources g c = λ all a lists contents wants is are own_at so_far.
+    c.needs_list.ensures.skipped all a lists c.args.lan wants own_at so_far c.if-not-needs_list.true

@@ -1,0 +1,37 @@
+-- The lists of reports in a folder's files, and what is kept of what they ask for.
+use Rattle.std.specs.Prelude.{◌≡◌, ℕ, Bool, List, length, Ok}
+use Rattle.mc_text.specs.Bundle.{PartText}
+use Rattle.mc_igmp.specs.ReadingList.{read_list}
+use Rattle.mc_igmp.specs.declared.record.Record.{Record}
+use Rattle.mc_topology.specs.Topology.{TopologyValue}
+use Rattle.mc_files.specs.FilePart.{file_part}
+use Rattle.mc_files.specs.Files.{FileText}
+use Rattle.mc_files.specs.Layout.{reports_slot}
+use Rattle.mc_forward.specs.Assembling.{RelatedAtEachIndex}
+use Rattle.mc_forward.specs.ListedTables.{flow_pairs}
+use Rattle.mc_asked.specs.Answers.{AnswersValue, source_pairs}
+use Rattle.mc_asked.specs.AskedLines.{lan_wants_from}
+use Rattle.mc_asked.specs.LanWants.{LanWantsValue}
+
+-- The records of the list in the LAN's file `igmp-<lan>`.
+pub record IsListOf (files : List FileText) (lan : List ℕ) (records : List Record) : Type 0 where
+  pub part : PartText
+  pub made : file_part files (reports_slot lan) ≡ Ok part
+  pub read : read_list part.bytes ≡ Ok records
+
+-- One list for each LAN, in the topology's order.
+pub record AreListsOf (files : List FileText) (t : TopologyValue) (lists : List (List Record)) : Type 0 where
+  pub count : length lists ≡ length t.lans
+  pub each : RelatedAtEachIndex (IsListOf files) t.lans lists
+
+-- What answers wants: the topology's flows and sources. Wants of these ranges of groups are left aside.
+abbrev pub answers_of : TopologyValue → (ignored : List (ℕ × ℕ)) → AnswersValue
+answers_of t ignored = record { flows = flow_pairs t.flows; sources = source_pairs t.sources; ignored = ignored }
+
+-- What is kept, LAN by LAN, of what the lists ask for: with `all` each want that nothing answers, else of
+-- each LAN the lowest ones.
+pub record AreWantsOf (all : Bool) (ignored : List (ℕ × ℕ)) (files : List FileText) (t : TopologyValue)
+    (wants : List LanWantsValue) : Type 0 where
+  pub lists : List (List Record)
+  pub of : AreListsOf files t lists
+  pub kept : wants ≡ lan_wants_from all (answers_of t ignored) 0 lists

@@ -1,0 +1,34 @@
+-- What routers have for wants that no flow answers, by the caches in a folder's files.
+use Rattle.std.specs.Prelude.{◌≡◌, ℕ, List, length, map, slice_get, Ok, Some}
+use Rattle.std.specs.FinMap.{FinMap}
+use Rattle.std.specs.Ordering.{nat_cmp}
+use Rattle.mc_text.specs.Bundle.{PartText}
+use Rattle.mc_tables.specs.CacheReading.{cache_rows_in}
+use Rattle.mc_tables.specs.CacheTable.{RowValue}
+use Rattle.mc_tables.specs.VifTable.{VifValue}
+use Rattle.mc_topology.specs.SectionRows.{RouterRow}
+use Rattle.mc_files.specs.FilePart.{file_part}
+use Rattle.mc_files.specs.Files.{FileText}
+use Rattle.mc_files.specs.Layout.{cache_slot}
+use Rattle.mc_forward.specs.Domains.{DomainValue}
+use Rattle.mc_asked.specs.Forwarding.{router_state}
+use Rattle.mc_asked.specs.ListWants.{Want}
+use Rattle.mc_asked.specs.declared.forwarding.RouterState.{RouterState}
+
+-- What a router with these vifs has for each want, with its unadmitted sources, by the rows in its file
+-- `cache-<router>`.
+pub record AreStatesOfRouter (files : List FileText) (wants : List (Want × List ℕ))
+    (vifs : FinMap nat_cmp VifValue) (r : RouterRow) (states : List RouterState) : Type 0 where
+  pub part : PartText
+  pub rows : List RowValue
+  pub made : file_part files (cache_slot r.name) ≡ Ok part
+  pub read : cache_rows_in r.order part.bytes ≡ Ok rows
+  pub stated : states ≡ map (λ w. router_state vifs w.1 w.0 rows) wants
+
+-- the same of each router of a domain, in the topology's order
+pub record AreStatesOf (files : List FileText) (wants : List (Want × List ℕ)) (d : DomainValue)
+    (states : List (List RouterState)) : Type 0 where
+  pub count : length states ≡ length d.topology.routers
+  pub each : (router : ℕ) (r : RouterRow) (vifs : FinMap nat_cmp VifValue) (own : List RouterState)
+      → slice_get d.topology.routers router ≡ Some r → slice_get d.vifs router ≡ Some vifs
+      → slice_get states router ≡ Some own → AreStatesOfRouter files wants vifs r own

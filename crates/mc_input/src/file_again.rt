@@ -1,0 +1,58 @@
+//! Reads a single file of a folder, whichever was read before.
+
+ghost use Rattle.std.specs.Prelude.{◌≡◌, ◌<◌, ℕ, List, IfErr, IfOk, Ok, Result, Some, false, length, slice_get};
+ghost use Rattle.std.specs.Prelude.{true};
+ghost use Rattle.mc_text.specs.Bundle.{PartText};
+ghost use Rattle.mc_text.specs.Device.{failures_after};
+ghost use Rattle.mc_files.specs.FilePart.{file_part};
+ghost use Rattle.mc_files.specs.Files.{FileText};
+ghost use Rattle.mc_files.specs.Layout.{Slot as SlotText, slots};
+ghost use Rattle.mc_input.specs.ExcludedRouters.{files_without};
+ghost use Rattle.mc_input.specs.SourceFault.{IsReadOrMemory, is_possible_for_files, is_read};
+ghost use Rattle.mc_input.specs.Stream.{IsReaderOf};
+ghost use Rattle.mc_input.specs.declared.fault.InputFault.{InputFault as Fault};
+
+use crate::file_slots::FileSlots;
+use crate::part_reader::PartReader;
+use crate::source_fault::SourceFault;
+use crate::walk::read_slot;
+use mc_files::PieceSource;
+use mc_topology::Topology;
+use std::alloc::Global;
+
+/// What a reader reads of the file of the slot with a number, where the routers of these names are excluded.
+pub(crate) fn read_file_again<F: PieceSource, R: PartReader + Drop>(
+    alloc: Global,
+    files: &mut F,
+    buffer: &mut [u8],
+    topology: &Topology,
+    without: &[&str],
+    number: u32,
+    reader: R,
+) -> Result<R::Out, SourceFault>
+    requires within { number < length (slots false topology.now) }
+    requires below_max { number < u32.MAX }
+    requires room { 0 < length buffer.old }
+    requires start { R.size reader ≡ 0 }
+    requires failures { F.failed files.old < u64.MAX }
+    ensures same { F.borrows files.new ≡ F.borrows files.old }
+    ensures kept { F.contents files.new ≡ F.contents files.old }
+    ensures value { (read : PartText → Result R.Out Fault) (slot : SlotText) (contents : List FileText) →
+        IsReaderOf (R.part_result reader) read → slice_get (slots false topology.now) number ≡ Some slot →
+        F.contents files.old ≡ Some contents → IfOk result (λ kept.
+        (part : PartText) × (file_part (files_without without.now contents) slot ≡ Ok part)
+        × (read part ≡ Ok kept)) }
+    // A file that can be read is refused for nothing in it.
+    ensures fault { (read : PartText → Result R.Out Fault) (slot : SlotText) (contents : List FileText)
+        (part : PartText) (value : R.Out) →
+        IsReaderOf (R.part_result reader) read → slice_get (slots false topology.now) number ≡ Some slot →
+        F.contents files.old ≡ Some contents → file_part (files_without without.now contents) slot ≡ Ok part →
+        read part ≡ Ok value → IfErr result IsReadOrMemory }
+    ensures faults { IfErr result (λ fault. is_possible_for_files fault ≡ true) }
+    ensures failures { F.failed files.new ≡ failures_after is_read result (F.failed files.old) }
+{
+    let mut slots = FileSlots { files, without };
+    let read = read_slot(alloc, &mut slots, buffer, topology, number, reader);
+    let _files = slots.into_files();
+    read
+}

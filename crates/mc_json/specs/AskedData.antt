@@ -1,0 +1,66 @@
+-- The wants that nothing answers in JSON.
+use Rattle.std.specs.Prelude.{ℕ, ◌==◌, List, [], ◌∷◌, codes, if◌then◌else◌, map, unwrap_or}
+use Rattle.mc_text.specs.Addr.{dotted}
+use Rattle.mc_topology.specs.Topology.{TopologyValue}
+use Rattle.mc_asked.specs.declared.forwarding.RouterState.{RouterState}
+use Rattle.mc_asked.specs.declared.forwarding.RouterState.TheVariants.{EverySource, NoneOut, Forwards}
+use Rattle.mc_asked.specs.ListWants.{Want, any_source}
+use Rattle.mc_asked.specs.Services.{service_name}
+use Rattle.mc_asked.specs.Forwarding.{routers_in}
+use Rattle.mc_explain.specs.AskedText.{listed_sources}
+use Rattle.mc_explain.specs.declared.asked.asked_text.AskedLine.{AskedLine}
+use Rattle.serde_json.specs.Data.{Data, string, null}
+use Rattle.mc_json.specs.EndData.{list_line, routers_data, single_member}
+use Rattle.mc_json.specs.RowData.{count_data, lan_data, line_of, list_data, object_data}
+
+abbrev pub lans_data : TopologyValue → List ℕ → Data
+lans_data t lans = list_data (map (lan_data t) lans)
+
+abbrev pub address_data : ℕ → Data
+address_data address = string (dotted address)
+
+-- the source, or null for any
+abbrev pub source_data : ℕ → Data
+source_data source = if source == any_source then null else address_data source
+
+-- a want, its LANs, the sources of the flows that have its group, and the routers by what they have for it:
+-- entries that go out to no LAN, entries that do, or entries for every source alone
+abbrev pub asked_object : TopologyValue → Want × List ℕ → (listed none_out forwards star : List ℕ) → Data
+asked_object t line listed none_out forwards star = single_member (codes "asked") (object_data (
+    (codes "group", address_data line.0.0)
+    ∷ (codes "lans", lans_data t line.1)
+    ∷ (codes "listed", list_data (map address_data listed))
+    ∷ (codes "none", routers_data t none_out)
+    ∷ (codes "routers", routers_data t forwards)
+    ∷ (codes "source", source_data line.0.1)
+    ∷ (codes "star", routers_data t star) ∷ []))
+
+abbrev pub asked_data_of : TopologyValue → AskedLine → Data
+asked_data_of t line = asked_object t (line.want.now, line.lans.now) line.listed.now line.routers.now.none_out.items
+    line.routers.now.forwards.items line.routers.now.every_source.items
+
+abbrev pub asked_data : TopologyValue → (flows : List (ℕ × ℕ)) → List RouterState → Want × List ℕ → Data
+asked_data t flows states line = asked_object t line (listed_sources flows line.0.0)
+    (routers_in NoneOut states) (routers_in Forwards states) (routers_in EverySource states)
+
+-- how many more wants of LANs there are
+abbrev pub asked_more_data : ℕ → Data
+asked_more_data more = single_member (codes "asked_more") (single_member (codes "wants") (count_data more))
+
+-- as a line, nothing if there are none
+abbrev pub asked_more_line : ℕ → List ℕ
+asked_more_line more = if more == 0 then [] else line_of (asked_more_data more)
+
+-- a service and the LANs whose hosts ask for its group
+abbrev pub service_object : TopologyValue → (group : ℕ) → (lans : List ℕ) → Data
+service_object t group lans = object_data (
+    (codes "group", address_data group)
+    ∷ (codes "lans", lans_data t lans)
+    ∷ (codes "name", string (unwrap_or (service_name group) [])) ∷ [])
+
+abbrev pub service_data : TopologyValue → Want × List ℕ → Data
+service_data t line = service_object t line.0.0 line.1
+
+-- all services as a line, nothing if there are none
+abbrev pub asked_services_line : TopologyValue → List (Want × List ℕ) → List ℕ
+asked_services_line t lines = list_line (codes "asked_services") (map (service_data t) lines)

@@ -1,0 +1,37 @@
+-- What is behind a stray, in JSON.
+use Rattle.std.specs.Prelude.{ℕ, List, [], ◌∷◌, map, Option, Some, None, codes}
+use Rattle.mc_tables.specs.Summary.{SummaryValue}
+use Rattle.mc_topology.specs.Topology.{TopologyValue}
+use Rattle.mc_theory.specs.Nets.{Interface}
+use Rattle.mc_forward.specs.ListedTables.{DomainFacts, facts}
+use Rattle.mc_explain.specs.declared.causes.behind.Behind.{Behind}
+use Rattle.mc_lines.specs.declared.context.LineContext.{LineContext}
+use Rattle.serde_json.specs.Data.{Data, null}
+use Rattle.mc_json.specs.EndData.{routers_data}
+use Rattle.mc_json.specs.FlowData.{optional_finding_data, shown_from_data}
+use Rattle.mc_json.specs.RowData.{count_data, lan_data, list_data, object_data, router_data}
+use Rattle.mc_json.specs.WhyData.{causes_data}
+
+-- an interface by which copies leave the known domain
+abbrev pub stray_data : TopologyValue → Interface → Data
+stray_data t i = object_data ((codes "router", router_data t i.0) ∷ (codes "vif", count_data i.1) ∷ [])
+
+-- what is behind a stray, with the values of its causes
+abbrev pub found_behind_data : TopologyValue → Behind → (why : List Data) → Data
+found_behind_data t b why = object_data (
+    (codes "finding", optional_finding_data t b.finding)
+    ∷ (codes "missed", list_data (map (lan_data t) b.missed.items))
+    ∷ (codes "open", routers_data t b.open_routers.items)
+    ∷ (codes "shown_from", shown_from_data b.shown_from)
+    ∷ (codes "strays", list_data (map (stray_data t) b.strays.items))
+    ∷ (codes "why", list_data why) ∷ [])
+
+-- of the flow with this number, by the summaries of the routers' caches; null where the finding is no stray
+abbrev pub behind_data : DomainFacts → List SummaryValue → (flow : ℕ) → Option Behind → Data
+behind_data d summary flow None = null
+behind_data d summary flow (Some b) =
+    found_behind_data d.topology b (causes_data d summary flow b.causes.items)
+
+-- the same, in the context of a flow
+abbrev pub behind_data_in : LineContext → Option Behind → Data
+behind_data_in c behind = behind_data (facts c.view.now.domain) c.summary.now c.view.now.flow behind

@@ -1,0 +1,45 @@
+-- The run of a packet that goes on past strays: the first waiting copy is handled each time, up to the first
+-- flight in which a LAN carried two copies or none waits. Strays are only collected. All of it is our own choice.
+use Rattle.std.specs.Prelude.{◌≡◌, ℕ, Bool, true, false, not, ◌&&◌, nat_lt, if◌then◌else◌, List, [], ◌∷◌}
+use Rattle.std.specs.Prelude.{length, Option, is_some, option_map}
+use Rattle.mc_theory.specs.Nets.{Net}
+use Rattle.mc_theory.specs.Flights.{Copy, Flight, run, start, step}
+use Rattle.mc_theory.specs.Findings.{Finding, first_double, handles, walk_visits}
+use Rattle.mc_theory.specs.Findings.Finding.{Duplicate, Loop}
+use Rattle.mc_forward.specs.Domains.{DomainValue, net_of}
+use Rattle.mc_replay.specs.FindingValues.{optional_finding_value}
+use Rattle.mc_replay.specs.declared.past_strays.FlightPastStrays.{FlightPastStrays}
+
+-- whether the run goes on from a flight: no LAN carried two copies, and a copy waits
+abbrev pub goes_on : Flight → Bool
+goes_on f = not (is_some (first_double [] f.carried)) && nat_lt 0 (length f.waiting)
+
+-- From flight f on these picks, the first waiting copy each time, lead to the first flight from which the run
+-- doesn't go on.
+abbrev pub IsRunPastStrays : Net → List ℕ → Flight → Type 0
+IsRunPastStrays n [] f = goes_on f ≡ false
+IsRunPastStrays n (i ∷ is) f = (goes_on f ≡ true) × (i ≡ 0) × IsRunPastStrays n is (step n i f)
+
+-- They lead from flight f to flight g.
+pub record EndsPastStrays (n : Net) (f g : Flight) : Type 0 where
+  pub picks : List ℕ
+  pub stops : IsRunPastStrays n picks f
+  pub ends : g ≡ run n (handles picks) f
+
+-- the finding of a LAN's second copy, whatever strays there are
+abbrev pub finding_of_double : Net → List Copy → Copy → Finding
+finding_of_double n cs c =
+    if walk_visits n cs c.lan (length cs) c.sender then Loop c.lan else Duplicate c.lan
+
+-- what the carried copies show: a loop or a duplicate, if a LAN carried two
+abbrev pub second_copy_finding : Net → List Copy → Option Finding
+second_copy_finding n cs = option_map (finding_of_double n cs) (first_double [] cs)
+
+-- The flight that the run past strays of a packet of the flow with this TTL ends with, and what its carried
+-- copies show.
+pub record IsFlightPastStrays (d : DomainValue) (flow ttl : ℕ) (past : FlightPastStrays) : Type 0 where
+  pub domain : past.flight.domain ≡ d
+  pub flow_of_flight : past.flight.flow ≡ flow
+  pub run : EndsPastStrays (net_of d flow) (start (net_of d flow) ttl) past.flight.flight
+  pub second : optional_finding_value past.second
+      ≡ second_copy_finding (net_of d flow) past.flight.flight.carried

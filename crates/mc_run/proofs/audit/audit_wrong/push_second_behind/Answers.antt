@@ -1,0 +1,17 @@
+use Rattle.std.proofs.Common.{sym, ◌∙◌}
+use Rattle.mc_forward.specs.ListedTables.{facts}
+use Rattle.mc_run.specs.AuditPieces.{audited_value}
+use Rattle.mc_run.proofs.ExplanationLemmas.{second_behind-pushed}
+use Rattle.mc_run.proofs.audit.audit_wrong.push_second_behind.Goals as goal
+
+pub returns : goal.returns
+returns c = record {
+  added = (
+      let v = audited_value c.args.audited.now in
+      second_behind-pushed (facts v.domain) v.summary c.args.flow c.args.behind.now
+      c.shown-finding.result.topology.now
+      c.in-Some.finding c.shown-finding.result.finding c.deref.result.now c.push_deeper_shown_from.result _ _ _ _
+      (c.shown-finding.ensures.topology ∙ c.topology.ensures.topology) c.shown-finding.ensures.finding c.in-Some.is
+      c.deref.ensures.value c.in_ok-writeln.ensures.bytes c.in_ok-push_deeper_causes.ensures.lines
+      c.push_deeper_shown_from.ensures);
+}

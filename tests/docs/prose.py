@@ -1,13 +1,14 @@
 #!/usr/bin/env python3
-"""Holds the documents, and what the tools print, to the words and sentences of this project.
+"""Holds the documents, and what the program and the tools print, to the words and sentences of this project.
 
   python3 tests/docs/prose.py        at the top of the repository
 
 Refused are
 
-  a word of tests/house/words.txt    in each document, and in each text of the tools: their messages, their help, the
-                                     page, the completions. What is in backticks, or in a block, is a name or an example
-                                     and is passed over, and so are comments and the documentation of code
+  a word of tests/house/words.txt    in each document, in each text of the program and in each of the tools: their
+                                     messages, their help, the page, the completions. What is in backticks, or in a
+                                     block, is a name or an example and is passed over, and so are comments and the
+                                     documentation of code
   a sentence of more than 40 words   in docs/PROMISES.md, in paragraphs, lists and cells of tables
   a word that is there twice         in the first column of docs/GLOSSARY.md
 
@@ -30,6 +31,7 @@ MADE = "docs/PROOFS.md"  # of the crates' own comments
 CODE = re.compile(r"^```.*?^```$|``[^`]+``|`[^`\n]+`|\]\([^)]*\)", re.M | re.S)
 SHELL_COMMENT = re.compile(r"(?<!\S)#.*")
 SCRIPT_COMMENT = re.compile(r"^\s*//.*|/\*.*?\*/", re.M | re.S)
+PROGRAM_TEXT = re.compile(r"//[^\n]*|b?'(?:\\.[^']*|[^'\\])'|b?\"((?:[^\"\\]|\\[\s\S])*)\"")
 SCRIPT_TEXT = re.compile(r'"(?:\\.|[^"\\\n])*"|\'(?:\\.|[^\'\\\n])*\'|`(?:\\.|[^`\\])*`')
 NAME = re.compile(r"[\w-]*")
 SENTENCE_END = re.compile(r"(?<=[.?!])[)*\"]*\s+(?=[A-Z`*(\[])")
@@ -92,10 +94,22 @@ def tool_texts():
             yield from ((path, line, it) for line, it in found if not NAME.fullmatch(it))
 
 
+def program_texts():
+    """The texts of the program, each with its file and its line. A name in braces stands for what is put there."""
+    for path in sorted(glob.glob(os.path.join(TOP, "crates/*/src/**/*.rt"), recursive=True)):
+        name = os.path.relpath(path, TOP)
+        if not name.startswith("crates/mc_tests_"):
+            text = read(name)
+            for it in PROGRAM_TEXT.finditer(text):
+                inside = re.sub(r"\{\w*[^{}]*\}", " ", it[1] or "")
+                if not NAME.fullmatch(inside.strip()):
+                    yield name, text.count("\n", 0, it.start()) + 1, inside
+
+
 def wrong_words(listed):
     """How many texts have no listed word, and what is wrong with the others."""
     passed, wrong = 0, []
-    for texts in ([it for it in documents() if it[0] not in listed.excepted], list(tool_texts())):
+    for texts in map(list, (documents(), program_texts(), tool_texts())):
         if not texts:
             wrong.append("there is no text")
         for path, first, text in texts:

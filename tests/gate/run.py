@@ -6,8 +6,9 @@
 It works on a copy of the repository, in steps:
 
   packages  tests/packages.sh installs what of the file `packages` is missing; what can't be had ends the gate by name
-  house     tests/house checks whether each thing is written once, whether something uses each lemma, and the subjects of
-            the commits since the last release, where the clone has them
+  house     tests/house checks whether each thing is written once, whether something uses each lemma, whether the sources
+            are laid out as `rt fmt` does it, and the subjects of the commits since the last release, where the clone has
+            them
   proofs    `rt ci` proves each crate and its tests from nothing, runs the tests, and builds and runs the program
   edits     tests/edits/try.py tries the must-fail edits of the crates, many in one check: the prover must
             refuse each. It begins with a crate as soon as that is proved, beside the proofs that are left, which go
@@ -286,6 +287,7 @@ def main():
         gate = Gate(room)
         gate.step("packages", "sh", "tests/packages.sh", "gate")
         gate.step("each thing once", "sh", "tests/house/check.sh", f"{homes}/crates")
+        gate.step("layout of the sources", sys.executable, "tests/house/layout.py")
         gate.step("subjects of commits", sys.executable, "tests/house/subjects.py", root)
         if not gate.failed and prove(gate, homes):
             for path in edits:

@@ -7,7 +7,7 @@
 The words are those of words.txt above its line `texts`. An identifier is a word of code, of a definition, of a lemma,
 of an answer or of an edit that must fail, and a file's or folder's name below crates/; it is split at `_`, `-`, `+` and
 before capitals. Comments and texts in quotes are prose, and not read here: tests/docs/prose.py reads documents, and
-what the tools print, for all words of the list.
+what the program and the tools print, for all words of the list.
 """
 import os
 import re
@@ -26,19 +26,16 @@ HEAD = re.compile(r"^(?:file|old|new|clause): ", re.M)
 
 
 class Listed:
-    """What words.txt has: each word with what is written instead, those that identifiers may not hold, and the
-    documents that are not held to it."""
+    """What words.txt has: each word with what is written instead, and those that identifiers may not hold."""
 
     def __init__(self):
-        self.instead, self.in_names, self.excepted = {}, set(), set()
+        self.instead, self.in_names = {}, set()
         names_too = True
         with open(LIST, encoding="utf-8") as file:
             lines = [it for it in file.read().split("\n") if it and not it.startswith("#")]
         for line in lines:
             if line == "texts":
                 names_too = False
-            elif line.startswith("except "):
-                self.excepted |= set(line.split()[1:])
             else:
                 words, _, instead = line.partition(": ")
                 self.instead |= dict.fromkeys(words.split(", "), instead)

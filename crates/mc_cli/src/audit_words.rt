@@ -35,7 +35,8 @@ const ROUTER_RULE: &str =
 
 const ONCE_RULE: &str = "--without names each router once";
 
-const RANGE_RULE: &str = "--ignore takes a range of groups, as 239.0.0.0/8: an address and a length of \
+const RANGE_RULE: &str =
+    "--ignore takes a range of groups, as 239.0.0.0/8: an address and a length of \
 4 to 32, with zeros behind it";
 
 const RANGE_ONCE_RULE: &str = "--ignore takes each range once";

@@ -20,16 +20,16 @@ Is each flow of a domain forwarded as its certificate says?
   mcaudit check < bundle
 Which certificate does a domain have, or what is wrong with its flows?
   mcaudit make < bundle
-Where does a packet of the first flow go that is sent with a time to live of 3?
+Where does a packet of the first flow go that is sent with a TTL of 3?
   mcaudit replay 1 3 < bundle
 How is a bundle made of a folder's files?
   mcaudit pack examples/network --certificate > bundle
 Does a LAN want what 10.0.0.5 sends to 239.1.2.3?
   mcaudit wants 239.1.2.3 10.0.0.5 < reports
 
-Statuses: 0 yes, 1 no, 2 refused input, 3 read or write failed, 4 no memory, 5 wrong words
+Statuses: 0 yes, 1 no, 2 refused input, 3 read or write failed, 4 no memory, 5 usage error
 mcaudit help writes this text, and mcaudit help <command> that of a command
-mcaudit --version tells the version";
+mcaudit --version prints the version";
 
 /// Adds an argument to a command.
 fn with_argument<'a>(
@@ -125,7 +125,7 @@ pub fn wants_command<'a>(alloc: Global) -> Result<Command<'a>, AllocError>
     let command = bare_command(
         alloc,
         "wants",
-        "Tells from a LAN's IGMP reports whether it wants what a source sends to a group",
+        "Shows whether a LAN wants what a source sends to a group, by its IGMP reports",
         "mcaudit wants <group> <source>",
     );
     let group = required(alloc, "group", "The group, 224.0.1.0 to 239.255.255.255");
@@ -146,13 +146,13 @@ pub fn audit_command<'a>(alloc: Global) -> Result<Command<'a>, AllocError> {
         "Judges each flow of a folder's files, and shows what is wrong with each that has no certificate",
         AUDIT_USAGE,
     );
-    let travel = "Tells the travel of each packet that shows a fault, event by event";
+    let travel = "Shows the travel of each packet that shows a fault, event by event";
     let faults = "Leaves out the flows that are right and wanted";
-    let unlisted = "Tells all unlisted sources and groups of the caches, not the 20 lowest alone";
+    let unlisted = "Lists all unlisted sources and groups of the caches, not only the 20 lowest";
     let strict = "Ends with status 1 where a flow that is right is wanted by nobody";
     let json = "Writes one JSON object a line";
     let without = "Audits without the router's tables, and then can't say yes";
-    let ignore = "Leaves aside what hosts ask for of a range of groups, as 239.0.0.0/8";
+    let ignore = "Ignores what hosts ask for in a range of groups, as 239.0.0.0/8";
     let command = command.arg(required(alloc, "folder", FOLDER));
     let command = with_argument(command, flag_of_word(alloc, TRAVEL_WORD, travel));
     let command = with_argument(command, flag_of_word(alloc, FAULTS_WORD, faults));
@@ -220,7 +220,7 @@ pub fn replay_command<'a>(alloc: Global) -> Result<Command<'a>, AllocError>
         "mcaudit replay <flow> <ttl> [--order first|last]",
     );
     let flow = "The flow's number in the topology, counted from 1";
-    let ttl = "The packet's time to live, 1 to 255";
+    let ttl = "The packet's TTL, 1 to 255";
     let order = "Which of the waiting copies is handled next: first or last";
     let command = command.arg(required(alloc, "flow", flow));
     let command = with_argument(command, required(alloc, "ttl", ttl));

@@ -7,7 +7,8 @@ ghost use Rattle.mc_cli.specs.AuditWords.{range_after_equals, with_range, with_r
 ghost use Rattle.mc_cli.specs.AuditWords.{with_word, with_words};
 
 use crate::audit_options::{
-    AuditOptions, FAULTS_WORD, IGNORE_WORD, JSON_WORD, STRICT_WORD, TRAVEL_WORD, UNLISTED_WORD, WITHOUT_WORD,
+    AuditOptions, FAULTS_WORD, IGNORE_WORD, JSON_WORD, STRICT_WORD, TRAVEL_WORD, UNLISTED_WORD,
+    WITHOUT_WORD,
 };
 use std::alloc::{AllocError, Global};
 

@@ -11,7 +11,8 @@ mod task;
 mod words;
 
 pub use audit_options::{
-    AuditOptions, FAULTS_WORD, IGNORE_WORD, JSON_WORD, STRICT_WORD, TRAVEL_WORD, UNLISTED_WORD, WITHOUT_WORD,
+    AuditOptions, FAULTS_WORD, IGNORE_WORD, JSON_WORD, STRICT_WORD, TRAVEL_WORD, UNLISTED_WORD,
+    WITHOUT_WORD,
 };
 pub use audit_words::AuditWords;
 pub use fault::WordsFault;

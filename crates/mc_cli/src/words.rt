@@ -20,7 +20,7 @@ pub fn words_of(rt: &(impl Env + AllocGlobal)) -> Result<Vec<String>, WordsFault
         Err(error) if error.kind() == io::ErrorKind::OutOfMemory => Err(WordsFault::Memory),
         Err(_) => {
             let alloc = rt.alloc();
-            Err(usage_refusal(alloc, program(alloc), "a word is no text (UTF-8)"))
+            Err(usage_refusal(alloc, program(alloc), "an argument is not valid UTF-8"))
         }
     }
 }

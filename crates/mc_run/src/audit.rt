@@ -26,14 +26,14 @@ ghost use Rattle.mc_run.specs.Faults.{IsFaultOfAudit};
 ghost use Rattle.mc_run.specs.InputMeaning.{AreRefusedWithout};
 ghost use Rattle.mc_run.specs.RunOutput.{Answers, IsWrittenWhole, WritesPart};
 
+use crate::audit::audit_asked::count_asked;
 use crate::audit::audit_end::{begin_lines, push_end};
 use crate::audit::audit_flow::push_flow;
-use crate::audit::audit_asked::count_asked;
 pub use crate::audit::audit_output::{AuditAnswer, AuditCounts};
 use crate::audit::audit_output::{AuditOutput, with_counts};
-pub use crate::audit::left_out::LeftOut;
 use crate::audit::audited_domain::AuditedDomain;
 use crate::audit::flow_status::FlowCounts;
+pub use crate::audit::left_out::LeftOut;
 use crate::excluded::excluded_marks;
 use crate::fault::RunFault;
 use crate::run_output::{RunOutput, write_output};

@@ -10,9 +10,7 @@ mod listed;
 mod summary;
 mod vifs;
 
-pub use cache::{
-    CacheReader, CacheTable, EachRow, EachRowReader, Entry, FlatOifs, Oif, RowFold,
-};
+pub use cache::{CacheReader, CacheTable, EachRow, EachRowReader, Entry, FlatOifs, Oif, RowFold};
 pub use fault::{TableFault, TableFaultKind};
 pub use lines::{TableReader, TableRows};
 pub use listed::ListedPairs;

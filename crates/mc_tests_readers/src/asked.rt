@@ -121,6 +121,7 @@ fn wants_that_nothing_answers_have_lines(rt: HostRuntime) -> Result<(), Fail> {
 
 // EXCLUDE 10.0.0.1 and 10.0.0.2 of 239.1.2.3, and EXCLUDE 10.0.0.2 and 10.0.0.3 of it.
 const FIRST_LIST: &[u8] = b"2200d6f40000000102000002ef0102030a0000010a000002\n";
+
 const SECOND_LIST: &[u8] = b"2200d6f20000000102000002ef0102030a0000020a000003\n";
 
 const NO_VIFS: &[u8] = b"Interface      BytesIn  PktsIn  BytesOut PktsOut Flags Local    Remote\n";
@@ -174,7 +175,10 @@ fn state_with_row(
     let vifs = VifTable::read(alloc, NO_VIFS)?;
     let mut states = WantStates::new(alloc, &vifs, wants)?;
     let entry = Entry { iif: 0, oifs: &[] };
-    states.add(&(Addr::from_octets(origin), Addr::from_octets(group)), &entry)?;
+    states.add(
+        &(Addr::from_octets(origin), Addr::from_octets(group)),
+        &entry,
+    )?;
     let states = states.states(alloc)?;
     match states.as_slice() {
         [state] => Ok(*state),

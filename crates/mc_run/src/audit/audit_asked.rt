@@ -12,9 +12,7 @@ ghost use Rattle.std.specs.Prelude.{slice_get};
 
 use crate::audit::audited_domain::AuditedDomain;
 use mc_asked::RouterState;
-use mc_explain::{
-    AskedLine, RoutersByState, push_asked, push_asked_more, push_asked_services,
-};
+use mc_explain::{AskedLine, RoutersByState, push_asked, push_asked_more, push_asked_services};
 use mc_forward::Items;
 use mc_input::UnansweredWants;
 use mc_json::{push_asked_line, push_asked_more_line, push_asked_services_line};
@@ -66,11 +64,7 @@ fn states_of_line(
 }
 
 /// The sources of the flows that are listed for a group, in the topology's order.
-fn listed_sources(
-    alloc: Global,
-    topology: &Topology,
-    group: Addr,
-) -> Result<Vec<Addr>, NoMemory>
+fn listed_sources(alloc: Global, topology: &Topology, group: Addr) -> Result<Vec<Addr>, NoMemory>
     ensures { IfOk result (λ sources.
         sources.items ≡ listed_sources (flow_pairs topology.now.flows) group) }
 {

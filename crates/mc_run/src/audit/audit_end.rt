@@ -174,12 +174,7 @@ fn push_summary(
 }
 
 /// Writes that a yes isn't enough where there are some of what these words name.
-fn push_strict_line(
-    text: &mut String,
-    fails: bool,
-    count: u64,
-    words: &str,
-) -> Result<(), NoMemory>
+fn push_strict_line(text: &mut String, fails: bool, count: u64, words: &str) -> Result<(), NoMemory>
     ensures { OnOk result (string_bytes text.new ≡ string_bytes text.old
         ++ strict_line fails count words.now) }
 {

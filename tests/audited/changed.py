@@ -99,7 +99,7 @@ class Meaning:
         router, pair = change.who, self.pair(change)
         start, vifs = self.vif(router, change.device), [self.vif(router, it) for it in change.outgoing]
         incoming, pairs = self.rows[router].get(pair, (start, {}))
-        want(incoming == start and not set(vifs) & set(pairs) and (vifs or pair not in self.rows[router]))
+        want(incoming == start and not set(vifs) & set(pairs) and (vifs or not pairs))
         added = {vif: change.number or self.threshold(router, vif) for vif in vifs}
         if pair not in self.rows[router]:  # the kernel resolves what waits for a new entry alone
             self.unresolved[router].pop(pair, None)

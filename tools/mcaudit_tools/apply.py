@@ -64,7 +64,8 @@ def check_incoming(copy, router, entry, change):
 
 
 def add(copy, change):
-    """Makes an entry, or adds outgoing devices to it."""
+    """Makes an entry, or adds outgoing devices to it. Without such devices an entry that has none stays as it is:
+    smcroute gets a rule for it."""
     router = router_of(copy, change)
     entry = entries_of(copy, router).entry(change.source, change.group)
     start = vif_of(copy, router, change.device)
@@ -72,7 +73,7 @@ def add(copy, change):
     if entry is not None:
         check_incoming(copy, router, entry, change)
         there = " ".join(name for vif, name in vifs.items() if vif in entry.outgoing)
-        if there or not vifs:
+        if there or entry.outgoing and not vifs:
             raise Refused(f"the entry of {router} is there, and has {there} already" if there else
                           f"the entry of {router} is there already: {copy.vifs(router).words_of(entry)}")
     added = {it: change.number or copy.threshold(router, it) for it in vifs}

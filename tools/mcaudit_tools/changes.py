@@ -16,7 +16,8 @@ number:
   ROUTER: add DEVICE S G DEVICE ... [ttl N]
       as smcroutectl: makes the entry that comes in by the first device, or adds outgoing devices to it; without
       `ttl N` with the threshold that other entries of the router have at the device, or else with 1
-  ROUTER: add DEVICE S G             as smcroutectl: makes the entry without an outgoing device
+  ROUTER: add DEVICE S G             as smcroutectl: makes the entry without an outgoing device; one that has none
+                                     is unchanged
   ROUTER: remove DEVICE S G DEVICE ...
       as smcroutectl: takes outgoing devices out of the entry, which stays
   ROUTER: remove DEVICE S G          as smcroutectl: the entry goes

@@ -47,6 +47,7 @@ import signal
 import subprocess
 import sys
 import tempfile
+import threading
 import types
 from concurrent.futures import ThreadPoolExecutor
 
@@ -543,15 +544,29 @@ def try_all(names, jobs, home=None, is_whole=False):
 
 
 def try_as_proved(names, jobs, homes):
-    """Tries the edits of each crate as soon as its name comes, those of a folder of this name under `homes`."""
+    """Tries the edits of each crate as soon as its name comes, those of a folder of this name under `homes`, and once no
+    more come, since the proofs have ended, those of as many crates at once as there are processors and memory for."""
     made = {it.name: it for it in rt.rtlib.crates_below(os.getcwd())}
-    with ROOM, ThreadPoolExecutor(jobs) as pool:
+    turns = threading.Semaphore(jobs)
+
+    def try_in_turn(crate):
+        with turns:
+            return crate.try_edits()
+
+    with ROOM, ThreadPoolExecutor(max(jobs, rt.processors())) as pool:
         tried = []
         for name in (it.strip() for it in names):
             crate = Crate(made[name], f"{homes}/{name}", ROOM.name, False)
-            tried.append((crate, pool.submit(crate.try_edits)))
+            tried.append((crate, pool.submit(try_in_turn, crate)))
+        for _ in range(jobs, jobs_at_once()):
+            turns.release()
         found = [(crate, its.result()) for crate, its in tried]
     return lines_of(found)
+
+
+def jobs_at_once():
+    """How many checks may run at once: one a processor and as many as memory holds, but one in any case."""
+    return max(1, min(rt.processors(), rt.free() // MEMORY_OF_CHECK))
 
 
 def lines_of(found):
@@ -677,7 +692,7 @@ def main():
     rt.rtlib.guarded()  # (from here on all that is started ends with this script)
     for number in (signal.SIGTERM, signal.SIGHUP, signal.SIGINT):
         signal.signal(number, ended)
-    jobs = given.jobs or max(1, min(rt.processors(), rt.free() // MEMORY_OF_CHECK))
+    jobs = given.jobs or jobs_at_once()
     if given.selftest:
         return selftest(jobs)
     if given.as_proved:

@@ -63,6 +63,33 @@ fn wants_of_lan(
     Ok(answers.lan_wants(alloc, LanNo(lan), &list, &wanted, false)?)
 }
 
+// What is kept of the wants of the two LANs with these reports.
+fn wants_of_lans(alloc: Global, first: &[u8], second: &[u8]) -> Result<Vec<LanWants>, Fail> {
+    let topology = Topology::read(alloc, TOPOLOGY)?;
+    wants_in_topology(alloc, &topology, first, second)
+}
+
+// (The topology is borrowed here, since holding it across steps that may fail takes long to prove.)
+fn wants_in_topology(
+    alloc: Global,
+    topology: &Topology,
+    first: &[u8],
+    second: &[u8],
+) -> Result<Vec<LanWants>, Fail> {
+    let mut lans = Vec::new(alloc);
+    lans.push(wants_of_lan(alloc, topology, 0, first)?)?;
+    lans.push(wants_of_lan(alloc, topology, 1, second)?)?;
+    Ok(lans)
+}
+
+// Whether there are two LANs, with so many wants.
+fn have_counts(lans: &[LanWants], first: u64, second: u64) -> bool {
+    match lans {
+        [one, other] => one.count() == first && other.count() == second,
+        _ => false,
+    }
+}
+
 // Whether these are the group and the source with these last numbers; 0 is any source.
 fn is_want(pair: &(Addr, Addr), group: u8, source: u8) -> bool {
     let wanted = if source == 0 {
@@ -108,11 +135,8 @@ fn are_lines(lines: &[SharedPair]) -> bool {
 
 #[test]
 fn wants_that_nothing_answers_have_lines(rt: HostRuntime) -> Result<(), Fail> {
-    let topology = Topology::read(rt.alloc(), TOPOLOGY)?;
-    let mut lans = Vec::new(rt.alloc());
-    lans.push(wants_of_lan(rt.alloc(), &topology, 0, REPORTS)?)?;
-    lans.push(wants_of_lan(rt.alloc(), &topology, 1, REPORTS)?)?;
-    assert!(rt; lans[0].count() == 8 && lans[1].count() == 7);
+    let lans = wants_of_lans(rt.alloc(), REPORTS, REPORTS)?;
+    assert!(rt; have_counts(&lans, 8, 7));
     let asked = AskedLines::of(rt.alloc(), &lans, false)?;
     assert!(rt; are_lines(&asked.lines));
     assert!(rt; asked.further == 0);
@@ -130,16 +154,12 @@ const NO_VIFS: &[u8] = b"Interface      BytesIn  PktsIn  BytesOut PktsOut Flags 
 fn want_of_two_lists(alloc: Global) -> Result<Vec<AskedWant>, Fail>
     ensures { IfOk result (λ wants. IsStrictlySortedBy key_cmp (map (λ w. w.0) wants.items)) }
 {
-    let topology = Topology::read(alloc, TOPOLOGY)?;
-    let first = wants_of_lan(alloc, &topology, 0, FIRST_LIST)?;
-    let second = wants_of_lan(alloc, &topology, 1, SECOND_LIST)?;
-    let mut lans = Vec::new(alloc);
-    lans.push(first)?;
-    lans.push(second)?;
+    let lans = wants_of_lans(alloc, FIRST_LIST, SECOND_LIST)?;
     let asked = AskedLines::of(alloc, &lans, false)?;
     let mut sources = UnadmittedSources::of_lines(alloc, &asked.lines)?;
-    add_list(alloc, &mut sources, &lans[0], FIRST_LIST)?;
-    add_list(alloc, &mut sources, &lans[1], SECOND_LIST)?;
+    for (own, reports) in lans.iter().zip(&[FIRST_LIST, SECOND_LIST]) {
+        add_list(alloc, &mut sources, own, reports)?;
+    }
     Ok(sources.into_wants(alloc)?)
 }
 

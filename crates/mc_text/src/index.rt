@@ -38,15 +38,16 @@ fn slots_for(count: usize) -> usize
         .next_power_of_two()
 }
 
-/// The mark of a place, which is never 0: one more than the place modulo 65,536.
-fn mark_of(place: usize) -> u32
+/// The mark of a place, which is never 0: one more than the place modulo 65,535. (In two bytes, so that
+/// the marks of 4,096 numbers take 128 KiB.)
+fn mark_of(place: usize) -> u16
     ensures { result ≢ 0 }
 {
-    (place % 65_536) as u32 + 1
+    (place % 65_535) as u16 + 1
 }
 
 /// The slots, with a mark at that of each number. If two numbers share a slot, the later one marks it.
-fn marks_of(alloc: Global, numbers: &[u64]) -> Result<Vec<u32>, Memory>
+fn marks_of(alloc: Global, numbers: &[u64]) -> Result<Vec<u16>, Memory>
     ensures some { IfOk result (λ marks. 0 < length marks.items) }
     ensures each { IfOk result (λ marks. AreMarked marks.items numbers.now) }
 {
@@ -65,7 +66,7 @@ fn marks_of(alloc: Global, numbers: &[u64]) -> Result<Vec<u32>, Memory>
 pub struct Index {
     numbers: Vec<u64>,
     // for each slot the mark of the place of a number of that slot, or 0 if there is none
-    marks: Vec<u32>,
+    marks: Vec<u16>,
 }
 
 impl Model for Index {

@@ -110,7 +110,7 @@ def files_that_nobody_lists(place):
 @case
 def listed_file_that_is_none(place):
     """mcaudit says what it is, and the tool waits for nothing."""
-    for make, why in ((os.mkfifo, "a regular file"), (os.mkdir, "a regular file"),
+    for make, why in ((os.mkfifo, "not a regular file"), (os.mkdir, "not a regular file"),
                       (lambda path: os.symlink("nowhere", path), "no such file")):
         faulty(place)
         os.unlink(place.at("site/cache-r3"))

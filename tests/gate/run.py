@@ -26,6 +26,7 @@ Where a package is missing or the proofs fail, it ends there. At the end stands 
 processor time; with REPORT, a path, the same as a page in Markdown, and no proof that an earlier run passed on this
 machine is taken over. The last line counts everything, `N passed, M failed`, and the status is 0 if nothing failed.
 """
+import compileall
 import contextlib
 import os
 import re
@@ -238,6 +239,8 @@ def report(gate, crates, begun):
 def try_program(gate):
     """The steps over what was proved and built; without that they would show nothing."""
     program = "crates/mcaudit/out/mcaudit"
+    # (each start of a tool would compile them again where Python is told to write no bytecode)
+    compileall.compile_dir(f"{gate.room}/tools/mcaudit_tools", quiet=1)
     gate.steps_beside([
         ("the script for the edits", sys.executable, "tests/edits/try.py", "--selftest"),
         ("how make proves", sys.executable, "tests/prove/run.py"),

@@ -14,8 +14,9 @@ use Rattle.mc_asked.specs.declared.forwarding.RouterState.TheVariants.{Forwards}
 use Rattle.mc_asked.specs.Forwarding.{greater, is_counted, is_counted_source, router_state, row_of}
 use Rattle.mc_filter.specs.SourceFilter.{has}
 use Rattle.mc_asked.specs.ListWants.{Want}
-use Rattle.mc_asked.specs.WantStates.{StatedWantValue, is_key, stated_by, states_by, states_start, unstated}
-use Rattle.mc_asked.specs.WantStates.{states_with_row, want_with_row, want_with_row_at, want_with_row_of}
+use Rattle.mc_asked.specs.WantStates.{StatedWantValue, is_key, states_by_rows, states_start, unstated}
+use Rattle.mc_asked.specs.WantStates.{states_with_row, want_by_rows, want_with_row}
+use Rattle.mc_asked.specs.WantStates.{want_with_row_if_group, want_with_row_if_want}
 use Rattle.mc_asked.proofs.ForwardingLemmas.{router_state-append}
 use Rattle.mc_asked.proofs.OneKeyLemmas.{equal-from_is_key, is_key-itself}
 
@@ -76,11 +77,11 @@ row-other vifs key entry w source any one =
 -- and what it changes for these two is what it changes
 pub row-at_both : (vifs : FinMap nat_cmp VifValue) (key : ℕ × ℕ) (entry : EntryValue) (w : StatedWantValue)
     → (key.0 == 0) ≡ false
-    → want_with_row_at (key.1, key.0) vifs key entry (want_with_row_at (key.1, 0) vifs key entry w)
+    → want_with_row_if_want (key.1, key.0) vifs key entry (want_with_row_if_want (key.1, 0) vifs key entry w)
     ≡ want_with_row vifs key entry w
 row-at_both vifs key entry w source =
     let after : StatedWantValue = want_with_row vifs key entry w in
-    let second : StatedWantValue → StatedWantValue = want_with_row_at (key.1, key.0) vifs key entry in
+    let second : StatedWantValue → StatedWantValue = want_with_row_if_want (key.1, key.0) vifs key entry in
     elim (cases_Bool (is_key (key.1, 0) w.want)) [
       | inl any ↦
           let is_any = equal-from_is_key (key.1, 0) w.want any in
@@ -107,7 +108,8 @@ row-at_both vifs key entry w source =
 -- for all wants
 pub rows-at_both : (vifs : FinMap nat_cmp VifValue) (key : ℕ × ℕ) (entry : EntryValue)
     (ws : List StatedWantValue) → (key.0 == 0) ≡ false
-    → map (want_with_row_at (key.1, key.0) vifs key entry) (map (want_with_row_at (key.1, 0) vifs key entry) ws)
+    → map (want_with_row_if_want (key.1, key.0) vifs key entry)
+    (map (want_with_row_if_want (key.1, 0) vifs key entry) ws)
     ≡ map (want_with_row vifs key entry) ws
 rows-at_both vifs key entry [] source = refl
 rows-at_both vifs key entry (w ∷ ws) source =
@@ -130,8 +132,8 @@ stated-one_more vifs earlier row w = router_state-append vifs w.1 w.0 earlier (r
 
 stated-resolved : (vifs : FinMap nat_cmp VifValue) (earlier : List RowValue) (row : RowValue)
     (entry : EntryValue) (ws : List (Want × List ℕ)) → row.entry ≡ Some entry
-    → map (want_with_row vifs (row.origin, row.group) entry) (map (stated_by vifs earlier) ws)
-    ≡ map (stated_by vifs (earlier ++ row ∷ [])) ws
+    → map (want_with_row vifs (row.origin, row.group) entry) (map (want_by_rows vifs earlier) ws)
+    ≡ map (want_by_rows vifs (earlier ++ row ∷ [])) ws
 stated-resolved vifs earlier row entry [] is = refl
 stated-resolved vifs earlier row entry (w ∷ ws) is =
     let whole : row_of (row.origin, row.group) entry ≡ row =
@@ -144,7 +146,7 @@ stated-resolved vifs earlier row entry (w ∷ ws) is =
 
 stated-unresolved : (vifs : FinMap nat_cmp VifValue) (earlier : List RowValue) (row : RowValue)
     (ws : List (Want × List ℕ)) → row.entry ≡ None
-    → map (stated_by vifs earlier) ws ≡ map (stated_by vifs (earlier ++ row ∷ [])) ws
+    → map (want_by_rows vifs earlier) ws ≡ map (want_by_rows vifs (earlier ++ row ∷ [])) ws
 stated-unresolved vifs earlier row [] none = refl
 stated-unresolved vifs earlier row (w ∷ ws) none =
     ap₂ (λ (x : StatedWantValue) (xs : List StatedWantValue). x ∷ xs)
@@ -155,24 +157,25 @@ stated-unresolved vifs earlier row (w ∷ ws) none =
 
 states-one_more : (vifs : FinMap nat_cmp VifValue) (ws : List (Want × List ℕ)) (earlier : List RowValue)
     (row : RowValue) (entry : Option EntryValue) → row.entry ≡ entry
-    → with_entry states_with_row (states_by vifs ws earlier) (row.origin, row.group) entry
-    ≡ states_by vifs ws (earlier ++ row ∷ [])
+    → with_entry states_with_row (states_by_rows vifs ws earlier) (row.origin, row.group) entry
+    ≡ states_by_rows vifs ws (earlier ++ row ∷ [])
 states-one_more vifs ws earlier row None is =
     ap (λ l. record { vifs = vifs; wants = l }) (stated-unresolved vifs earlier row ws is)
 states-one_more vifs ws earlier row (Some entry) is =
     ap (λ l. record { vifs = vifs; wants = l }) (stated-resolved vifs earlier row entry ws is)
 
 states-more : (vifs : FinMap nat_cmp VifValue) (ws : List (Want × List ℕ)) (earlier rows : List RowValue)
-    → with_rows states_with_row (states_by vifs ws earlier) rows ≡ states_by vifs ws (earlier ++ rows)
-states-more vifs ws earlier [] = ap (states_by vifs ws) (sym (append-nil earlier))
+    → with_rows states_with_row (states_by_rows vifs ws earlier) rows
+    ≡ states_by_rows vifs ws (earlier ++ rows)
+states-more vifs ws earlier [] = ap (states_by_rows vifs ws) (sym (append-nil earlier))
 states-more vifs ws earlier (row ∷ rows) =
     ap (λ s. with_rows states_with_row s rows) (states-one_more vifs ws earlier row row.entry refl)
     ∙ states-more vifs ws (earlier ++ row ∷ []) rows
-    ∙ ap (states_by vifs ws) (append_assoc earlier (row ∷ []) rows)
+    ∙ ap (states_by_rows vifs ws) (append_assoc earlier (row ∷ []) rows)
 
 -- all rows of a router
 pub states-of_rows : (vifs : FinMap nat_cmp VifValue) (ws : List (Want × List ℕ)) (rows : List RowValue)
-    → with_rows states_with_row (states_start vifs ws) rows ≡ states_by vifs ws rows
+    → with_rows states_with_row (states_start vifs ws) rows ≡ states_by_rows vifs ws rows
 states-of_rows vifs ws rows = states-more vifs ws [] rows
 
 -- the wants before the first row are these wants
@@ -205,7 +208,7 @@ row-of_other_group vifs key entry w every one other =
 -- so it counts for those of its group alone
 pub rows-of_group : (vifs : FinMap nat_cmp VifValue) (key : ℕ × ℕ) (entry : EntryValue)
     (ws : List StatedWantValue) → (key.0 == 0) ≡ true → (key.1 == 0) ≡ false
-    → map (want_with_row_of key.1 vifs key entry) ws ≡ map (want_with_row vifs key entry) ws
+    → map (want_with_row_if_group key.1 vifs key entry) ws ≡ map (want_with_row vifs key entry) ws
 rows-of_group vifs key entry [] every one = refl
 rows-of_group vifs key entry (w ∷ ws) every one =
     ap₂ (λ (x : StatedWantValue) (xs : List StatedWantValue). x ∷ xs)

@@ -11,69 +11,77 @@ use Rattle.mc_asked.specs.declared.forwarding.RouterState.TheVariants.{Nothing}
 use Rattle.mc_asked.specs.Forwarding.{greater, router_state, row_of}
 use Rattle.mc_asked.specs.ListWants.{Want}
 
--- a want, the sources that the filter of none of its LANs admits, ascending, and what a router has for it
+-- A want, the sources that the filter of none of its LANs admits, ascending, and what a router has for it.
 pub record StatedWantValue : Type 0 where
   pub want : Want
   pub unadmitted : List ℕ
   pub state : RouterState
 
--- a router's vifs, and several wants with what it has for each by the rows so far
+-- A router's vifs, and several wants with what it has for each by the rows so far.
 pub record WantStatesValue : Type 0 where
   pub vifs : FinMap nat_cmp VifValue
   pub wants : List StatedWantValue
 
--- vifs are stored as their fields
+-- Vifs are stored as their fields.
 abbrev pub vifs_code : Coded (FinMap nat_cmp VifValue)
 vifs_code = fin.code coded_ℕ vif_code
 
--- one more resolved row
+-- What a router has for a want after one more resolved row.
 abbrev pub state_with_row : FinMap nat_cmp VifValue → (key : ℕ × ℕ) → EntryValue → StatedWantValue
     → RouterState
 state_with_row vifs key entry w =
     greater w.state (router_state vifs w.unadmitted w.want (row_of key entry ∷ []))
 
+-- The want after that row.
 abbrev pub want_with_row : FinMap nat_cmp VifValue → (key : ℕ × ℕ) → EntryValue → StatedWantValue
     → StatedWantValue
 want_with_row vifs key entry w =
     record { want = w.want; unadmitted = w.unadmitted; state = state_with_row vifs key entry w }
 
+-- Each want after that row.
 abbrev pub states_with_row : WantStatesValue → ℕ × ℕ → EntryValue → WantStatesValue
 states_with_row s key entry =
     record { vifs = s.vifs; wants = map (want_with_row s.vifs key entry) s.wants }
 
--- one that only counts for the want of a key
+-- The two keys are one.
 abbrev pub is_key : (key other : ℕ × ℕ) → Bool
 is_key key other = is_eq (key_cmp key other)
 
-abbrev pub want_with_row_at : (want : Want) → FinMap nat_cmp VifValue → (key : ℕ × ℕ) → EntryValue
+-- A want after a row that counts for this want alone.
+abbrev pub want_with_row_if_want : (want : Want) → FinMap nat_cmp VifValue → (key : ℕ × ℕ) → EntryValue
     → StatedWantValue → StatedWantValue
-want_with_row_at want vifs key entry w =
+want_with_row_if_want want vifs key entry w =
     if is_key want w.want then want_with_row vifs key entry w else w
 
-abbrev pub states_with_row_at : (want : Want) → WantStatesValue → ℕ × ℕ → EntryValue → WantStatesValue
-states_with_row_at want s key entry =
-    record { vifs = s.vifs; wants = map (want_with_row_at want s.vifs key entry) s.wants }
+-- Each want after that row.
+abbrev pub states_with_row_if_want : (want : Want) → WantStatesValue → ℕ × ℕ → EntryValue → WantStatesValue
+states_with_row_if_want want s key entry =
+    record { vifs = s.vifs; wants = map (want_with_row_if_want want s.vifs key entry) s.wants }
 
--- one that only counts for wants of a group
-abbrev pub want_with_row_of : (group : ℕ) → FinMap nat_cmp VifValue → (key : ℕ × ℕ) → EntryValue
+-- A want after a row that counts for the wants of this group alone.
+abbrev pub want_with_row_if_group : (group : ℕ) → FinMap nat_cmp VifValue → (key : ℕ × ℕ) → EntryValue
     → StatedWantValue → StatedWantValue
-want_with_row_of group vifs key entry w = if w.want.0 == group then want_with_row vifs key entry w else w
+want_with_row_if_group group vifs key entry w =
+    if w.want.0 == group then want_with_row vifs key entry w else w
 
-abbrev pub states_with_row_of : (group : ℕ) → WantStatesValue → ℕ × ℕ → EntryValue → WantStatesValue
-states_with_row_of group s key entry =
-    record { vifs = s.vifs; wants = map (want_with_row_of group s.vifs key entry) s.wants }
+-- Each want after that row.
+abbrev pub states_with_row_if_group : (group : ℕ) → WantStatesValue → ℕ × ℕ → EntryValue → WantStatesValue
+states_with_row_if_group group s key entry =
+    record { vifs = s.vifs; wants = map (want_with_row_if_group group s.vifs key entry) s.wants }
 
--- the wants before the first row
+-- A want before the first row: the router has nothing for it.
 abbrev pub unstated : Want × List ℕ → StatedWantValue
 unstated w = record { want = w.0; unadmitted = w.1; state = Nothing }
 
+-- The wants before the first row.
 abbrev pub states_start : FinMap nat_cmp VifValue → List (Want × List ℕ) → WantStatesValue
 states_start vifs wants = record { vifs = vifs; wants = map unstated wants }
 
--- what the rows of a router have for each want
-abbrev pub stated_by : FinMap nat_cmp VifValue → List RowValue → Want × List ℕ → StatedWantValue
-stated_by vifs rows w =
+-- A want with what the rows of a router have for it.
+abbrev pub want_by_rows : FinMap nat_cmp VifValue → List RowValue → Want × List ℕ → StatedWantValue
+want_by_rows vifs rows w =
     record { want = w.0; unadmitted = w.1; state = router_state vifs w.1 w.0 rows }
 
-abbrev pub states_by : FinMap nat_cmp VifValue → List (Want × List ℕ) → List RowValue → WantStatesValue
-states_by vifs wants rows = record { vifs = vifs; wants = map (stated_by vifs rows) wants }
+-- Each want with what the rows have for it.
+abbrev pub states_by_rows : FinMap nat_cmp VifValue → List (Want × List ℕ) → List RowValue → WantStatesValue
+states_by_rows vifs wants rows = record { vifs = vifs; wants = map (want_by_rows vifs rows) wants }

@@ -20,7 +20,7 @@ ghost use Rattle.mc_tables.specs.CacheTable.{RowValue};
 ghost use Rattle.mc_tables.specs.EachRow.{with_rows};
 ghost use Rattle.mc_tables.specs.VifTable.{VifValue};
 ghost use Rattle.mc_asked.specs.Unadmitted.{is_admitted, unadmitted_by, unadmitted_in};
-ghost use Rattle.mc_asked.specs.WantStates.{states_by, states_start, states_with_row};
+ghost use Rattle.mc_asked.specs.WantStates.{states_by_rows, states_start, states_with_row};
 ghost use Rattle.mc_asked.specs.PairParts.{shared_pairs, shown_of_parts};
 
 /// A list asks for a group of any source where its merged filter is EXCLUDE, and else of each source that
@@ -71,5 +71,5 @@ pub fn unadmitted_sources_are_those_that_no_filter_admits()
 /// What is made of the rows of a router, one after another, is what all of its rows have for each want.
 pub fn rows_have_something_for_each_want()
     ensures { (vifs : FinMap nat_cmp VifValue) (wants : List (Want × List ℕ)) (rows : List RowValue) →
-        with_rows states_with_row (states_start vifs wants) rows ≡ states_by vifs wants rows }
+        with_rows states_with_row (states_start vifs wants) rows ≡ states_by_rows vifs wants rows }
 {}

@@ -4,8 +4,8 @@ ghost use Rattle.std.specs.Prelude.{◌≡◌, ◌≤◌, IfOk, length, map};
 ghost use Rattle.std.specs.List.Sorted.{IsStrictlyIncreasing, IsStrictlySortedBy};
 ghost use Rattle.mc_tables.specs.CacheTable.{EntryValue, key_cmp};
 ghost use Rattle.mc_asked.specs.GroupRun.{with_run};
-ghost use Rattle.mc_asked.specs.WantStates.{states_start, states_with_row, states_with_row_at};
-ghost use Rattle.mc_asked.specs.WantStates.{states_with_row_of, unstated, want_with_row};
+ghost use Rattle.mc_asked.specs.WantStates.{states_start, states_with_row, states_with_row_if_want};
+ghost use Rattle.mc_asked.specs.WantStates.{states_with_row_if_group, unstated, want_with_row};
 
 use crate::forwarding::{RouterState, state_with_row};
 use crate::group_run::run_of_group;
@@ -146,7 +146,7 @@ impl<'v> WantStates<'v> {
 
     /// Takes one more resolved row for one of the wants, if it is there.
     fn add_at(&mut self, want: &(Addr, Addr), key: &(Addr, Addr), entry: &Entry<'_>)
-        ensures { self.new ≡ states_with_row_at want.now self.old key.now entry.now }
+        ensures { self.new ≡ states_with_row_if_want want.now self.old key.now entry.now }
     {
         if let Ok(place) = self.keys.binary_search(want) {
             self.wants[place].add_row(self.vifs, key, entry);
@@ -155,7 +155,7 @@ impl<'v> WantStates<'v> {
 
     /// Takes one more resolved row for each of the wants of a group.
     fn add_to_group(&mut self, group: Addr, key: &(Addr, Addr), entry: &Entry<'_>)
-        ensures { self.new ≡ states_with_row_of group self.old key.now entry.now }
+        ensures { self.new ≡ states_with_row_if_group group self.old key.now entry.now }
     {
         let run = run_of_group(&self.keys, group);
         add_to_run(&mut self.wants, run, self.vifs, key, entry);

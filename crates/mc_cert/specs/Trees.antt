@@ -11,8 +11,8 @@ use Rattle.mc_cert.specs.Distinct.{find_tree, distinct_trees}
 abbrev pub trees_of : List Tree → List ℕ → List Tree
 trees_of distinct numbers = map (tree_at distinct) numbers
 
--- the map, by this order of a tree's entries, has for each key the number of its tree among the distinct
--- ones, and nothing where it is none of them
+-- A look-up of a key by its tree gives the tree's number among the distinct ones, or nothing. Trees are
+-- looked up by this order of their entries.
 abbrev pub IsTreeNumberMap : {K : Type 0} → (Entry → Entry → Ordering) → (K → Tree) → BTreeMap K ℕ
     → List Tree → Type 0
 IsTreeNumberMap {K} order tree numbers distinct = (key : K)

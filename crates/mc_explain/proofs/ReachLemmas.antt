@@ -16,7 +16,8 @@ use Rattle.mc_forward.specs.ListedTables.{DomainFacts}
 use Rattle.mc_explain.specs.declared.searches.listed_interface.ListedInterface.{ListedInterface}
 use Rattle.mc_explain.specs.TopologyLans.{interface_at, listed_interface_at, interfaces_of_router}
 use Rattle.mc_explain.specs.TopologyLans.{interfaces_on_lan}
-use Rattle.mc_explain.specs.SearchLine.{Search, append_new, group_by_router, add_to_group, routers_on}
+use Rattle.mc_explain.specs.SearchLine.{Search, append_new, group_by_router, add_to_group}
+use Rattle.mc_explain.specs.SearchLine.{router_of_group, routers_on}
 use Rattle.mc_explain.specs.SearchReach.{has_event, routers_of_lans}
 use Rattle.mc_explain.specs.BucketsAndMarks.{AreMarksOf}
 
@@ -93,10 +94,10 @@ append_new-append visited_lans (x ∷ xs) ys = append_new-append (cond (list_any
 -- the routers on one LAN more
 pub routers_of_lans-more : (s : Search) (lans : List ℕ) (i lan : ℕ) (old now : List ℕ) → i < length lans
     → lan ≡ get_or lans i lan → old ≡ routers_of_lans s (take i lans)
-    → now ≡ append_new old (map (λ (g : ℕ × List ListedInterface). g.0) (routers_on s lan))
+    → now ≡ append_new old (map router_of_group (routers_on s lan))
     → now ≡ routers_of_lans s (take (i + 1) lans)
 routers_of_lans-more s lans i lan old now lt read before more =
-    let own : ℕ → List ℕ = λ l. map (λ (g : ℕ × List ListedInterface). g.0) (routers_on s l) in
+    let own : ℕ → List ℕ = λ l. map router_of_group (routers_on s l) in
     more ∙ ap (λ (ms : List ℕ). append_new ms (own lan)) before
     ∙ append_new-append [] (flat_map own (take i lans)) (own lan)
     ∙ ap (append_new []) (flat_map_more own [] (take i lans) lan
@@ -130,9 +131,8 @@ routers_of_lans-inside : (s : Search) (lans : List ℕ) (r : ℕ) → In r (rout
 routers_of_lans-inside s lans r h = elim (in-from_append_new [] _ r h) [
   | inl none ↦ absurd none
   | inr k ↦ (
-      let on = in-flat_map_cases
-      (λ lan. map (λ (g : ℕ × List ListedInterface). g.0) (routers_on s lan)) r lans k in
-      let at = in-map_cases (λ (g : ℕ × List ListedInterface). g.0) r (routers_on s on.0) on.2 in
+      let on = in-flat_map_cases (λ lan. map router_of_group (routers_on s lan)) r lans k in
+      let at = in-map_cases router_of_group r (routers_on s on.0) on.2 in
       subst (λ (n : ℕ). n < length s.domain.topology.routers) at.2
       (group_router-of_topology s.domain on.0 at.0 at.1))
 ]

@@ -148,6 +148,10 @@ abbrev pub group_by_router : List ListedInterface → List (ℕ × List ListedIn
 group_by_router [] = []
 group_by_router (i ∷ is) = add_to_group i (group_by_router is)
 
+-- the router of a group of interfaces
+abbrev pub router_of_group : ℕ × List ListedInterface → ℕ
+router_of_group g = g.0
+
 -- the routers that have an interface on a LAN, each with its interfaces
 abbrev pub routers_on : Search → (lan : ℕ) → List (ℕ × List ListedInterface)
 routers_on s lan = group_by_router (interfaces_on_lan s.domain lan)

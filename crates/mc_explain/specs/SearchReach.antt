@@ -4,7 +4,8 @@ use Rattle.std.specs.Prelude.{flat_map, ◌≡◌}
 use Rattle.std.specs.List.{list_any}
 use Rattle.mc_theory.specs.Events.{Event, Outcome}
 use Rattle.mc_theory.specs.Events.Outcome.{Open, NoRow, OtherVif, Sent}
-use Rattle.mc_explain.specs.SearchLine.{Search, append_new, lans_of_search, routers_on, search_lines}
+use Rattle.mc_explain.specs.SearchLine.{Search, append_new, lans_of_search, router_of_group, routers_on}
+use Rattle.mc_explain.specs.SearchLine.{search_lines}
 use Rattle.mc_explain.specs.declared.searches.search_line.SearchLine.{SearchLine}
 use Rattle.mc_explain.specs.declared.searches.search_line.SearchLine.TheVariants.{Excluded}
 use Rattle.mc_explain.specs.declared.searches.searching.LanSearch.{LanSearch}
@@ -23,7 +24,7 @@ has_event sent events router =
 
 -- the routers that have an interface on one of the LANs of the search, in its order, each once
 abbrev pub routers_of_lans : Search → List ℕ → List ℕ
-routers_of_lans s lans = append_new [] (flat_map (λ lan. map (λ g. g.0) (routers_on s lan)) lans)
+routers_of_lans s lans = append_new [] (flat_map (λ lan. map router_of_group (routers_on s lan)) lans)
 
 abbrev pub routers_of_search : Search → (missed : ℕ) → List ℕ
 routers_of_search s missed = routers_of_lans s (lans_of_search s missed)

@@ -23,7 +23,7 @@ use Rattle.mc_files.proofs.SlotLemmas.{slots_after_topology-at_most_1537, HasPar
 use Rattle.mc_files.proofs.PartLemmas.{IsWithinMaxPart, IsPartOfFile}
 use Rattle.mc_files.proofs.PartLemmas.{IsPartOfFile-from_file_part, file_part-Ok}
 use Rattle.mc_files.specs.FilePart.{IsFailedOrMemory, file_part}
-use Rattle.mc_files.specs.PackReading.{from_file_fault, part_packed, parts_after, parts_before_limits}
+use Rattle.mc_files.specs.PackReading.{from_file_fault, part_of_slot, parts_after, parts_before_limits}
 use Rattle.mc_files.specs.PackReading.{within_limits, packed_parts, read_topology}
 use Rattle.mc_files.specs.PackRun.{IsIoOrMemory}
 use Rattle.mc_files.specs.declared.fault.FileFault.{FileFault}
@@ -34,17 +34,17 @@ use Rattle.mc_files.specs.declared.fault.PackFault.TheVariants.{Topology, TooLar
 -- ---- one part
 
 -- what is packed of a file is exactly its part
-IsPartOfFile-from_part_packed : (files : List FileText) (slot : Slot) (part : PartText)
-    → part_packed files slot ≡ Ok part
+IsPartOfFile-from_part_of_slot : (files : List FileText) (slot : Slot) (part : PartText)
+    → part_of_slot files slot ≡ Ok part
     → IsPartOfFile (file_named files (file_name slot)) (part_name slot) part
-IsPartOfFile-from_part_packed files slot part e =
+IsPartOfFile-from_part_of_slot files slot part e =
     IsPartOfFile-from_file_part files slot part
     (map_fault_ok from_file_fault (file_part files slot) part e)
 
-part_packed-Ok : (files : List FileText) (slot : Slot) (part : PartText)
+part_of_slot-Ok : (files : List FileText) (slot : Slot) (part : PartText)
     → part.name ≡ part_name slot → file_named files (file_name slot) ≡ Some part.bytes
-    → IsWithinMaxPart part → part_packed files slot ≡ Ok part
-part_packed-Ok files slot part named found small =
+    → IsWithinMaxPart part → part_of_slot files slot ≡ Ok part
+part_of_slot-Ok files slot part named found small =
     rw (file_part-Ok files slot part named found small) refl
 
 -- a file's silent fault is silent as one of packing
@@ -55,10 +55,10 @@ IsIoOrMemory-from_file_fault file.TooLarge silent = absurd silent
 IsIoOrMemory-from_file_fault file.Memory silent = tt
 
 -- a file that makes no part is refused for that
-part_packed-Err : (files : List FileText) (slot : Slot) (fault : FileFault)
+part_of_slot-Err : (files : List FileText) (slot : Slot) (fault : FileFault)
     → ((¬ IsFailedOrMemory fault) → file_part files slot ≡ Err fault)
-    → (¬ IsIoOrMemory (from_file_fault fault)) → part_packed files slot ≡ Err (from_file_fault fault)
-part_packed-Err files slot fault given says =
+    → (¬ IsIoOrMemory (from_file_fault fault)) → part_of_slot files slot ≡ Err (from_file_fault fault)
+part_of_slot-Err files slot fault given says =
     rw (given (λ silent. says (IsIoOrMemory-from_file_fault fault silent))) refl
 
 -- ---- the parts after it
@@ -83,9 +83,9 @@ ArePartsAfter-from_parts_after files before [] parts e = record {
   count = refl;
 }
 ArePartsAfter-from_parts_after files before (name ∷ names) parts e =
-    let one = bind_ok (part_packed files name)
+    let one = bind_ok (part_of_slot files name)
     (λ part. parts_after files (before ++ part ∷ []) names) parts e in
-    let made = IsPartOfFile-from_part_packed files name one.0 one.1 in
+    let made = IsPartOfFile-from_part_of_slot files name one.0 one.1 in
     let more = ArePartsAfter-from_parts_after files (before ++ one.0 ∷ []) names parts one.2 in
     record {
       rest = one.0 ∷ more.rest;
@@ -103,7 +103,7 @@ parts_after-Ok files before [] [] packed small = ap Ok (sym (append-nil before))
 parts_after-Ok files before [] (part ∷ rest) packed small = absurd packed
 parts_after-Ok files before (name ∷ names) [] packed small = absurd packed
 parts_after-Ok files before (name ∷ names) (part ∷ rest) packed small =
-    rw (part_packed-Ok files name part packed.0 packed.1 small.0)
+    rw (part_of_slot-Ok files name part packed.0 packed.1 small.0)
     (parts_after-Ok files (before ++ part ∷ []) names rest packed.2 small.1
     ∙ ap Ok (append_assoc before (part ∷ []) rest))
 
@@ -133,11 +133,11 @@ AreReadParts-from_Ok : (files : List FileText) (certified : Bool) (parts : List 
     → parts_before_limits certified files ≡ Ok parts → AreReadParts files certified parts
 unfolding parts_before_limits
 AreReadParts-from_Ok files certified parts e =
-    let one = bind_ok (part_packed files topology_slot)
+    let one = bind_ok (part_of_slot files topology_slot)
     (λ first. read_topology first.bytes
     >>= λ t. parts_after files (first ∷ []) (slots_after_topology certified t))
     parts e in
-    let made = IsPartOfFile-from_part_packed files topology_slot one.0 one.1 in
+    let made = IsPartOfFile-from_part_of_slot files topology_slot one.0 one.1 in
     let two = bind_ok (read_topology one.0.bytes)
     (λ t. parts_after files (one.0 ∷ []) (slots_after_topology certified t)) parts one.2 in
     let denotes = DenotesBoundedTopology-from_read_topology one.0.bytes two.0 two.1 in
@@ -166,7 +166,7 @@ parts_before_limits-Ok files certified text t (part ∷ rest) first denotes each
     let same : text ≡ part.bytes = cc in
     let known : read_topology part.bytes ≡ Ok t =
     subst (λ (bytes : List ℕ). read_topology bytes ≡ Ok t) same (read_topology-Ok text t denotes) in
-    rw (part_packed-Ok files topology_slot part each.0 each.1 small.0, known)
+    rw (part_of_slot-Ok files topology_slot part each.0 each.1 small.0, known)
     (parts_after-Ok files (part ∷ []) (slots_after_topology certified t) rest each.2 small.1)
 
 -- ---- the whole
@@ -281,9 +281,9 @@ pub Gives-part_refused : {X : Type 0} (files : List FileText) (before : List Par
 unfolding parts_after
 Gives-part_refused files before slots i slot whole view r fault at left given e =
     let next = ap (parts_after files before) (drop-slice_get slots i slot at) in
-    rw (← left, next) (Gives-bind_Err view r (from_file_fault fault) (part_packed files slot)
+    rw (← left, next) (Gives-bind_Err view r (from_file_fault fault) (part_of_slot files slot)
     (λ part. parts_after files (before ++ part ∷ []) (drop (i + 1) slots))
-    (part_packed-Err files slot fault given) e)
+    (part_of_slot-Err files slot fault given) e)
 
 -- it is read, and those after it are
 pub parts_after-more : (files : List FileText) (before after : List PartText) (slots : List Slot) (i : ℕ)
@@ -311,10 +311,10 @@ pub Gives-topology_file_refused : {X : Type 0} (files : List FileText) (certifie
     → r ≡ Err (from_file_fault fault) → Gives IsIoOrMemory view r (parts_before_limits certified files)
 unfolding parts_before_limits
 Gives-topology_file_refused files certified view r fault given e =
-    Gives-bind_Err view r (from_file_fault fault) (part_packed files topology_slot)
+    Gives-bind_Err view r (from_file_fault fault) (part_of_slot files topology_slot)
     (λ first. read_topology first.bytes
     >>= λ t. parts_after files (first ∷ []) (slots_after_topology certified t))
-    (part_packed-Err files topology_slot fault given) e
+    (part_of_slot-Err files topology_slot fault given) e
 
 -- or its text denotes no topology
 pub Gives-topology_refused : {X : Type 0} (files : List FileText) (certified : Bool) (first : PartText)

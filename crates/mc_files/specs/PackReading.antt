@@ -14,22 +14,22 @@ use Rattle.mc_files.specs.declared.fault.FileFault.TheVariants as file
 use Rattle.mc_files.specs.declared.fault.PackFault.{PackFault}
 use Rattle.mc_files.specs.declared.fault.PackFault.TheVariants.{Topology, TooLarge, Read, Memory}
 
--- a file's fault, as one of packing
+-- a file's fault as a fault of packing
 abbrev pub from_file_fault : FileFault → PackFault
 from_file_fault file.Failed = Read
 from_file_fault file.TooLarge = TooLarge
 from_file_fault file.Memory = Memory
 
--- the part of a slot's file, with the fault as one of packing
-abbrev pub part_packed : List FileText → Slot → Result PartText PackFault
-part_packed files slot = map_fault from_file_fault (file_part files slot)
+-- the part of a slot's file, or its fault as a fault of packing
+abbrev pub part_of_slot : List FileText → Slot → Result PartText PackFault
+part_of_slot files slot = map_fault from_file_fault (file_part files slot)
 
 -- the parts before, followed by those of these slots
 unfoldable pub parts_after : List FileText → List PartText → List Slot
     → Result (List PartText) PackFault
 parts_after files before [] = Ok before
 parts_after files before (slot ∷ slots) =
-    part_packed files slot >>= λ part. parts_after files (before ++ part ∷ []) slots
+    part_of_slot files slot >>= λ part. parts_after files (before ++ part ∷ []) slots
 
 -- the topology of a text
 abbrev pub read_topology : List ℕ → Result TopologyValue PackFault
@@ -38,7 +38,7 @@ read_topology text = map_fault Topology (parse_topology text)
 -- the parts, whatever their size together
 unfoldable pub parts_before_limits : Bool → List FileText → Result (List PartText) PackFault
 parts_before_limits certified files =
-    part_packed files topology_slot
+    part_of_slot files topology_slot
     >>= λ first. read_topology first.bytes
     >>= λ topology. parts_after files (first ∷ []) (slots_after_topology certified topology)
 

@@ -1,4 +1,5 @@
-//! The tally of channels over records: which channels some record wants.
+//! The tally of channels over records: which channels some record wants. A channel is wanted unless no
+//! INCLUDE record lists its source and every EXCLUDE record of its group does (RFC 3376, section 3.2).
 
 ghost use Rattle.std.specs.Prelude.{◌≡◌, ◌<◌, IfOk, IfSome, OnOk, length};
 ghost use Rattle.mc_filter.specs.Tallies.{AddsRecord, AreStatesAfterRecord, CountsNoRecord};

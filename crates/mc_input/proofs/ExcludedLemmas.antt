@@ -27,8 +27,8 @@ use Rattle.mc_input.specs.PartsReading.{router_tables, read_part}
 use Rattle.mc_input.specs.PartsReading.{topology_of}
 use Rattle.mc_input.specs.declared.source_fault.SourceFault.{SourceFault}
 use Rattle.mc_input.specs.declared.source_fault.SourceFault.TheVariants.{Input}
-use Rattle.mc_input.specs.declared.without_fault.WithoutFault.{WithoutFault}
-use Rattle.mc_input.specs.declared.without_fault.WithoutFault.TheVariants.{Source, NoSuchRouter}
+use Rattle.mc_input.specs.declared.exclusion_fault.ExclusionFault.{ExclusionFault}
+use Rattle.mc_input.specs.declared.exclusion_fault.ExclusionFault.TheVariants.{Source, NoSuchRouter}
 use Rattle.mc_input.proofs.ReadingLemmas.{read_input-judged}
 
 -- ---- the files of excluded routers, in front of others
@@ -186,7 +186,7 @@ pub AreRouterNames-from_Ok : (t : TopologyValue) (n : ℕ) (names : List (List �
 AreRouterNames-from_Ok t n [] x e = tt
 AreRouterNames-from_Ok t n (name ∷ names) x e =
     elim (has_router name t.routers) as (λ b. has_router name t.routers ≡ b
-    → (let r : Result (Unit {0}) WithoutFault =
+    → (let r : Result (Unit {0}) ExclusionFault =
     cond b (check_router_names t (n + 1) names) (Err (NoSuchRouter (min n 4294967295))) in r) ≡ Ok x
     → AreRouterNames t (name ∷ names)) [
       | true ↦ λ is e. (is, AreRouterNames-from_Ok t (n + 1) names x e)
@@ -212,7 +212,7 @@ module _ (names : List (List ℕ)) (files : List FileText) where
   input_of_files_without-topology_Err fault topology = rw topology refl
 
   -- then a name,
-  pub input_of_files_without-name_Err : (t : TopologyValue) (fault : WithoutFault)
+  pub input_of_files_without-name_Err : (t : TopologyValue) (fault : ExclusionFault)
       → read_part Input (part_from_file files 0 topology_slot) topology_of ≡ Ok t
       → check_router_names t 1 names ≡ Err fault → input_of_files_without names files ≡ Err fault
   input_of_files_without-name_Err t fault topology name = rw (topology, name) refl

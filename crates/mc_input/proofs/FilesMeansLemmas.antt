@@ -13,8 +13,8 @@ use Rattle.mc_input.specs.Kept.{IsDomainOf}
 use Rattle.mc_input.specs.ExcludedRouters.{AreRouterNames, IsReadOrMemoryWithout}
 use Rattle.mc_input.specs.ExcludedRouters.{input_of_files_without, files_with_exclusions}
 use Rattle.mc_input.specs.Meaning.{FilesMeanDomain}
-use Rattle.mc_input.specs.declared.without_fault.WithoutFault.{WithoutFault}
-use Rattle.mc_input.specs.declared.without_fault.WithoutFault.TheVariants.{Source, NoSuchRouter}
+use Rattle.mc_input.specs.declared.exclusion_fault.ExclusionFault.{ExclusionFault}
+use Rattle.mc_input.specs.declared.exclusion_fault.ExclusionFault.TheVariants.{Source, NoSuchRouter}
 use Rattle.mc_input.proofs.FilesDenoteInputLemmas.{input_of_files-Ok, FilesDenoteInput-from_input_of_files}
 use Rattle.mc_input.proofs.ExcludedLemmas.{input_of_files_without-names_Ok, check_router_names-Ok}
 use Rattle.mc_input.proofs.ExcludedLemmas.{read_part-same_topology_file, IsSameFile-topology_slot}
@@ -44,24 +44,24 @@ input_of_files_without-Ok names files d means are =
 
 -- so they are not refused
 input_of_files_without-not_Err : (names : List (List ℕ)) (files : List FileText) (d : DomainValue)
-    (fault : WithoutFault) → FilesMeanDomain (files_with_exclusions names files) d → AreRouterNames d.topology names
+    (fault : ExclusionFault) → FilesMeanDomain (files_with_exclusions names files) d → AreRouterNames d.topology names
     → input_of_files_without names files ≡ Err fault → ⊥
 input_of_files_without-not_Err names files d fault means are refused =
     let read = input_of_files_without-Ok names files d means are in
     absurd_of {v = read.0} (sym read.1 ∙ refused)
   where
-    absurd_of : {v : InputValue} {fault : WithoutFault}
-        → (let r : Result InputValue WithoutFault = Ok v in r) ≡ Err fault → ⊥
+    absurd_of : {v : InputValue} {fault : ExclusionFault}
+        → (let r : Result InputValue ExclusionFault = Ok v in r) ≡ Err fault → ⊥
     absurd_of e = cc
 
 -- a fault that isn't one of the files is silent
-IsReadOrMemoryWithout-by_contradiction : (own : WithoutFault) (P : Type 0) → (¬ IsReadOrMemoryWithout own → P) → (P → ⊥)
+IsReadOrMemoryWithout-by_contradiction : (own : ExclusionFault) (P : Type 0) → (¬ IsReadOrMemoryWithout own → P) → (P → ⊥)
     → IsReadOrMemoryWithout own
 IsReadOrMemoryWithout-by_contradiction (Source fault) P loud none = IsReadOrMemory-by_contradiction fault P loud none
 IsReadOrMemoryWithout-by_contradiction (NoSuchRouter n) P loud none = none (loud (λ silent. silent))
 
 module _ {X : Type 0} (d : X → DomainValue) (names : List (List ℕ)) where
-  pub FilesMeanDomain-from_result : (o : Option (List FileText)) (r : Result X WithoutFault)
+  pub FilesMeanDomain-from_result : (o : Option (List FileText)) (r : Result X ExclusionFault)
       → ((files : List FileText) → o ≡ Some files → IfOk r (λ x. (v : InputValue)
       × IsDomainOf (d x) v × (input_of_files (files_with_exclusions names files) ≡ Ok v)))
       → IfOk r (λ x. IsDomain (d x))
@@ -72,7 +72,7 @@ module _ {X : Type 0} (d : X → DomainValue) (names : List (List ℕ)) where
       FilesMeanDomain-from_input (files_with_exclusions names files) read.0 (d x) read.2 read.1 rules
   FilesMeanDomain-from_result o (Err fault) keeps rules = tt
 
-  pub same_domain-from_files : (o : Option (List FileText)) (r : Result X WithoutFault)
+  pub same_domain-from_files : (o : Option (List FileText)) (r : Result X ExclusionFault)
       → ((files : List FileText) → o ≡ Some files → IfOk r (λ x. (v : InputValue)
       × IsDomainOf (d x) v × (input_of_files (files_with_exclusions names files) ≡ Ok v)))
       → IfOk r (λ x. IsDomain (d x))

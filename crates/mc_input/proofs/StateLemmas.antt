@@ -23,7 +23,8 @@ use Rattle.mc_files.proofs.PartLemmas.{Ok-from_refused_as}
 use Rattle.mc_forward.proofs.IndexLemmas.{slice_get-exists}
 use Rattle.mc_asked.specs.Forwarding.{router_state}
 use Rattle.mc_asked.specs.ListWants.{Want}
-use Rattle.mc_asked.specs.WantStates.{StatedWantValue, WantStatesValue, stated_by, states_by, states_start}
+use Rattle.mc_asked.specs.WantStates.{StatedWantValue, WantStatesValue, states_by_rows, states_start}
+use Rattle.mc_asked.specs.WantStates.{want_by_rows}
 use Rattle.mc_asked.specs.WantStates.{states_with_row}
 use Rattle.mc_asked.specs.declared.forwarding.RouterState.{RouterState}
 use Rattle.mc_asked.proofs.WantStateLemmas.{states-of_rows}
@@ -37,7 +38,7 @@ RowsOfStates = TableSoFar (EachRowSoFar WantStatesValue)
 
 -- the states alone
 states_alone : (vifs : FinMap nat_cmp VifValue) (rows : List RowValue) (wants : List (Want × List ℕ))
-    → map (λ (w : StatedWantValue). w.state) (map (stated_by vifs rows) wants)
+    → map (λ (w : StatedWantValue). w.state) (map (want_by_rows vifs rows) wants)
     ≡ map (λ (w : Want × List ℕ). router_state vifs w.1 w.0 rows) wants
 states_alone vifs rows [] = refl
 states_alone vifs rows (w ∷ wants) =
@@ -59,7 +60,7 @@ AreStatesOfRouter-from_rows files wants vifs r rows own reader made is read read
     let all : with_rows states_with_row (states_start vifs wants) rows ≡ made =
     ok_injective _ _ (sym reads
     ∙ sym (ap (λ (p : PartText). each_row_if states_with_row reader p.bytes) part) ∙ kept) in
-    let by_rows : made ≡ states_by vifs wants rows = sym all ∙ states-of_rows vifs wants rows in
+    let by_rows : made ≡ states_by_rows vifs wants rows = sym all ∙ states-of_rows vifs wants rows in
     record {
       part = own;
       rows = rows;

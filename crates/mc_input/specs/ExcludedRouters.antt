@@ -23,8 +23,8 @@ use Rattle.mc_input.specs.PartsReading.{read_part, read_tables_and_reports, topo
 use Rattle.mc_input.specs.SourceFault.{IsReadOrMemory, is_possible_for_files, is_read}
 use Rattle.mc_input.specs.declared.source_fault.SourceFault.{SourceFault}
 use Rattle.mc_input.specs.declared.source_fault.SourceFault.TheVariants.{Input}
-use Rattle.mc_input.specs.declared.without_fault.WithoutFault.{WithoutFault}
-use Rattle.mc_input.specs.declared.without_fault.WithoutFault.TheVariants.{Source, NoSuchRouter}
+use Rattle.mc_input.specs.declared.exclusion_fault.ExclusionFault.{ExclusionFault}
+use Rattle.mc_input.specs.declared.exclusion_fault.ExclusionFault.TheVariants.{Source, NoSuchRouter}
 
 -- ---- the files
 
@@ -73,7 +73,7 @@ AreRouterNames t names = AllByRecursion (λ name. IsTrue (has_router name t.rout
 
 -- The first of the names that no router has is refused by its place: the first of these has the place n.
 -- A place past the greatest u32 is reported as that.
-abbrev pub check_router_names : TopologyValue → (n : ℕ) → List (List ℕ) → Result (Unit {0}) WithoutFault
+abbrev pub check_router_names : TopologyValue → (n : ℕ) → List (List ℕ) → Result (Unit {0}) ExclusionFault
 check_router_names t n [] = Ok tt
 check_router_names t n (name ∷ names) =
     if has_router name t.routers then check_router_names t (n + 1) names
@@ -104,24 +104,24 @@ input_of_other_files t names files =
 
 -- The input of a folder's files with the routers of these names excluded, or the first fault: that of the
 -- topology, that of the names, and then that of the other files.
-abbrev pub input_of_files_without : (names : List (List ℕ)) → List FileText → Result InputValue WithoutFault
+abbrev pub input_of_files_without : (names : List (List ℕ)) → List FileText → Result InputValue ExclusionFault
 input_of_files_without names files =
     map_fault Source (read_part Input (part_from_file files 0 topology_slot) topology_of)
     >>= λ t. check_router_names t 1 names
     >>= λ _. map_fault Source (input_of_files (files_with_exclusions names files))
 
 -- that the source failed or memory ran out says nothing of the files
-abbrev pub IsReadOrMemoryWithout : WithoutFault → Type 0
+abbrev pub IsReadOrMemoryWithout : ExclusionFault → Type 0
 IsReadOrMemoryWithout (Source fault) = IsReadOrMemory fault
 IsReadOrMemoryWithout (NoSuchRouter n) = ⊥
 
 -- the fault of a source that failed, which it counts
-abbrev pub is_read_without : WithoutFault → Bool
+abbrev pub is_read_without : ExclusionFault → Bool
 is_read_without (Source fault) = is_read fault
 is_read_without (NoSuchRouter n) = false
 
 -- a folder's files can have this fault when routers are excluded
-abbrev pub is_possible_for_files_without : WithoutFault → Bool
+abbrev pub is_possible_for_files_without : ExclusionFault → Bool
 is_possible_for_files_without (Source fault) = is_possible_for_files fault
 is_possible_for_files_without (NoSuchRouter n) = true
 

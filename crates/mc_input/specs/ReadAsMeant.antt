@@ -6,7 +6,7 @@ use Rattle.mc_input.specs.ExcludedRouters.{AreRouterNames, IsReadOrMemoryWithout
 use Rattle.mc_input.specs.Meaning.{FilesMeanDomain, MeansDomain}
 use Rattle.mc_input.specs.SourceFault.{IsReadOrMemory}
 use Rattle.mc_input.specs.declared.source_fault.SourceFault.{SourceFault}
-use Rattle.mc_input.specs.declared.without_fault.WithoutFault.{WithoutFault}
+use Rattle.mc_input.specs.declared.exclusion_fault.ExclusionFault.{ExclusionFault}
 
 -- the files mean the domain with the routers of these names excluded
 abbrev pub FilesMeanDomainWithout : (names : List (List ℕ)) → List FileText → DomainValue → Type 0
@@ -25,7 +25,7 @@ IsBundleReadAsMeant remaining certified domain_of certificate_of result =
 -- Files that mean a domain with the routers of these names excluded, each of them one of its topology, are
 -- read as that domain, unless the source fails or memory runs out.
 abbrev pub AreFilesReadAsMeant : {X : Type 0} → (contents : Option (List FileText))
-    → (names : List (List ℕ)) → (X → DomainValue) → Result X WithoutFault → Type 0
+    → (names : List (List ℕ)) → (X → DomainValue) → Result X ExclusionFault → Type 0
 AreFilesReadAsMeant contents names domain_of result =
     (files : List FileText) (domain : DomainValue) → contents ≡ Some files →
     FilesMeanDomainWithout names files domain → AreRouterNames domain.topology names →

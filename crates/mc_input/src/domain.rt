@@ -29,13 +29,13 @@ use crate::bundle_part::topology_in;
 use crate::bundle_slots::{BundleSlots, read_bundle_contents};
 use crate::cache_keeper::SummaryKeeper;
 use crate::excluded::check_names;
+use crate::exclusion_fault::ExclusionFault;
 use crate::file_slots::{FileSlots, topology_in as topology_of_files};
 use crate::list_keeper::{NoLists, WantKeeper};
 use crate::part_result::summary_pairs;
 use crate::source_fault::SourceFault;
 use crate::unanswered::{UnansweredWants, read_unanswered};
 use crate::walk::read_contents;
-use crate::without_fault::WithoutFault;
 use mc_asked::{LanWants, WantAnswers};
 use mc_files::PieceSource;
 use mc_forward::{Domain, source_group_pairs};
@@ -324,7 +324,7 @@ fn read_files_with_buffer<F: PieceSource>(
     buffer: &mut [u8],
     without: &[&str],
     options: FolderOptions,
-) -> Result<FolderDomain, WithoutFault>
+) -> Result<FolderDomain, ExclusionFault>
     requires room { 0 < length buffer.old }
     requires reads { F.failed files.old < u64.MAX }
     ensures same { F.borrows files.new ≡ F.borrows files.old }
@@ -371,7 +371,7 @@ pub fn read_folder_domain<F: PieceSource>(
     files: &mut F,
     without: &[&str],
     options: FolderOptions,
-) -> Result<FolderDomain, WithoutFault>
+) -> Result<FolderDomain, ExclusionFault>
     requires failures { F.failed files.old < u64.MAX }
     ensures same { F.borrows files.new ≡ F.borrows files.old }
     ensures kept { F.contents files.new ≡ F.contents files.old }

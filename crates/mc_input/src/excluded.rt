@@ -7,7 +7,7 @@ ghost use Rattle.mc_input.specs.ExcludedRouters.{check_router_names, header_of_e
 ghost use Rattle.mc_input.specs.ExcludedRouters.{is_possible_for_files_without, is_read_without};
 ghost use Rattle.mc_input.specs.ExcludedRouters.{names_of};
 
-use crate::without_fault::WithoutFault;
+use crate::exclusion_fault::ExclusionFault;
 use mc_topology::Topology;
 
 /// The header of a kernel's table of vifs.
@@ -46,7 +46,7 @@ pub(crate) fn header_of_excluded(
 }
 
 /// Refuses the first of the names that no router of the topology has, by its place, counted from 1.
-pub(crate) fn check_names(topology: &Topology, without: &[&str]) -> Result<(), WithoutFault>
+pub(crate) fn check_names(topology: &Topology, without: &[&str]) -> Result<(), ExclusionFault>
     ensures names { result ≡ check_router_names topology.now 1 (names_of without.now) }
     ensures fault { IfErr result (λ fault. is_read_without fault ≡ false) }
     ensures faults { IfErr result (λ fault. is_possible_for_files_without fault ≡ true) }
@@ -54,7 +54,7 @@ pub(crate) fn check_names(topology: &Topology, without: &[&str]) -> Result<(), W
     for place in 0..without.len() {
         if topology.router_no(without[place]).is_none() {
             let number = (place + 1).min(u32::MAX as usize);
-            return Err(WithoutFault::NoSuchRouter(number as u32));
+            return Err(ExclusionFault::NoSuchRouter(number as u32));
         }
     }
     Ok(())

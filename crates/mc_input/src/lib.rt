@@ -9,6 +9,7 @@ mod cache_keeper;
 mod domain;
 mod each_file;
 mod excluded;
+mod exclusion_fault;
 mod fault;
 mod fed_file;
 mod fed_part;
@@ -25,14 +26,13 @@ mod source_fault;
 mod states;
 mod unanswered;
 mod walk;
-mod without_fault;
 
 pub use domain::{
     BundleDomain, FolderDomain, FolderOptions, PIECE, read_bundle_domain, read_folder_domain,
 };
 pub use each_file::{Refusal, RefusedFile, refused_files};
 pub use excluded::is_excluded;
+pub use exclusion_fault::ExclusionFault;
 pub use fault::InputFault;
 pub use source_fault::SourceFault;
 pub use unanswered::UnansweredWants;
-pub use without_fault::WithoutFault;

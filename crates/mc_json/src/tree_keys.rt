@@ -1,4 +1,6 @@
-//! Which trees are one tree in JSON.
+//! The key of a tree. Trees are one if they have the same entries, and their routers take the packets at
+//! the same interfaces. The key has the entries, which say where the routers send, and then the same
+//! entries with the interfaces that take the packets, since neither follows from the other.
 
 ghost use Rattle.std.specs.Prelude.{◌≡◌, IfOk};
 ghost use Rattle.mc_forward.specs.FlightsInDomain.{net_in};

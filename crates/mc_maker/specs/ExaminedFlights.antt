@@ -4,18 +4,18 @@ use Rattle.mc_forward.specs.Domains.{DomainValue, ttl_of}
 use Rattle.mc_replay.specs.Travels.{IsRunTo, replay_of}
 use Rattle.mc_replay.specs.declared.travel.FinishedTravel.{FinishedTravel}
 use Rattle.mc_maker.specs.Examined.{FindsNothing, first_choices}
-use Rattle.mc_maker.specs.declared.examination.Examined as examined
-use Rattle.mc_maker.specs.declared.examination.Examined.TheVariants as examined_as
+use Rattle.mc_maker.specs.declared.examination.Examined.{Examined}
+use Rattle.mc_maker.specs.declared.examination.Examined.TheVariants as examined
 use Rattle.mc_maker.specs.declared.examined_flights.ExaminedFlights.{ExaminedFlights}
 use Rattle.mc_maker.specs.declared.examined_flights.ExaminedFlights.TheVariants.{Certified}
 use Rattle.mc_maker.specs.declared.examined_flights.ExaminedFlights.TheVariants.{FoundAtTtl255}
 use Rattle.mc_maker.specs.declared.examined_flights.ExaminedFlights.TheVariants.{FoundAtFlowTtl}
 
--- the result without the flights
-abbrev pub without_flights : DomainValue → (flow : ℕ) → ExaminedFlights → examined.Examined
-without_flights d flow (Certified entries) = examined_as.Certified entries
-without_flights d flow (FoundAtTtl255 ended) = examined_as.Found 255 ended.travel
-without_flights d flow (FoundAtFlowTtl greatest least) = examined_as.Found (ttl_of d flow) least.travel
+-- Without the flights, this is the result of examining the flow.
+abbrev pub without_flights : DomainValue → (flow : ℕ) → ExaminedFlights → Examined
+without_flights d flow (Certified entries) = examined.Certified entries
+without_flights d flow (FoundAtTtl255 ended) = examined.Found 255 ended.travel
+without_flights d flow (FoundAtFlowTtl greatest least) = examined.Found (ttl_of d flow) least.travel
 
 -- The travel of a packet of the flow with this TTL in which the first waiting copy is handled each
 -- time, and the flight that it ends with.

@@ -15,14 +15,14 @@ use Rattle.mc_input.specs.ExcludedRouters.{is_possible_for_files_without}
 use Rattle.mc_input.specs.declared.fault.InputFault.TheVariants as input
 use Rattle.mc_input.specs.declared.source_fault.SourceFault.{SourceFault}
 use Rattle.mc_input.specs.declared.source_fault.SourceFault.TheVariants as source
-use Rattle.mc_input.specs.declared.without_fault.WithoutFault.{WithoutFault}
-use Rattle.mc_input.specs.declared.without_fault.WithoutFault.TheVariants as without
+use Rattle.mc_input.specs.declared.exclusion_fault.ExclusionFault.{ExclusionFault}
+use Rattle.mc_input.specs.declared.exclusion_fault.ExclusionFault.TheVariants as exclusion
 use Rattle.mc_run.specs.AuditPieces.{output_of, yes_of}
 use Rattle.mc_run.specs.Faults.{IsFaultOfAudit, IsFaultOfCheck, IsFaultOfMake, IsFaultOfReplay}
 use Rattle.mc_run.specs.Faults.{IsFaultOfWants}
 use Rattle.mc_run.specs.ReplayRun.{HasNoTravel}
 use Rattle.mc_run.specs.RunFault.{of_certificate_kind, from_list_fault_kind, from_source_fault}
-use Rattle.mc_run.specs.RunFault.{from_without_fault}
+use Rattle.mc_run.specs.RunFault.{from_exclusion_fault}
 use Rattle.mc_run.specs.RunOutput.{IsOutputWritten}
 use Rattle.mc_run.specs.declared.audit.audit_output.AuditAnswer.{AuditAnswer}
 use Rattle.mc_run.specs.declared.audit.audit_output.AuditOutput.{AuditOutput}
@@ -74,20 +74,20 @@ is_fault_of_replay-no_travel d flow fault (inr none) = subst (IsFaultOfReplay fl
 
 -- ---- audits
 
-pub is_fault_of_audit-without_fault : (fault : WithoutFault) → is_possible_for_files_without fault ≡ true
-    → IsFaultOfAudit (from_without_fault fault)
-is_fault_of_audit-without_fault (without.NoSuchRouter place) is = tt
-is_fault_of_audit-without_fault (without.Source source.Read) is = tt
-is_fault_of_audit-without_fault (without.Source (source.Input (input.Bundle bundle.TooLarge))) is = tt
-is_fault_of_audit-without_fault (without.Source (source.Input (input.Bundle fault))) is = absurd
+pub is_fault_of_audit-exclusion_fault : (fault : ExclusionFault) → is_possible_for_files_without fault ≡ true
+    → IsFaultOfAudit (from_exclusion_fault fault)
+is_fault_of_audit-exclusion_fault (exclusion.NoSuchRouter place) is = tt
+is_fault_of_audit-exclusion_fault (exclusion.Source source.Read) is = tt
+is_fault_of_audit-exclusion_fault (exclusion.Source (source.Input (input.Bundle bundle.TooLarge))) is = tt
+is_fault_of_audit-exclusion_fault (exclusion.Source (source.Input (input.Bundle fault))) is = absurd
     (false≢true is)
-is_fault_of_audit-without_fault (without.Source (source.Input (input.Parts place))) is = absurd
+is_fault_of_audit-exclusion_fault (exclusion.Source (source.Input (input.Parts place))) is = absurd
     (false≢true is)
-is_fault_of_audit-without_fault (without.Source (source.Input (input.Topology fault))) is = tt
-is_fault_of_audit-without_fault (without.Source (source.Input (input.Vif part fault))) is = tt
-is_fault_of_audit-without_fault (without.Source (source.Input (input.Cache part fault))) is = tt
-is_fault_of_audit-without_fault (without.Source (source.Input (input.Reports part fault))) is = tt
-is_fault_of_audit-without_fault (without.Source (source.Input input.Memory)) is = tt
+is_fault_of_audit-exclusion_fault (exclusion.Source (source.Input (input.Topology fault))) is = tt
+is_fault_of_audit-exclusion_fault (exclusion.Source (source.Input (input.Vif part fault))) is = tt
+is_fault_of_audit-exclusion_fault (exclusion.Source (source.Input (input.Cache part fault))) is = tt
+is_fault_of_audit-exclusion_fault (exclusion.Source (source.Input (input.Reports part fault))) is = tt
+is_fault_of_audit-exclusion_fault (exclusion.Source (source.Input input.Memory)) is = tt
 
 fault-of_output : (P : RunFault → Type 0) (a : Result AuditOutput RunFault) → IfErr a P
     → IfErr (output_of a) P

@@ -10,14 +10,14 @@ use Rattle.mc_files.specs.Files.{FileText}
 use Rattle.mc_input.specs.InputReading.{input_of_bundle}
 use Rattle.mc_input.specs.Meaning.{MeansDomain}
 use Rattle.mc_input.specs.ExcludedRouters.{input_of_files_without}
-use Rattle.mc_input.specs.declared.without_fault.WithoutFault.{WithoutFault}
+use Rattle.mc_input.specs.declared.exclusion_fault.ExclusionFault.{ExclusionFault}
 use Rattle.mc_input.specs.declared.fault.InputFault.TheVariants as input
 use Rattle.mc_run.specs.declared.fault.RunFault.{RunFault}
 use Rattle.mc_run.specs.declared.fault.RunFault.TheVariants.{Bundle, Parts, Topology, Vif, Cache}
 use Rattle.mc_run.specs.declared.fault.RunFault.TheVariants.{PartReports, Reports, Certificate}
 use Rattle.mc_run.specs.declared.fault.RunFault.TheVariants.{NoSuchFlow, NoSuchRouter, Read, Write}
 use Rattle.mc_run.specs.declared.fault.RunFault.TheVariants.{Memory}
-use Rattle.mc_run.specs.RunFault.{from_without_fault}
+use Rattle.mc_run.specs.RunFault.{from_exclusion_fault}
 
 -- ---- what it means
 
@@ -74,5 +74,5 @@ AreRefusedWithout names files Read = ⊤
 AreRefusedWithout names files Write = ⊤
 AreRefusedWithout names files Memory = ⊤
 AreRefusedWithout names files fault =
-    (cause : WithoutFault) × (input_of_files_without names files ≡ Err cause)
-    × (fault ≡ from_without_fault cause)
+    (cause : ExclusionFault) × (input_of_files_without names files ≡ Err cause)
+    × (fault ≡ from_exclusion_fault cause)

@@ -11,8 +11,8 @@ use Rattle.mc_input.specs.declared.fault.InputFault.{InputFault}
 use Rattle.mc_input.specs.declared.fault.InputFault.TheVariants as input
 use Rattle.mc_input.specs.declared.source_fault.SourceFault.{SourceFault}
 use Rattle.mc_input.specs.declared.source_fault.SourceFault.TheVariants as source
-use Rattle.mc_input.specs.declared.without_fault.WithoutFault.{WithoutFault}
-use Rattle.mc_input.specs.declared.without_fault.WithoutFault.TheVariants as without
+use Rattle.mc_input.specs.declared.exclusion_fault.ExclusionFault.{ExclusionFault}
+use Rattle.mc_input.specs.declared.exclusion_fault.ExclusionFault.TheVariants as exclusion
 use Rattle.mc_run.specs.declared.fault.RunFault.{RunFault}
 use Rattle.mc_run.specs.declared.fault.RunFault.TheVariants.{Bundle, Parts, Topology, Vif, Cache}
 use Rattle.mc_run.specs.declared.fault.RunFault.TheVariants.{PartReports, Reports, Certificate}
@@ -46,9 +46,9 @@ from_source_fault (source.Input fault) = from_input_fault fault
 from_source_fault source.Read = Read
 
 -- for those of a folder's files without the excluded routers,
-abbrev pub from_without_fault : WithoutFault → RunFault
-from_without_fault (without.Source fault) = from_source_fault fault
-from_without_fault (without.NoSuchRouter place) = NoSuchRouter place
+abbrev pub from_exclusion_fault : ExclusionFault → RunFault
+from_exclusion_fault (exclusion.Source fault) = from_source_fault fault
+from_exclusion_fault (exclusion.NoSuchRouter place) = NoSuchRouter place
 
 -- and for those of a certificate
 abbrev pub of_certificate_kind : CertFault → CertFaultKind → RunFault

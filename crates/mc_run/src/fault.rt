@@ -5,12 +5,12 @@ ghost use Rattle.mc_run.specs.declared.fault.RunFault.TheVariants.{Memory};
 ghost use Rattle.mc_run.specs.PackingRun.{from_pack_fault};
 ghost use Rattle.mc_run.specs.RunFault.{from_cert_fault, from_source_fault, from_input_fault};
 ghost use Rattle.mc_run.specs.RunFault.{from_list_fault, from_read_fault};
-ghost use Rattle.mc_run.specs.RunFault.{from_without_fault};
+ghost use Rattle.mc_run.specs.RunFault.{from_exclusion_fault};
 
 use mc_cert::{CertFault, CertFaultKind};
 use mc_files::PackFault;
 use mc_igmp::{ListFault, ListFaultKind};
-use mc_input::{InputFault, SourceFault, WithoutFault};
+use mc_input::{ExclusionFault, InputFault, SourceFault};
 use mc_tables::TableFault;
 use mc_text::{BundleFault, Memory as NoMemory, PartName, ReadFault};
 use mc_topology::TopologyFault;
@@ -92,13 +92,13 @@ impl From<SourceFault> for RunFault {
 }
 
 /// A folder's refused files, without the excluded routers.
-impl From<WithoutFault> for RunFault {
-    ghost from_gives = { λ files fault. fault ≡ from_without_fault files };
+impl From<ExclusionFault> for RunFault {
+    ghost from_gives = { λ files fault. fault ≡ from_exclusion_fault files };
 
-    fn from(fault: WithoutFault) -> RunFault {
+    fn from(fault: ExclusionFault) -> RunFault {
         match fault {
-            WithoutFault::Source(fault) => RunFault::from(fault),
-            WithoutFault::NoSuchRouter(place) => RunFault::NoSuchRouter(place),
+            ExclusionFault::Source(fault) => RunFault::from(fault),
+            ExclusionFault::NoSuchRouter(place) => RunFault::NoSuchRouter(place),
         }
     }
 }

@@ -2,5 +2,5 @@
 //! long, lack of memory, and look-ups.
 
 mod limits;
+pub(crate) mod lookups;
 mod memory;
-pub(crate) mod network;

@@ -35,11 +35,11 @@ has_flow source group flows = list_any (λ f. (f.source == source) && (f.group =
 -- group (RepeatedFlow).
 unfoldable pub flow_of_values : List SourceRow → List Flow → List ℕ → List ℕ → ℤ
     → Result Flow TopologyFaultKind
-flow_of_values sources earlier source_text group_text number = do
+flow_of_values sources earlier source_text group_text ttl_number = do
   source ← source_address_of source_text
   lan ← ok_or (lan_of_source source sources) UnknownName
   group ← group_address_of group_text
-  ttl ← ttl_of number
+  ttl ← ttl_of ttl_number
   if has_flow source group earlier then Err RepeatedFlow
       else Ok (record { source = source; lan = lan; group = group; ttl = ttl })
 
@@ -51,8 +51,8 @@ flow_of sources earlier d = do
   table ← known_table flow_keys d
   source_text ← text_at (codes "source") table
   group_text ← text_at (codes "group") table
-  number ← number_at (codes "ttl") table
-  flow_of_values sources earlier source_text group_text number
+  ttl_number ← number_at (codes "ttl") table
+  flow_of_values sources earlier source_text group_text ttl_number
 
 -- The rows have to be a list (else BadKind), then of at least one flow (NoFlow), and then of at most
 -- 4,096 (TooMany).

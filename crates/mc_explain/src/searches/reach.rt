@@ -5,7 +5,7 @@ ghost use Rattle.std.specs.Prelude.{◌&&◌, Bool, length, map, not, slice_inde
 ghost use Rattle.mc_forward.specs.OutcomeValues.{outcome_value};
 ghost use Rattle.mc_explain.specs.LanProbe.{IsLanProbe, search_in};
 ghost use Rattle.mc_explain.specs.BucketsAndMarks.{AreMarksOfListed, AreMarksOf};
-ghost use Rattle.mc_explain.specs.SearchLine.{append_new, routers_on};
+ghost use Rattle.mc_explain.specs.SearchLine.{append_new, router_of_group, routers_on};
 ghost use Rattle.mc_explain.specs.SearchReach.{has_event, outcome_matches, routers_of_lans, sent_on};
 ghost use Rattle.mc_explain.specs.SearchReach.{took_none};
 
@@ -102,7 +102,7 @@ fn add_routers(
     requires room { length lan_probe.now.view.now.domain.topology.routers ≤ length listed.old }
     ensures count { length listed.new ≡ length listed.old }
     ensures routers { OnOk result (routers.new.items ≡ append_new routers.old.items
-        (map (λ g. g.0) (routers_on (search_in lan_probe.now) lan))) }
+        (map router_of_group (routers_on (search_in lan_probe.now) lan))) }
     ensures listed { OnOk result (AreMarksOfListed routers.new.items listed.new) }
 {
     for own in lan_probe.routers_on(lan) {

@@ -21,12 +21,13 @@ impl Model for LowestPairs {
     ghost use Rattle.std.specs.Prelude.{ℕ, List, ◌≤◌, length};
     ghost use Rattle.std.specs.List.Sorted.{IsStrictlySortedBy};
     ghost use Rattle.mc_tables.specs.CacheTable.{key_cmp};
+    ghost use Rattle.mc_tables.specs.declared.summary.lowest_pairs.TheConstants.{MAX_PAIRS};
 
     ghost Value = { List (ℕ × ℕ) };
 
     ghost view = { λ s. s.pairs.items };
 
-    ghost invariant = { λ s. IsStrictlySortedBy key_cmp s.pairs.items × (length s.pairs.items ≤ 20) };
+    ghost invariant = { λ s. IsStrictlySortedBy key_cmp s.pairs.items × (length s.pairs.items ≤ MAX_PAIRS) };
 }
 
 impl LowestPairs {
@@ -41,7 +42,7 @@ impl LowestPairs {
 
     /// Adds a pair. Most are only compared with the greatest that is kept.
     pub fn add(&mut self, pair: (Addr, Addr)) -> Result<(), AllocError>
-        ensures { OnOk result (self.new ≡ take 20 (put_pair pair self.old)) }
+        ensures { OnOk result (self.new ≡ take MAX_PAIRS (put_pair pair self.old)) }
     {
         if self.pairs.len() >= MAX_PAIRS && self.pairs[MAX_PAIRS - 1] <= pair {
             return Ok(());

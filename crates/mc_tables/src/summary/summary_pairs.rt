@@ -15,7 +15,8 @@ use std::marker::Model;
 #[derive(Debug, Drop)]
 pub struct SummaryPairs {
     pairs: ListedPairs,
-    // the same pairs, since each reader keeps two
+    // the same pairs for the table, beside those for the summary: cloned here, since beginning a
+    // reader can't fail
     pairs_copy: ListedPairs,
     // the source 0.0.0.0 with each of their groups, and with the group 0.0.0.0
     for_every_source: ListedPairs,
@@ -55,7 +56,7 @@ impl SummaryPairs {
         })
     }
 
-    /// The pairs, twice, and the keys of rows for every source.
+    /// The pairs for the summary, those for the table, and the keys of rows for every source.
     pub(crate) fn into_lists(self) -> (ListedPairs, ListedPairs, ListedPairs)
         ensures pairs { result.0 ≡ self }
         ensures pairs_copy { result.1 ≡ self }

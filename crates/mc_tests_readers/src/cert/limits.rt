@@ -1,7 +1,7 @@
 //! Certificates that are one byte too long. The program takes no such file.
 
 use super::network::{NETWORK, VERSION_ONE, VERSION_TWO};
-use crate::topology::network::with_topology;
+use crate::topology::lookups::with_topology;
 use mc_cert::*;
 use mc_topology::Topology;
 use std::alloc::{AllocError, Global};

@@ -3,7 +3,7 @@
 ghost use Rattle.mc_cert.specs.Certificate.{BelongsTo};
 
 use super::network::{NETWORK, TWO_FLOWS};
-use crate::topology::network::with_topology;
+use crate::topology::lookups::with_topology;
 use mc_cert::laws::denoted_certificate_belongs_to_topology;
 use mc_cert::*;
 use mc_topology::Topology;

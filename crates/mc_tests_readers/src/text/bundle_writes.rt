@@ -48,6 +48,7 @@ fn at_most_1538_parts_are_written(rt: HostRuntime) -> Result<(), Fail> {
     let name = PartName::new(b"a").ok_or("a name")?;
     let parts = vec![in rt.alloc(); Part { name, bytes: b"" }; 1539]?;
     check_refused(&rt, &parts);
+    // "mcaudit bundle 1\n", "part a 0\n\n" for each, "end\n"
     check_written(&rt, &parts[..1538], 17 + 1538 * 10 + 4);
     Ok(())
 }

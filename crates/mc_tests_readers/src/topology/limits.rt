@@ -1,6 +1,6 @@
 //! Topologies that are one byte too long. The program takes no such file.
 
-use super::network::NETWORK;
+use super::lookups::NETWORK;
 use mc_topology::*;
 use std::alloc::{AllocError, Global};
 use std::test::Fail;

@@ -1,7 +1,7 @@
 //! Lack of memory: the reader returns it, at `top` 0, in place of a topology. `rt try --test
 //! --fail-alloc N` refuses the Nth growth: the text is then read again.
 
-use super::network::with_topology;
+use super::lookups::with_topology;
 use mc_topology::*;
 use std::alloc::Global;
 use std::process::Abort;

@@ -18,13 +18,13 @@ use std::alloc::Global;
 use toml::{Table, Value};
 
 /// The number as a time to live, 1 to 255.
-fn ttl_of(number: i64) -> Result<u8, TopologyFaultKind>
-    ensures { result ≡ ttl_of number }
+fn ttl_of(ttl_number: i64) -> Result<u8, TopologyFaultKind>
+    ensures { result ≡ ttl_of ttl_number }
 {
-    if !(1..=255).contains(&number) {
+    if !(1..=255).contains(&ttl_number) {
         return Err(TopologyFaultKind::BadTtl);
     }
-    Ok(number as u8)
+    Ok(ttl_number as u8)
 }
 
 /// The flow of these values, whose source and group no earlier flow has.
@@ -34,9 +34,9 @@ fn flow_of_values(
     earlier: &Flows,
     source_text: &str,
     group_text: &str,
-    number: i64,
+    ttl_number: i64,
 ) -> Result<Flow, TopologyFaultKind>
-    ensures flow { result ≡ flow_of_values sources.now earlier.now source_text.now group_text.now number }
+    ensures flow { result ≡ flow_of_values sources.now earlier.now source_text.now group_text.now ttl_number }
     ensures new { IfOk result (λ f. has_flow f.source f.group earlier.now ≡ false) }
 {
     let source = source_address_of(source_text)?;
@@ -44,7 +44,7 @@ fn flow_of_values(
         return Err(TopologyFaultKind::UnknownName);
     };
     let group = group_address_of(group_text)?;
-    let ttl = ttl_of(number)?;
+    let ttl = ttl_of(ttl_number)?;
     if earlier.has(source, group) {
         return Err(TopologyFaultKind::RepeatedFlow);
     }
@@ -65,8 +65,8 @@ fn flow_of(sources: &Sources, earlier: &Flows, value: &Value) -> Result<Flow, To
     let table = known_table(value, &["source", "group", "ttl"])?;
     let source_text = text_at(table, "source")?;
     let group_text = text_at(table, "group")?;
-    let number = number_at(table, "ttl")?;
-    flow_of_values(sources, earlier, source_text, group_text, number)
+    let ttl_number = number_at(table, "ttl")?;
+    flow_of_values(sources, earlier, source_text, group_text, ttl_number)
 }
 
 /// The list of flows, of which there is at least one.

@@ -1,4 +1,4 @@
--- By the path to the LAN.
+-- By what each reported cause says.
 use Rattle.mc_explain.specs.declared.causes.Cause.TheVariants.{StoppedAt}
 use Rattle.mc_explain.proofs.CauseLemmas.{causes_hold-all}
 use Rattle.mc_explain.proofs.laws.reported_stop_stops_packet.Goals as goal

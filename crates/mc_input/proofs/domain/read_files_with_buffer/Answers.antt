@@ -3,7 +3,7 @@ use Rattle.std.proofs.lemmas.Result.{err_from_is_err_and}
 use Rattle.mc_text.specs.Steps.{map_fault}
 use Rattle.mc_topology.specs.Topology.{TopologyValue}
 use Rattle.mc_input.specs.ExcludedRouters.{AreRouterNames}
-use Rattle.mc_input.specs.declared.without_fault.WithoutFault.TheVariants.{Source}
+use Rattle.mc_input.specs.declared.exclusion_fault.ExclusionFault.TheVariants.{Source}
 use Rattle.mc_input.proofs.ExcludedLemmas.{AreRouterNames-from_Ok, input_of_files_without-name_Err}
 use Rattle.mc_input.proofs.ExcludedLemmas.{input_of_files_without-names_Ok}
 use Rattle.mc_input.proofs.ExcludedLemmas.{input_of_files-with_exclusions}

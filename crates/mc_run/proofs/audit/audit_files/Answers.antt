@@ -6,7 +6,7 @@ use Rattle.std.specs.String.{string_bytes}
 use Rattle.mc_run.specs.AuditRun.{HasCounts, IsAudited, left_out}
 use Rattle.mc_run.proofs.AuditTextLemmas.{of_domain-means_audited}
 use Rattle.std.proofs.lemmas.Result.{err_from_is_err_and}
-use Rattle.mc_run.proofs.FaultLemmas.{is_fault_of_audit-without_fault}
+use Rattle.mc_run.proofs.FaultLemmas.{is_fault_of_audit-exclusion_fault}
 use Rattle.mc_run.proofs.audit.audit_files.Goals as goal
 
 pub returns-in-Ok-audit-clause-text : goal.returns-in-Ok-audit-clause-text
@@ -39,4 +39,4 @@ returns-in-Ok-audit-clause-counts g c =
 pub returns-in_err-read-clause-faults : goal.returns-in_err-read-clause-faults
 returns-in_err-read-clause-faults g c =
     let p = err_from_is_err_and c.from_residual.result c.from_residual.ensures.1 in
-    rw (p.1, p.2) (is_fault_of_audit-without_fault c.in_err-read.field-0.0 c.in_err-read.ensures.faults)
+    rw (p.1, p.2) (is_fault_of_audit-exclusion_fault c.in_err-read.field-0.0 c.in_err-read.ensures.faults)

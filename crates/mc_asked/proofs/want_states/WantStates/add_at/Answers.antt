@@ -2,7 +2,7 @@ use Rattle.std.proofs.Common.{◌≡◌, List, set, sym, ap, subst, ◌∙◌}
 use Rattle.std.proofs.Common.{get_or}
 use Rattle.std.specs.List.Sorted.{IsStrictlySortedBy}
 use Rattle.mc_tables.specs.CacheTable.{key_cmp}
-use Rattle.mc_asked.specs.WantStates.{StatedWantValue, WantStatesValue, states_with_row_at, want_with_row}
+use Rattle.mc_asked.specs.WantStates.{StatedWantValue, WantStatesValue, states_with_row_if_want, want_with_row}
 use Rattle.mc_asked.proofs.OneKeyLemmas.{absent-key, found-key, found-within, map-no_key, map-set_same}
 use Rattle.mc_asked.proofs.OneKeyLemmas.{set-one_key}
 use Rattle.mc_asked.proofs.SharedPairLemmas.{not_in-from_search}
@@ -35,7 +35,7 @@ returns-in-Ok c =
     (found-key (λ (w : StatedWantValue). w.want) c.deref.result.now ws c.in-Ok.place want _ keys
     c.in-Ok.ensures.bound (c.in-Ok.ensures.ok want)) in
     ap (λ (l : List StatedWantValue). record { vifs = vifs; wants = l }) changed
-    ∙ ap (λ (s : WantStatesValue). states_with_row_at want s key entry) c.self.view_is
+    ∙ ap (λ (s : WantStatesValue). states_with_row_if_want want s key entry) c.self.view_is
 
 pub returns-in_default : goal.returns-in_default
 returns-in_default c =
@@ -50,4 +50,4 @@ returns-in_default c =
     let same = map-no_key (λ (w : StatedWantValue). w.want) (want_with_row vifs key entry) want ws
     (absent-key (λ (w : StatedWantValue). w.want) c.self.inside.keys.items ws want c.self.invariant.0 absent) in
     sym c.self.view_is ∙ ap (λ (l : List StatedWantValue). record { vifs = vifs; wants = l }) same
-    ∙ ap (λ (s : WantStatesValue). states_with_row_at want s key entry) c.self.view_is
+    ∙ ap (λ (s : WantStatesValue). states_with_row_if_want want s key entry) c.self.view_is

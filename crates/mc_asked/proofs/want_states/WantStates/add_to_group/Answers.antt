@@ -2,8 +2,8 @@ use Rattle.std.proofs.Common.{◌≡◌, ◌==◌, Bool, true, false, cond, List
 use Rattle.std.specs.List.Sorted.{IsStrictlySortedBy}
 use Rattle.std.proofs.lemmas.List.{length-map}
 use Rattle.mc_tables.specs.CacheTable.{key_cmp}
-use Rattle.mc_asked.specs.WantStates.{StatedWantValue, WantStatesValue, states_with_row_of, want_with_row}
-use Rattle.mc_asked.specs.WantStates.{want_with_row_of}
+use Rattle.mc_asked.specs.WantStates.{StatedWantValue, WantStatesValue, states_with_row_if_group, want_with_row}
+use Rattle.mc_asked.specs.WantStates.{want_with_row_if_group}
 use Rattle.mc_asked.proofs.GroupRunLemmas.{with_run-of_keys}
 use Rattle.mc_asked.proofs.OneKeyLemmas.{map-same_keys}
 use Rattle.mc_asked.proofs.want_states.WantStates.add_to_group.Goals as goal
@@ -12,7 +12,8 @@ use Rattle.mc_asked.proofs.want_states.WantStates.add_to_group.Goals.{After-add_
 -- the wants of the group have the row
 rows : (c : After-add_to_run)
     → c.add_to_run.new.wants.items
-    ≡ map (want_with_row_of c.args.group c.self.inside.vifs.now c.args.key.now c.args.entry.now) c.self.inside.wants.items
+    ≡ map (want_with_row_if_group c.args.group c.self.inside.vifs.now c.args.key.now c.args.entry.now)
+    c.self.inside.wants.items
 rows c =
     let row = want_with_row c.self.inside.vifs.now c.args.key.now c.args.entry.now in
     c.add_to_run.ensures
@@ -42,7 +43,7 @@ same_want row same w false = refl
 
 pub invariant_of-self : goal.invariant_of-self
 invariant_of-self c =
-    let row = want_with_row_of c.args.group c.self.inside.vifs.now c.args.key.now c.args.entry.now in (
+    let row = want_with_row_if_group c.args.group c.self.inside.vifs.now c.args.key.now c.args.entry.now in (
       c.self.invariant.0
           ∙ sym (ap (map (λ (w : StatedWantValue). w.want)) (rows c)
           ∙ map-same_keys (λ (w : StatedWantValue). w.want) row c.self.inside.wants.items (λ w.
@@ -55,4 +56,5 @@ pub returns : goal.returns
 returns c =
     let vifs = c.self.inside.vifs.now in
     ap (λ (l : List StatedWantValue). record { vifs = vifs; wants = l }) (rows c)
-    ∙ ap (λ (s : WantStatesValue). states_with_row_of c.args.group s c.args.key.now c.args.entry.now) c.self.view_is
+    ∙ ap (λ (s : WantStatesValue). states_with_row_if_group c.args.group s c.args.key.now c.args.entry.now)
+    c.self.view_is

@@ -1,5 +1,5 @@
 use Rattle.std.proofs.Common.{◌≡◌, ℕ, List, sym, ap, ◌∙◌}
-use Rattle.mc_asked.specs.WantStates.{StatedWantValue, WantStatesValue, states_with_row_at}
+use Rattle.mc_asked.specs.WantStates.{StatedWantValue, WantStatesValue, states_with_row_if_want}
 use Rattle.mc_asked.proofs.WantStateLemmas.{rows-at_both, rows-of_group}
 use Rattle.mc_asked.proofs.want_states.WantStatesRowFold.add.Goals as goal
 
@@ -8,10 +8,10 @@ returns-then-not-is_unspecified c =
     let before = c.args.self.now in
     let key = c.args.key.now in
     let entry = c.args.entry.now in
-    let first : c.add_at.new.self ≡ states_with_row_at (key.1, 0) before key entry =
-    c.add_at.ensures ∙ ap (λ (u : ℕ). states_with_row_at (key.1, u) before key entry) c.unspecified.ensures in
+    let first : c.add_at.new.self ≡ states_with_row_if_want (key.1, 0) before key entry =
+    c.add_at.ensures ∙ ap (λ (u : ℕ). states_with_row_if_want (key.1, u) before key entry) c.unspecified.ensures in
     c.add_at-then-not-is_unspecified.ensures
-    ∙ ap (λ (s : WantStatesValue). states_with_row_at (key.1, key.0) s key entry) first
+    ∙ ap (λ (s : WantStatesValue). states_with_row_if_want (key.1, key.0) s key entry) first
     ∙ ap (λ (l : List StatedWantValue). record { vifs = before.vifs; wants = l })
     (rows-at_both before.vifs key entry before.wants
     (sym c.if-not-is_unspecified.ensures))

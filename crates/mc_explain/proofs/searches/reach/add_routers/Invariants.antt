@@ -3,16 +3,15 @@ use Rattle.mc_theory.specs.Lists.{In}
 use Rattle.mc_explain.specs.declared.searches.listed_interface.ListedInterface.{ListedInterface}
 use Rattle.mc_explain.specs.LanProbe.{search_in}
 use Rattle.mc_explain.specs.BucketsAndMarks.{AreMarksOfListed}
-use Rattle.mc_explain.specs.SearchLine.{append_new, routers_on}
+use Rattle.mc_explain.specs.SearchLine.{append_new, router_of_group, routers_on}
 use Rattle.mc_explain.proofs.searches.reach.add_routers.Given as goal
 
 abbrev pub invariant-loop-own : goal.invariant-loop-own
 invariant-loop-own l = record {
   count : length l.listed ≡ length l.fn.listed;
-  rest : append_new l.routers.items
-      (map (λ (g : ℕ × List ListedInterface). g.0) l.own-iterator)
-      ≡ append_new l.fn.routers.items (map (λ (g : ℕ × List ListedInterface). g.0)
-      (routers_on (search_in l.fn.lan_probe) l.fn.lan));
+  rest : append_new l.routers.items (map router_of_group l.own-iterator)
+      ≡ append_new l.fn.routers.items
+      (map router_of_group (routers_on (search_in l.fn.lan_probe) l.fn.lan));
   listed : AreMarksOfListed l.routers.items l.listed;
   inside : (g : ℕ × List ListedInterface) → In g l.own-iterator → g.0 < length l.fn.listed;
 }

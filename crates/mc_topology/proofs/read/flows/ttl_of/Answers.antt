@@ -5,15 +5,15 @@ use Rattle.mc_topology.proofs.read.flows.ttl_of.Goals as goal
 
 pub returns-then-not-contains : goal.returns-then-not-contains
 returns-then-not-contains c =
-    let same = to_z-of_z {w = w64} {z = c.args.number} c.ranges.number in
+    let same = to_z-of_z {w = w64} {z = c.args.ttl_number} c.ranges.ttl_number in
     let value =
     rw (c.new.ensures.start, c.new.ensures.end, c.new.ensures.exhausted, same)
     at c.if-not-contains.ensures.value in
-    sym (ttl_of-from_failed_test c.args.number (sym value))
+    sym (ttl_of-from_failed_test c.args.ttl_number (sym value))
 
 pub returns : goal.returns
 returns c =
-    let same = to_z-of_z {w = w64} {z = c.args.number} c.ranges.number in
+    let same = to_z-of_z {w = w64} {z = c.args.ttl_number} c.ranges.ttl_number in
     let (low, high) = rw (c.new.ensures.start, c.new.ensures.end, same) at
     c.if-not-contains.ensures.cases in
-    rw same (sym (ttl_of-from_both_tests c.args.number low high))
+    rw same (sym (ttl_of-from_both_tests c.args.ttl_number low high))

@@ -7,11 +7,10 @@ version=$1
 room=$(mktemp -d)
 trap 'rm -rf "$room"' EXIT
 chmod 755 "$room"
-mkdir -p out "$room/DEBIAN" "$room/usr/share/doc/mcaudit"
+mkdir -p out "$room/DEBIAN"
 make -s install DESTDIR="$room" PREFIX=/usr ZSH=/usr/share/zsh/vendor-completions
 gzip -9n "$room"/usr/share/man/man1/*.1
-cp README.md docs/GUIDE.md docs/FORMATS.md docs/PROMISES.md docs/audit.schema.json "$room/usr/share/doc/mcaudit"
-python3 tests/docs/proofs.py "$room/usr/share/doc/mcaudit/PROOFS.md"
+sh packaging/documents.sh "$room/usr/share/doc/mcaudit"
 maintainer=$(git log -1 --format='%an <%ae>')
 python3 -I packaging/debian_changelog.py "$maintainer" "$(git log -1 --format=%ct)" |
     gzip -9n > "$room/usr/share/doc/mcaudit/changelog.gz"

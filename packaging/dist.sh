@@ -10,8 +10,7 @@ trap 'rm -rf "$room"' EXIT
 mkdir -p out
 git archive --prefix="$name/" -o "out/$name.tar.gz" HEAD
 make -s install DESTDIR="$room" PREFIX=/usr/local
-mkdir -p "$room/usr/local/share/doc/mcaudit"
-cp README.md CHANGELOG.md LICENSE-MIT LICENSE-APACHE "$room/usr/local/share/doc/mcaudit"
+sh packaging/documents.sh "$room/usr/local/share/doc/mcaudit"
 tar -C "$room" --sort=name --owner=0 --group=0 --numeric-owner --mtime="$(git log -1 --format=%cI)" \
     -czf "out/$name-linux-x86_64.tar.gz" usr
 ls -l "out/$name.tar.gz" "out/$name-linux-x86_64.tar.gz"

@@ -5,7 +5,6 @@
 set -eu
 package=$(realpath "$1")
 sh "$(dirname "$0")/../packages.sh" package
-examples=$(realpath "$(dirname "$0")/../../examples")
 room=$(mktemp -d)
 trap 'rm -rf "$room"' EXIT
 
@@ -27,8 +26,12 @@ lintian --fail-on error,warning "$package" > "$room.log" 2>&1 || fail "$(cat "$r
 debootstrap --variant=minbase --include=python3 bookworm "$room" > "$room.log" 2>&1 || fail "$(tail -n 3 "$room.log")"
 rm "$room.log"
 cp "$package" "$room/tmp/mcaudit.deb"
-cp -R "$examples/network" "$examples/second-router" "$room/tmp"
 in_room apt-get install -y --no-install-recommends /tmp/mcaudit.deb > "$room/tmp/said" 2>&1 || fail "$(cat "$room/tmp/said")"
+documents=$room/usr/share/doc/mcaudit
+for link in $(grep -o ']([^)#]*' "$documents/README.md" | cut -c 3-); do
+    [ -s "$documents/$link" ] || fail "README.md leads to $link, which is not there"
+done
+in_room cp -R /usr/share/doc/mcaudit/examples/network /usr/share/doc/mcaudit/examples/second-router /tmp
 status=0
 in_room mcaudit audit /tmp/second-router > "$room/tmp/audited" || status=$?
 [ "$status" -eq 1 ] || fail "an audit of a fault ended with $status"

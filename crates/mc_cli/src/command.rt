@@ -149,7 +149,8 @@ pub fn audit_command<'a>(alloc: Global) -> Result<Command<'a>, AllocError> {
     let travel = "Shows the travel of each packet that shows a fault, event by event";
     let faults = "Leaves out the flows that are right and wanted";
     let unlisted = "Lists all unlisted sources and groups of the caches, not only the 20 lowest";
-    let strict = "Ends with status 1 where a flow that is right is wanted by nobody";
+    let strict =
+        "Ends with status 1 also where nobody wants a right flow, or no flow answers what hosts ask for";
     let json = "Writes one JSON object a line";
     let without = "Audits without the router's tables, and then can't say yes";
     let ignore = "Ignores what hosts ask for in a range of groups, as 239.0.0.0/8";

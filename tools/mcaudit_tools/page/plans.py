@@ -16,6 +16,8 @@ def read_plans(path, audit):
         lines = [json.loads(it, parse_int=whole) for it in read_regular(path, MOST_BYTES).splitlines()]
         if lines[0]["format"] != 1 or lines[-1]["verdict"] not in ("yes", "no"):
             raise ValueError
+        if tried := list(map(str, lines[0]["tried"])):
+            raise Refused(f"refused: {path}: it was made after changes that the audit doesn't have: {tried[0]}")
         for it in lines[1:-1]:
             if flows.get(it["flow"]) != (it["source"], it["group"]):
                 raise Refused(f"refused: {path}: it is of another audit, by its flow {it['flow']}")

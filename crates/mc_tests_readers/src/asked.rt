@@ -1,7 +1,7 @@
 //! Tests of what hosts ask for and no flow answers, on two LANs that both have the reports of `filter`:
 //! the wants that are left are counted by hand.
 
-ghost use Rattle.std.specs.Prelude.{IfOk, map};
+ghost use Rattle.std.specs.Prelude.{◌≡◌, IfOk, length, map};
 ghost use Rattle.std.specs.List.Sorted.{IsStrictlySortedBy};
 ghost use Rattle.mc_tables.specs.CacheTable.{key_cmp};
 
@@ -64,7 +64,9 @@ fn wants_of_lan(
 }
 
 // What is kept of the wants of the two LANs with these reports.
-fn wants_of_lans(alloc: Global, first: &[u8], second: &[u8]) -> Result<Vec<LanWants>, Fail> {
+fn wants_of_lans(alloc: Global, first: &[u8], second: &[u8]) -> Result<Vec<LanWants>, Fail>
+    ensures { IfOk result (λ lans. length lans.items ≡ 2) }
+{
     let topology = Topology::read(alloc, TOPOLOGY)?;
     wants_in_topology(alloc, &topology, first, second)
 }
@@ -75,7 +77,9 @@ fn wants_in_topology(
     topology: &Topology,
     first: &[u8],
     second: &[u8],
-) -> Result<Vec<LanWants>, Fail> {
+) -> Result<Vec<LanWants>, Fail>
+    ensures { IfOk result (λ lans. length lans.items ≡ 2) }
+{
     let mut lans = Vec::new(alloc);
     lans.push(wants_of_lan(alloc, topology, 0, first)?)?;
     lans.push(wants_of_lan(alloc, topology, 1, second)?)?;

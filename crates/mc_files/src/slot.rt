@@ -201,12 +201,35 @@ fn router_slot(topology: &Topology, number: u32) -> Slot<'_>
     Slot::cache(router)
 }
 
+/// The number of the slot of a router's vifs, counted from 0: behind the topology's, each router has two.
+pub fn vif_slot_number(router: RouterNo) -> u32
+    requires few { router < 256 }
+    ensures value { result ≡ 1 + 2 * router }
+{
+    1 + 2 * router.0
+}
+
+/// The number of the slot of a router's forwarding cache, behind that of its vifs.
+pub fn cache_slot_number(router: RouterNo) -> u32
+    requires few { router < 256 }
+    ensures value { result ≡ 2 + 2 * router }
+{
+    vif_slot_number(router) + 1
+}
+
+/// The number of the slot of the first LAN's reports, behind those of the routers.
+pub fn first_lan_slot_number(topology: &Topology) -> u32
+    ensures value { result ≡ 1 + 2 * length topology.now.routers }
+{
+    1 + 2 * topology.routers()
+}
+
 /// The number of a domain's slots, with the certificate's if `certified`: at most 1,538.
 pub fn slot_count(topology: &Topology, certified: bool) -> u32
     ensures count { result ≡ length (slots certified topology.now) }
     ensures bound { result ≤ 1538 }
 {
-    let count = 1 + 2 * topology.routers() + topology.lans();
+    let count = first_lan_slot_number(topology) + topology.lans();
     if certified {
         return count + 1;
     }

@@ -10,6 +10,7 @@ mod audit_wrong;
 mod audited_domain;
 mod flow_status;
 pub(crate) mod left_out;
+mod reasons;
 
 ghost use Rattle.std.specs.Prelude.{◌≡◌, ◌≢◌, ◌<◌, ◌==◌, ◌&&◌, IfErr, IfOk, IfSome, Err, false};
 ghost use Rattle.std.specs.Prelude.{length};

@@ -12,12 +12,13 @@ ghost use Rattle.mc_run.specs.AuditRun.{is_whole};
 ghost use Rattle.mc_run.specs.MakeRun.{IsExamined};
 
 use crate::audit::audit_right::push_checked;
-use crate::audit::audit_wrong::{behind_if_stray, push_wrong, search_if_missed, shown_by};
+use crate::audit::audit_wrong::push_wrong;
 use crate::audit::audited_domain::AuditedDomain;
 use crate::audit::flow_status::FlowStatus;
+use crate::audit::reasons::{Reasons, behind_if_stray, search_if_missed, shown_by};
 use mc_cert::DistinctTrees;
 use mc_cli::AuditOptions;
-use mc_explain::{Cause, ShownBy, explain};
+use mc_explain::{Cause, explain};
 use mc_forward::FlowView;
 use mc_maker::{ExaminedFlights, examine_to_end};
 use mc_replay::FinishedTravel;
@@ -25,10 +26,10 @@ use mc_text::Memory as NoMemory;
 use std::alloc::Global;
 
 /// Whether a cause names an oif to remove.
-fn is_remedy(causes: &Cause) -> bool
-    ensures { result ≡ says_remedy causes.now }
+fn is_remedy(cause: &Cause) -> bool
+    ensures { result ≡ says_remedy cause.now }
 {
-    matches!(causes, Cause::TakeOut { .. })
+    matches!(cause, Cause::TakeOut { .. })
 }
 
 /// The causes; without remedies, unless the whole domain is known.
@@ -79,12 +80,16 @@ fn push_found_at_255(
         flow flow_status shown_trees shown_trees (string_bytes text.old) (string_bytes text.new)) }
 {
     let causes = causes_to_print(alloc, audited, flow, flights)?;
-    let found = search_if_missed(alloc, audited, flow, ended)?;
+    let search = search_if_missed(alloc, audited, flow, ended)?;
     let behind = behind_if_stray(alloc, audited, flow, ended.travel.finding)?;
     let shown_by = shown_by(alloc, audited, flow, ended)?;
-    push_wrong(
-        alloc, audited, flow, ended, 255, options, &causes, &found, &behind, shown_by, text,
-    )
+    let reasons = Reasons {
+        causes,
+        search,
+        behind,
+        shown_by,
+    };
+    push_wrong(alloc, audited, flow, ended, 255, options, &reasons, text)
 }
 
 /// Writes what a packet with the flow's TTL meets, and why. Returns the flow's status.
@@ -110,13 +115,8 @@ fn push_found_at_flow_ttl(
     let view = FlowView::new(audited.domain, flow);
     let ttl = view.ttl();
     let causes = causes_to_print(alloc, audited, flow, flights)?;
-    let unsaid = ShownBy {
-        from: None,
-        at_flow_ttl: None,
-    };
-    push_wrong(
-        alloc, audited, flow, least, ttl, options, &causes, &None, &None, unsaid, text,
-    )
+    let reasons = Reasons::of_causes(causes);
+    push_wrong(alloc, audited, flow, least, ttl, options, &reasons, text)
 }
 
 /// Writes the lines of a flow that was examined, and returns the flow's status.

@@ -1,9 +1,13 @@
-use Rattle.std.proofs.Common.{None, ap, ◌∙◌}
+use Rattle.std.proofs.Common.{◌≡◌, ◌++◌, None, ap, subst, ◌∙◌}
+use Rattle.std.specs.Prelude.{IfOk, OnOk}
+use Rattle.std.specs.String.{string_bytes}
 use Rattle.mc_maker.specs.ExaminedFlights.{without_flights}
 use Rattle.mc_run.specs.AuditPieces.{audited_value, explanation_in, status_of_wrong_flow, wrong_flow_lines_of}
 use Rattle.mc_run.specs.AuditRun.{is_whole}
+use Rattle.mc_run.specs.declared.audit.flow_status.FlowStatus.{FlowStatus}
+use Rattle.mc_run.specs.declared.audit.reasons.Reasons.{Reasons}
 use Rattle.mc_run.proofs.AuditFlows.{is_flow_pushed-added, is_flow_pushed-status, is_flow_pushed-wrong}
-use Rattle.mc_run.proofs.AuditFlows.{wrong_flow_lines-same_causes, found-ttl_of_view}
+use Rattle.mc_run.proofs.AuditFlows.{found-ttl_of_view}
 use Rattle.mc_run.proofs.ExplanationLemmas.{is_explanation-at_flow_ttl, unsaid}
 use Rattle.mc_run.proofs.audit.audit_flow.push_found_at_flow_ttl.Goals as goal
 
@@ -16,10 +20,16 @@ returns c = record {
       let least = c.args.least.now in
       let causes = c.in_ok-causes.causes.items in
       let ttl = c.ttl-ttl.result in
-      is_flow_pushed-status v o c.args.flow c.push_wrong.result (status_of_wrong_flow a None) _ _
-      c.push_wrong.ensures.flow_status
+      let status = subst (λ (r : Reasons).
+      IfOk c.push_wrong.result (λ (s : FlowStatus). s ≡ status_of_wrong_flow a r.search))
+      c.of_causes-reasons.ensures c.push_wrong.ensures.flow_status in
+      let added = subst (λ (r : Reasons).
+      OnOk c.push_wrong.result (string_bytes c.push_wrong.new.text ≡ string_bytes c.args.text.now
+      ++ wrong_flow_lines_of a o c.args.flow ttl least r.causes.items r.search r.behind r.shown_by))
+      c.of_causes-reasons.ensures c.push_wrong.ensures.added in
+      is_flow_pushed-status v o c.args.flow c.push_wrong.result (status_of_wrong_flow a None) _ _ status
       (is_flow_pushed-added v o c.args.flow c.push_wrong.result (status_of_wrong_flow a None) _ _
-      (wrong_flow_lines_of a o c.args.flow ttl least c.deref.result.now None None unsaid)
+      (wrong_flow_lines_of a o c.args.flow ttl least causes None None unsaid)
       (λ written puts. is_flow_pushed-wrong v o c.args.flow c.args.flights.now ttl least.travel
       (explanation_in (is_whole v) least causes None None unsaid) _ written c.requires.flow c.requires.flights
       c.requires.examined
@@ -27,8 +37,6 @@ returns c = record {
       ∙ found-ttl_of_view v.domain c.args.flow ttl c.new-view.result least.travel c.new-view.ensures.flow
       c.ttl-ttl.ensures)
       (is_explanation-at_flow_ttl v c.args.flow c.args.flights.now c.args.greatest.now least causes
-      c.requires.is c.requires.flights c.in_ok-causes.ensures.causes)
-      (wrong_flow_lines-same_causes v o c.args.flow ttl least c.deref.result.now causes None None unsaid _ written
-      c.deref.ensures.value puts))
-      c.push_wrong.ensures.added));
+      c.requires.is c.requires.flights c.in_ok-causes.ensures.causes) puts)
+      added));
 }

@@ -1,6 +1,6 @@
 use Rattle.mc_run.specs.AuditPieces.{audited_value}
 use Rattle.mc_run.proofs.ExplanationLemmas.{is_shown_from-greatest, is_shown_from-less}
-use Rattle.mc_run.proofs.audit.audit_wrong.shown_from_if_less.Goals as goal
+use Rattle.mc_run.proofs.audit.reasons.shown_from_if_less.Goals as goal
 
 pub returns-then-ttl : goal.returns-then-ttl
 returns-then-ttl c = record {

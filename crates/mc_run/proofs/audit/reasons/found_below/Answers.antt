@@ -9,7 +9,7 @@ use Rattle.mc_run.specs.AuditExplanation.{IsFoundBelow}
 use Rattle.mc_run.specs.AuditPieces.{audited_value}
 use Rattle.mc_run.specs.AuditRun.{is_whole}
 use Rattle.mc_run.proofs.ExplanationLemmas.{is_found_below-less}
-use Rattle.mc_run.proofs.audit.audit_wrong.found_below.Goals as goal
+use Rattle.mc_run.proofs.audit.reasons.found_below.Goals as goal
 
 pub returns : goal.returns
 returns c = record {

@@ -1,5 +1,5 @@
 use Rattle.mc_run.proofs.ExplanationLemmas.{missed_lan-of_domain}
-use Rattle.mc_run.proofs.audit.audit_wrong.search_if_missed.Goals as goal
+use Rattle.mc_run.proofs.audit.reasons.search_if_missed.Goals as goal
 
 pub search-requires-clause-missed : goal.search-requires-clause-missed
 search-requires-clause-missed c =

@@ -419,7 +419,7 @@ def add_links():
            [("may drop", "r2: its packets have 1428 bytes")], [("more come", "cut in pieces by r2")], size=1400,
            part="nodf", is_doubtful=True)
     hidden("packets of TTL 2", "", "", (), [("none comes", "r2 did not send them by eth1")], ttl=2)
-    hidden("packets of TTL 3", "", "", (), [("lost", "r3: eth1: its rows made")], ttl=3)
+    hidden("packets of TTL 3", "", "", (), [("lost", "r3: eth1: its entries made")], ttl=3)
     hidden("mrule prohibits", "r2: ip mrule add iif eth0 prohibit",
            "r2: ip mrule del iif eth0 prohibit 2> /dev/null; true",
            [("drops", "r2: ip mrule: ")], [("none comes", "ip mrule, VRF")])

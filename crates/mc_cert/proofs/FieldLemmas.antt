@@ -1,9 +1,9 @@
 -- What was read under the keys of an object, with one more key.
-use Rattle.std.proofs.Common.{◌≡◌, ℕ, ◌+◌, ◌<◌, ◌≤◌, All, Bool, true, false, List, [], ◌∷◌, length, map}
+use Rattle.std.proofs.Common.{◌≡◌, ℕ, ◌+◌, ◌<◌, ◌≤◌, All, true, false, List, [], ◌∷◌, length, map}
 use Rattle.std.proofs.Common.{codes}
 use Rattle.std.proofs.Common.{Option, Some, None, Ordering, Less, Equal, Greater, refl, sym, ap, subst, ◌∙◌}
 use Rattle.std.proofs.Common.{arith, IsUtf8}
-use Rattle.std.specs.Prelude.{IfSome, IsTrue, option_map, slice_get}
+use Rattle.std.specs.Prelude.{IfSome, option_map, slice_get}
 use Rattle.std.specs.List.{list_any, AllByRecursion}
 use Rattle.std.specs.Ordering.{nat_cmp, match_ordering}
 use Rattle.std.specs.Cmp.Lexicographic.{slice_cmp}
@@ -14,11 +14,8 @@ use Rattle.serde_json.specs.Data.{Data, unsigned, number, array, object, Items, 
 use Rattle.serde_json.specs.Data.{member, put}
 use Rattle.serde_json.specs.Find.{get_member}
 use Rattle.serde_json.specs.Read.{read}
-use Rattle.serde_json.specs.View.{items_of}
 use Rattle.serde_json.proofs.Views.{get_member-put, get_member-put_other}
-use Rattle.mc_text.specs.Addr.{dotted}
 use Rattle.mc_theory.specs.Nets.{Interface}
-use Rattle.mc_theory.specs.Certificates.{Entry}
 use Rattle.mc_topology.specs.declared.flow.Flow.{Flow}
 use Rattle.mc_topology.specs.Document.{are_known}
 use Rattle.mc_topology.specs.SectionRows.{RouterRow}
@@ -31,9 +28,9 @@ use Rattle.mc_cert.specs.Object.{has_only, keys_in, rows_in}
 use Rattle.mc_cert.specs.Reading.{top_keys}
 use Rattle.mc_cert.specs.VersionOne.{flow_keys}
 use Rattle.mc_cert.specs.VersionTwo.{shared_flow_keys}
-use Rattle.mc_cert.specs.Denotation.{EachDenotes, AreRows, DenotesForwarder, DenotesEntry, DenotesEntries}
-use Rattle.mc_cert.specs.Denotation.{DenotesFlow, DenotesTree, DenotesSharedFlow, DenotesVersionOne}
-use Rattle.mc_cert.specs.Denotation.{DenotesVersionTwo, DenotesCertificate, version_no}
+use Rattle.mc_cert.specs.Denotation.{EachDenotes, DenotesForwarder, DenotesEntry}
+use Rattle.mc_cert.specs.Denotation.{DenotesFlow, DenotesTree, DenotesSharedFlow}
+use Rattle.mc_cert.specs.Denotation.{DenotesCertificate}
 use Rattle.mc_cert.specs.Tokens.{IsLanName, IsRouterName, IsWhole, IsAddress, Field, HoldsEntry}
 use Rattle.mc_cert.specs.Tokens.{IsForwarder, HoldsFlow, HoldsSharedFlow, DenotesFlows, DenotesNumber}
 use Rattle.mc_cert.specs.Tokens.{DenotesNumbers, DenotesTrees, HoldsVersionOne, HoldsVersionTwo, IsVersion}

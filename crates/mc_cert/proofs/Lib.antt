@@ -2,8 +2,10 @@ pub mod BelongsLemmas
 pub mod DistinctLemmas
 pub mod Documents
 pub mod Fields
+pub mod JsonStringLemmas
 pub mod JsonValues
 pub mod StoredTrees
+pub mod KeyLemmas
 pub mod LineFeed
 pub mod Objects
 pub mod CertificateParts
@@ -16,4 +18,5 @@ pub mod TextDenotation
 pub mod CertificateTexts
 pub mod WrittenCertificates
 pub mod TokenLemmas
+pub mod TokenReaderLemmas
 pub mod FieldLemmas

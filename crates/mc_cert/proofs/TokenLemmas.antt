@@ -1,5 +1,5 @@
 -- The values of lists and objects, read from JSON's tokens one after the other.
-use Rattle.std.proofs.Common.{◌≡◌, ℕ, zero, suc, ◌+◌, ◌-◌, ◌<◌, ◌≤◌, List, [], ◌∷◌, ◌++◌, length}
+use Rattle.std.proofs.Common.{◌≡◌, ℕ, ◌+◌, ◌-◌, ◌<◌, ◌≤◌, List, [], ◌∷◌, ◌++◌, length}
 use Rattle.std.proofs.Common.{Option, Some, None, option_map, option_and_then, decimal, ◌^◌, refl, ap}
 use Rattle.std.proofs.Common.{subst, ◌∙◌}
 use Rattle.std.proofs.Common.{arith, append-nil}
@@ -171,13 +171,6 @@ pub record ObjectSoFar (levels : ℕ) (start : List Token) (ms : Members) (ts : 
   pub same : (depth : ℕ) → levels ≤ depth
       → converted (λ m. of_members m no_members) (members (value depth) (length start) start)
       ≡ converted (λ m. of_members m ms) (members (value depth) turns ts)
-
-pub ObjectSoFar-none : (levels : ℕ) (ts : List Token) → ObjectSoFar levels ts no_members ts
-ObjectSoFar-none levels ts = record {
-  turns = length ts;
-  enough = omega arith;
-  same = λ depth le. refl;
-}
 
 pub ObjectSoFar-more : (levels : ℕ) (start : List Token) (ms : Members) (k : List ℕ) (ts s rest : List Token)
     (d : Data) → ObjectSoFar levels start ms ts → read_key ts ≡ Some (Some k, s) → Reads levels s d rest

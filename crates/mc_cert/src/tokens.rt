@@ -1,6 +1,7 @@
 //! Reads a certificate from JSON's tokens, in one pass and without a tree of JSON values: a text of either
-//! version with any white space, escapes and order of keys. A text that is no certificate is left to the
-//! reader of trees, which finds its fault.
+//! version with any white space and order of keys, with keys that come twice, and with escapes in its
+//! strings. A text that is no certificate, or that has an earlier value of a key that isn't allowed there, is
+//! left to the reader of trees, which finds its fault.
 
 mod entry;
 mod flow;
@@ -17,7 +18,6 @@ ghost use Rattle.mc_cert.specs.Denotation.{DenotesCertificate};
 use crate::certificate::Certificate;
 use crate::tokens::version_one::version_one;
 use crate::tokens::version_two::version_two;
-use json::{Invalid, Scratch};
 use mc_text::MAX_TEXT;
 use mc_topology::Topology;
 use std::alloc::{AllocError, AllocFailed, Global};
@@ -25,12 +25,6 @@ use std::alloc::{AllocError, AllocFailed, Global};
 /// The text is no certificate, or memory ran out.
 #[derive(Drop)]
 pub(crate) struct NotRead;
-
-impl From<Invalid> for NotRead {
-    fn from(_invalid: Invalid) -> NotRead {
-        NotRead
-    }
-}
 
 impl From<AllocError> for NotRead {
     fn from(_refused: AllocError) -> NotRead {
@@ -59,10 +53,9 @@ pub(crate) fn certificate_of_tokens(
     let Ok(text) = simdutf8::compat::from_utf8(text) else {
         return Err(NotRead);
     };
-    let mut scratch = Scratch::new(alloc);
-    if let Ok(certificate) = version_two(alloc, topology, text, &mut scratch) {
+    if let Ok(certificate) = version_two(alloc, topology, text) {
         return Ok(certificate);
     }
-    let certificate = version_one(alloc, topology, text, &mut scratch)?;
+    let certificate = version_one(alloc, topology, text)?;
     Ok(certificate)
 }

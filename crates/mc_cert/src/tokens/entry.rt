@@ -7,12 +7,13 @@ ghost use Rattle.mc_cert.specs.Denotation.{DenotesEntry, DenotesTree};
 ghost use Rattle.mc_cert.specs.Tokens.{ReadsTo, IsForwarder, HoldsEntry};
 
 use crate::entry::MAX_ENTRIES;
+use crate::key::Key;
 use crate::reached::Reached;
+use crate::token_reader::TokenReader;
 use crate::tokens::NotRead;
 use crate::tokens::list::{TokenRows, read_list};
 use crate::tokens::object::{Fields, read_object};
 use crate::tokens::value::{lan_value, router_value, whole_value};
-use json::Reader;
 use mc_topology::{LanNo, RouterNo, Topology};
 use std::alloc::Global;
 
@@ -35,39 +36,39 @@ impl Fields for EntryFields {
         self,
         _alloc: Global,
         topology: &Topology,
-        key: &str,
-        reader: &mut Reader<'_>,
+        key: Key,
+        reader: &mut TokenReader<'_>,
     ) -> Result<EntryFields, NotRead> {
         match key {
-            "lan" => {
+            Key::Lan => {
                 let lan = lan_value(topology, reader)?;
                 Ok(EntryFields {
                     lan: Some(lan),
                     ..self
                 })
             }
-            "need" => {
+            Key::Need => {
                 let need = whole_value(1, 255, reader)?;
                 Ok(EntryFields {
                     need: Some(need as u8),
                     ..self
                 })
             }
-            "rank" => {
+            Key::Rank => {
                 let rank = whole_value(0, 255, reader)?;
                 Ok(EntryFields {
                     rank: Some(rank as u8),
                     ..self
                 })
             }
-            "router" => {
+            Key::Router => {
                 let router = router_value(topology, reader)?;
                 Ok(EntryFields {
                     router: Some(router),
                     ..self
                 })
             }
-            "vif" => {
+            Key::Vif => {
                 let vif = whole_value(0, 31, reader)?;
                 Ok(EntryFields {
                     vif: Some(vif as u8),
@@ -126,7 +127,7 @@ impl EntryFields {
 fn entry_value(
     alloc: Global,
     topology: &Topology,
-    reader: &mut Reader<'_>,
+    reader: &mut TokenReader<'_>,
 ) -> Result<Reached, NotRead>
     ensures { IfOk result (λ e. ReadsTo 1 reader.old (λ d. DenotesEntry topology.now d e) reader.new) }
 {
@@ -160,7 +161,7 @@ impl<'t> TokenRows for EntryRows<'t> {
 
     ghost denotes = { λ rows _. DenotesEntry rows.topology.now };
 
-    fn read_row(&self, _number: usize, reader: &mut Reader<'_>) -> Result<Reached, NotRead> {
+    fn read_row(&self, _number: usize, reader: &mut TokenReader<'_>) -> Result<Reached, NotRead> {
         entry_value(self.alloc, self.topology, reader)
     }
 }
@@ -169,7 +170,7 @@ impl<'t> TokenRows for EntryRows<'t> {
 pub(crate) fn entries_value(
     alloc: Global,
     topology: &Topology,
-    reader: &mut Reader<'_>,
+    reader: &mut TokenReader<'_>,
 ) -> Result<Vec<Reached>, NotRead>
     ensures { IfOk result (λ entries.
         ReadsTo 2 reader.old (λ d. DenotesTree topology.now d entries.items) reader.new) }

@@ -5,13 +5,14 @@ ghost use Rattle.serde_json.specs.Data.{Members, object};
 ghost use Rattle.mc_cert.specs.Denotation.{DenotesFlow};
 ghost use Rattle.mc_cert.specs.Tokens.{ReadsTo, DenotesFlows, HoldsFlow};
 
+use crate::key::Key;
 use crate::reached::Reached;
+use crate::token_reader::TokenReader;
 use crate::tokens::NotRead;
 use crate::tokens::entry::entries_value;
 use crate::tokens::list::{TokenRows, read_list};
 use crate::tokens::object::{Fields, read_object};
 use crate::tokens::value::address_value;
-use json::Reader;
 use mc_text::Addr;
 use mc_topology::Topology;
 use std::alloc::Global;
@@ -33,25 +34,25 @@ impl Fields for FlowFields {
         self,
         alloc: Global,
         topology: &Topology,
-        key: &str,
-        reader: &mut Reader<'_>,
+        key: Key,
+        reader: &mut TokenReader<'_>,
     ) -> Result<FlowFields, NotRead> {
         match key {
-            "group" => {
+            Key::Group => {
                 let group = address_value(reader)?;
                 Ok(FlowFields {
                     group: Some(group),
                     ..self
                 })
             }
-            "source" => {
+            Key::Source => {
                 let source = address_value(reader)?;
                 Ok(FlowFields {
                     source: Some(source),
                     ..self
                 })
             }
-            "reached" => {
+            Key::Reached => {
                 let entries = entries_value(alloc, topology, reader)?;
                 Ok(FlowFields {
                     reached: Some(entries),
@@ -94,7 +95,7 @@ fn flow_value(
     alloc: Global,
     topology: &Topology,
     number: u32,
-    reader: &mut Reader<'_>,
+    reader: &mut TokenReader<'_>,
 ) -> Result<Vec<Reached>, NotRead>
     requires listed { number < length topology.now.flows }
     ensures { IfOk result (λ entries. ReadsTo 3 reader.old
@@ -129,7 +130,11 @@ impl<'t> TokenRows for OwnEntriesRows<'t> {
 
     ghost denotes = { λ rows. DenotesFlow rows.topology.now };
 
-    fn read_row(&self, number: usize, reader: &mut Reader<'_>) -> Result<Vec<Reached>, NotRead> {
+    fn read_row(
+        &self,
+        number: usize,
+        reader: &mut TokenReader<'_>,
+    ) -> Result<Vec<Reached>, NotRead> {
         let _rules = self.topology.flows();
         flow_value(self.alloc, self.topology, number as u32, reader)
     }
@@ -139,7 +144,7 @@ impl<'t> TokenRows for OwnEntriesRows<'t> {
 pub(crate) fn flows_value(
     alloc: Global,
     topology: &Topology,
-    reader: &mut Reader<'_>,
+    reader: &mut TokenReader<'_>,
 ) -> Result<Vec<Vec<Reached>>, NotRead>
     ensures { IfOk result (λ flows. ReadsTo 4 reader.old
         (λ d. DenotesFlows topology.now d (map (λ es. es.items) flows.items)) reader.new) }

@@ -1,14 +1,13 @@
 //! Reads the rows of a list, one after the other.
 
 ghost use Rattle.std.specs.Prelude.{◌≡◌, ℕ, ◌+◌, ◌<◌, ◌≤◌, ◌∷◌, IfOk, map, vec_len};
-ghost use Rattle.json.specs.Token.{begin_array};
 ghost use Rattle.serde_json.specs.Data.{Data, Items, array};
 ghost use Rattle.mc_cert.specs.Denotation.{EachDenotes};
 ghost use Rattle.mc_cert.specs.Object.{rows_in};
 ghost use Rattle.mc_cert.specs.Tokens.{Reads};
 
+use crate::token_reader::TokenReader;
 use crate::tokens::NotRead;
-use json::{Reader, Token};
 use std::alloc::Global;
 
 /// How a row of a list is read.
@@ -31,20 +30,10 @@ pub(crate) trait TokenRows {
     ghost denotes: { Self → ℕ → Data → Row → Type 0 };
 
     /// Reads the row with this number, counted from 0.
-    fn read_row(&self, number: usize, reader: &mut Reader<'_>) -> Result<Self::Item, NotRead>
+    fn read_row(&self, number: usize, reader: &mut TokenReader<'_>) -> Result<Self::Item, NotRead>
         requires number { is_row_number self.now number }
         ensures { IfOk result (λ item. (d : Data) × Reads levels reader.old d reader.new
             × denotes self.now number d (item_view item)) };
-}
-
-/// Passes the bracket at a list's start.
-fn open_list(reader: &mut Reader<'_>) -> Result<(), NotRead>
-    ensures { IfOk result (λ _. reader.old ≡ begin_array ∷ reader.new) }
-{
-    match reader.next() {
-        Some(Token::BeginArray) => Ok(()),
-        _ => Err(NotRead),
-    }
 }
 
 /// Reads a list of at most this many rows.
@@ -52,7 +41,7 @@ pub(crate) fn read_list<R: TokenRows>(
     alloc: Global,
     rows: &R,
     most: usize,
-    reader: &mut Reader<'_>,
+    reader: &mut TokenReader<'_>,
 ) -> Result<Vec<R::Item>, NotRead>
     requires within { (n : ℕ) → n < most → R.is_row_number rows.now n }
     ensures rows { IfOk result (λ items. (ds : Items)
@@ -60,9 +49,9 @@ pub(crate) fn read_list<R: TokenRows>(
         × EachDenotes (R.denotes rows.now) 0 (rows_in ds) (map R.item_view items.items)) }
     ensures few { IfOk result (λ items. vec_len items ≤ most) }
 {
-    open_list(reader)?;
+    reader.open_list()?;
     let mut items = Vec::new(alloc);
-    'rows: while !reader.take_end_array() {
+    'rows: while !reader.take_end_of_list()? {
         if items.len() == most {
             return Err(NotRead);
         }

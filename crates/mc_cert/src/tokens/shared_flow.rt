@@ -4,11 +4,12 @@ ghost use Rattle.std.specs.Prelude.{◌≡◌, ◌<◌, None, IfSome, IfOk, leng
 ghost use Rattle.serde_json.specs.Data.{Members, object};
 ghost use Rattle.mc_cert.specs.Tokens.{ReadsTo, DenotesNumber, DenotesNumbers, HoldsSharedFlow};
 
+use crate::key::Key;
+use crate::token_reader::TokenReader;
 use crate::tokens::NotRead;
 use crate::tokens::list::{TokenRows, read_list};
 use crate::tokens::object::{Fields, read_object};
 use crate::tokens::value::{address_value, whole_value};
-use json::Reader;
 use mc_text::Addr;
 use mc_topology::Topology;
 use std::alloc::Global;
@@ -33,25 +34,25 @@ impl Fields for SharedFlowFields {
         self,
         _alloc: Global,
         _topology: &Topology,
-        key: &str,
-        reader: &mut Reader<'_>,
+        key: Key,
+        reader: &mut TokenReader<'_>,
     ) -> Result<SharedFlowFields, NotRead> {
         match key {
-            "tree" => {
+            Key::Tree => {
                 let tree = whole_value(0, LAST_TREE, reader)?;
                 Ok(SharedFlowFields {
                     tree: Some(tree),
                     ..self
                 })
             }
-            "group" => {
+            Key::Group => {
                 let group = address_value(reader)?;
                 Ok(SharedFlowFields {
                     group: Some(group),
                     ..self
                 })
             }
-            "source" => {
+            Key::Source => {
                 let source = address_value(reader)?;
                 Ok(SharedFlowFields {
                     source: Some(source),
@@ -94,7 +95,7 @@ fn tree_number_value(
     alloc: Global,
     topology: &Topology,
     number: u32,
-    reader: &mut Reader<'_>,
+    reader: &mut TokenReader<'_>,
 ) -> Result<u32, NotRead>
     requires listed { number < length topology.now.flows }
     ensures { IfOk result (λ tree. ReadsTo 1 reader.old
@@ -129,7 +130,7 @@ impl<'t> TokenRows for TreeNumberRows<'t> {
 
     ghost denotes = { λ rows. DenotesNumber rows.topology.now };
 
-    fn read_row(&self, number: usize, reader: &mut Reader<'_>) -> Result<u32, NotRead> {
+    fn read_row(&self, number: usize, reader: &mut TokenReader<'_>) -> Result<u32, NotRead> {
         let _rules = self.topology.flows();
         tree_number_value(self.alloc, self.topology, number as u32, reader)
     }
@@ -139,7 +140,7 @@ impl<'t> TokenRows for TreeNumberRows<'t> {
 pub(crate) fn tree_numbers_value(
     alloc: Global,
     topology: &Topology,
-    reader: &mut Reader<'_>,
+    reader: &mut TokenReader<'_>,
 ) -> Result<Vec<u32>, NotRead>
     ensures { IfOk result (λ numbers. ReadsTo 2 reader.old
         (λ d. DenotesNumbers topology.now d numbers.items) reader.new) }

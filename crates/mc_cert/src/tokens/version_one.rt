@@ -6,12 +6,13 @@ ghost use Rattle.mc_cert.specs.Denotation.{DenotesCertificate};
 ghost use Rattle.mc_cert.specs.Tokens.{HoldsVersionOne, IsVersionOne};
 
 use crate::certificate::Certificate;
+use crate::key::Key;
 use crate::reached::Reached;
+use crate::token_reader::TokenReader;
 use crate::tokens::NotRead;
 use crate::tokens::flow::flows_value;
 use crate::tokens::object::{Fields, read_document};
 use crate::tokens::value::whole_value;
-use json::{Reader, Scratch};
 use mc_topology::Topology;
 use std::alloc::Global;
 
@@ -32,18 +33,18 @@ impl Fields for VersionOneFields {
         self,
         alloc: Global,
         topology: &Topology,
-        key: &str,
-        reader: &mut Reader<'_>,
+        key: Key,
+        reader: &mut TokenReader<'_>,
     ) -> Result<VersionOneFields, NotRead> {
         match key {
-            "version" => {
+            Key::Version => {
                 let version = whole_value(1, 1, reader)?;
                 Ok(VersionOneFields {
                     version: Some(version),
                     ..self
                 })
             }
-            "flows" => {
+            Key::Flows => {
                 let flows = flows_value(alloc, topology, reader)?;
                 Ok(VersionOneFields {
                     flows: Some(flows),
@@ -86,12 +87,11 @@ pub(crate) fn version_one(
     alloc: Global,
     topology: &Topology,
     text: &str,
-    scratch: &mut Scratch,
 ) -> Result<Certificate, NotRead>
     requires few { length text.now ≤ 16777216 }
     ensures { IfOk result (DenotesCertificate topology.now text.now) }
 {
-    let fields = read_document(alloc, topology, VersionOneFields::new(), text, scratch)?;
+    let fields = read_document(alloc, topology, VersionOneFields::new(), text)?;
     let certificate = fields.certificate(topology)?;
     Ok(certificate)
 }

@@ -8,7 +8,9 @@ ghost use Rattle.mc_cert.specs.Tokens.{ReadsTo, DenotesTrees, HoldsVersionTwo, I
 
 use crate::certificate::Certificate;
 use crate::compact::are_below;
+use crate::key::Key;
 use crate::reached::Reached;
+use crate::token_reader::TokenReader;
 use crate::tokens::NotRead;
 use crate::tokens::entry::entries_value;
 use crate::tokens::list::{TokenRows, read_list};
@@ -16,7 +18,6 @@ use crate::tokens::object::{Fields, read_document};
 use crate::tokens::shared_flow::tree_numbers_value;
 use crate::tokens::value::whole_value;
 use crate::version_two::MAX_TREES;
-use json::{Reader, Scratch};
 use mc_topology::Topology;
 use std::alloc::Global;
 
@@ -43,7 +44,11 @@ impl<'t> TokenRows for TreeRows<'t> {
 
     ghost denotes = { λ rows _. DenotesTree rows.topology.now };
 
-    fn read_row(&self, _number: usize, reader: &mut Reader<'_>) -> Result<Vec<Reached>, NotRead> {
+    fn read_row(
+        &self,
+        _number: usize,
+        reader: &mut TokenReader<'_>,
+    ) -> Result<Vec<Reached>, NotRead> {
         entries_value(self.alloc, self.topology, reader)
     }
 }
@@ -52,7 +57,7 @@ impl<'t> TokenRows for TreeRows<'t> {
 fn trees_value(
     alloc: Global,
     topology: &Topology,
-    reader: &mut Reader<'_>,
+    reader: &mut TokenReader<'_>,
 ) -> Result<Vec<Vec<Reached>>, NotRead>
     ensures { IfOk result (λ trees. ReadsTo 3 reader.old
         (λ d. DenotesTrees topology.now d (map (λ es. es.items) trees.items)) reader.new) }
@@ -79,25 +84,25 @@ impl Fields for VersionTwoFields {
         self,
         alloc: Global,
         topology: &Topology,
-        key: &str,
-        reader: &mut Reader<'_>,
+        key: Key,
+        reader: &mut TokenReader<'_>,
     ) -> Result<VersionTwoFields, NotRead> {
         match key {
-            "flows" => {
+            Key::Flows => {
                 let numbers = tree_numbers_value(alloc, topology, reader)?;
                 Ok(VersionTwoFields {
                     flows: Some(numbers),
                     ..self
                 })
             }
-            "trees" => {
+            Key::Trees => {
                 let trees = trees_value(alloc, topology, reader)?;
                 Ok(VersionTwoFields {
                     trees: Some(trees),
                     ..self
                 })
             }
-            "version" => {
+            Key::Version => {
                 let version = whole_value(2, 2, reader)?;
                 Ok(VersionTwoFields {
                     version: Some(version),
@@ -160,12 +165,11 @@ pub(crate) fn version_two(
     alloc: Global,
     topology: &Topology,
     text: &str,
-    scratch: &mut Scratch,
 ) -> Result<Certificate, NotRead>
     requires few { length text.now ≤ 16777216 }
     ensures denotes { IfOk result (DenotesCertificate topology.now text.now) }
 {
-    let fields = read_document(alloc, topology, VersionTwoFields::new(), text, scratch)?;
+    let fields = read_document(alloc, topology, VersionTwoFields::new(), text)?;
     let certificate = fields.certificate(topology)?;
     Ok(certificate)
 }

@@ -1,4 +1,5 @@
-use Rattle.std.proofs.Common.{◌≡◌, ◌+◌, List, [], subst, arith}
+use Rattle.std.proofs.Common.{◌≡◌, ◌+◌, List, [], ap, ◌∙◌, subst, arith}
+use Rattle.json.specs.Lex.{tokens}
 use Rattle.json.specs.Token.{Token}
 use Rattle.serde_json.specs.Data.{object}
 use Rattle.mc_cert.specs.Tokens.{Reads}
@@ -13,6 +14,7 @@ returns g c =
     let none : rest ≡ [] = grind arith in (
       ms,
       read-from_Reads levels c.args.text.now (object ms) rest (omega (arith, c.requires.shallow))
-          (subst (λ (ts : List Token). Reads levels ts (object ms) rest) c.in_ok-reader.ensures.ok reads) none,
+          (subst (λ (ts : List Token). Reads levels ts (object ms) rest)
+          (c.new-reader.ensures ∙ ap tokens c.as_bytes.ensures.value) reads) none,
       held,
     )

@@ -1,28 +1,31 @@
-use Rattle.std.proofs.Common.{◌≡◌, ◌+◌, Some, None, arith}
+use Rattle.std.proofs.Common.{◌≡◌, Some, None, arith}
 use Rattle.json.specs.Json.{read_key}
 use Rattle.json.proofs.Grammar.{read_key-shorter}
 use Rattle.serde_json.specs.Data.{put}
-use Rattle.mc_cert.proofs.TokenLemmas.{shorter-from_Reads, ObjectSoFar-none, ObjectSoFar-more, Reads-object}
+use Rattle.mc_cert.specs.Keys.{key_name}
+use Rattle.mc_cert.proofs.TokenLemmas.{shorter-from_Reads, ObjectSoFar-more, Reads-object}
 use Rattle.mc_cert.proofs.tokens.object.read_object.Goals as goal
 
 pub members-smaller : goal.members-smaller
 members-smaller g c =
     let (d, reads, _) = c.in_ok-fields.ensures in
-    let key : read_key c.members.reader ≡ Some (Some c.in-Some.key.now, c.next_key.new.self) = grind arith in
+    let key : read_key c.members.reader ≡ Some (Some (key_name c.in-Some.key), c.next_key.new.self) =
+    grind arith in
     omega (
       arith,
       shorter-from_Reads g.F.Fields.levels c.next_key.new.self d c.read_field.new.reader reads,
-      read_key-shorter c.members.reader (Some c.in-Some.key.now) c.next_key.new.self key,
+      read_key-shorter c.members.reader (Some (key_name c.in-Some.key)) c.next_key.new.self key,
     )
 
 pub members-preserved : goal.members-preserved
 members-preserved g c =
     let (ms, so_far, holds) = c.members.invariant in
     let (d, reads, step) = c.in_ok-fields.ensures in
-    let key : read_key c.members.reader ≡ Some (Some c.in-Some.key.now, c.next_key.new.self) = grind arith
+    let key : read_key c.members.reader ≡ Some (Some (key_name c.in-Some.key), c.next_key.new.self) =
+    grind arith
     in (
-      put c.in-Some.key.now d ms,
-      ObjectSoFar-more g.F.Fields.levels c.open_object.new.reader ms c.in-Some.key.now c.members.reader
+      put (key_name c.in-Some.key) d ms,
+      ObjectSoFar-more g.F.Fields.levels c.open_object.new.self ms (key_name c.in-Some.key) c.members.reader
           c.next_key.new.self c.read_field.new.reader d so_far key reads,
       step ms holds,
     )
@@ -32,7 +35,7 @@ returns g c =
     let (ms, so_far, holds) = c.members.invariant in
     let over : read_key c.members.reader ≡ Some (None, c.next_key.new.self) = grind arith in (
       ms,
-      Reads-object g.F.Fields.levels c.args.reader.now c.open_object.new.reader ms c.members.reader
+      Reads-object g.F.Fields.levels c.args.reader.now c.open_object.new.self ms c.members.reader
           c.next_key.new.self c.in_ok-open_object.ensures so_far over,
       holds,
     )

@@ -1,11 +1,15 @@
-use Rattle.std.proofs.Common.{refl, sym}
+use Rattle.std.proofs.Common.{◌∷◌, refl, sym, ap, ◌∙◌}
+use Rattle.json.specs.Token.{string as string_token}
 use Rattle.serde_json.specs.Data.{string}
 use Rattle.mc_cert.proofs.TokenLemmas.{Reads-string}
 use Rattle.mc_cert.proofs.tokens.value.router_value.Goals as goal
 
 pub returns : goal.returns
-returns c = (
-  string c.in_ok-name.name.now,
-  Reads-string c.args.reader.now c.in_ok-name.name.now c.text.new.reader c.in_ok-name.ensures,
-  (c.in_ok-name.name.now, refl, sym c.in-Some.ensures.number),
-)
+returns c =
+    let name = c.in-Some.name.now in
+    let rest = c.text.new.self in (
+      string name,
+      Reads-string c.args.reader.now name rest
+          (c.in_ok-text.ensures ∙ ap (λ s. string_token s ∷ rest) (sym c.in-Some.ensures)),
+      (name, refl, sym c.in-Some-router_no.ensures.number),
+    )

@@ -1,71 +1,72 @@
-use Rattle.std.proofs.Common.{ℕ, List, Some, subst, sym}
+use Rattle.std.proofs.Common.{ℕ, List, Some, subst, sym, ap}
 use Rattle.serde_json.specs.Data.{put}
+use Rattle.mc_cert.specs.Keys.{key_name}
 use Rattle.mc_cert.specs.Tokens.{HoldsEntry}
 use Rattle.mc_cert.proofs.FieldLemmas.{HoldsEntry-lan, HoldsEntry-need, HoldsEntry-rank, HoldsEntry-router}
 use Rattle.mc_cert.proofs.FieldLemmas.{HoldsEntry-vif}
 use Rattle.mc_cert.proofs.tokens.entry.EntryFieldsFields.read_field.Goals as goal
 
-pub returns-in_ok-lan-in-lan : goal.returns-in_ok-lan-in-lan
-returns-in_ok-lan-in-lan c =
+pub returns-in_ok-lan-in-Lan : goal.returns-in_ok-lan-in-Lan
+returns-in_ok-lan-in-Lan c =
     let f = c.args.self in
     let t = c.args.topology.now in
-    let new = c.in_ok-lan-in-lan.lan in
-    let (d, reads, is) = c.in_ok-lan-in-lan.ensures in (
+    let new = c.in_ok-lan-in-Lan.lan in
+    let (d, reads, is) = c.in_ok-lan-in-Lan.ensures in (
       d,
       reads,
       λ ms held. subst (λ (k : List ℕ). HoldsEntry t (Some new) f.need f.rank f.router f.vif (put k d ms))
-          (sym c.in-lan.is)
+          (sym (ap key_name c.in-Lan.is))
           (HoldsEntry-lan t f.lan f.need f.rank f.router f.vif d ms new is held),
     )
 
-pub returns-in_ok-need-in-need : goal.returns-in_ok-need-in-need
-returns-in_ok-need-in-need c =
+pub returns-in_ok-need-in-Need : goal.returns-in_ok-need-in-Need
+returns-in_ok-need-in-Need c =
     let f = c.args.self in
     let t = c.args.topology.now in
-    let new = c.in_ok-need-in-need.need in
-    let (d, reads, is) = c.in_ok-need-in-need.ensures.value in (
+    let new = c.in_ok-need-in-Need.need in
+    let (d, reads, is) = c.in_ok-need-in-Need.ensures.value in (
       d,
       reads,
       λ ms held. subst (λ (k : List ℕ). HoldsEntry t f.lan (Some new) f.rank f.router f.vif (put k d ms))
-          (sym c.in-need.is)
+          (sym (ap key_name c.in-Need.is))
           (HoldsEntry-need t f.lan f.need f.rank f.router f.vif d ms new is held),
     )
 
-pub returns-in_ok-rank-in-rank : goal.returns-in_ok-rank-in-rank
-returns-in_ok-rank-in-rank c =
+pub returns-in_ok-rank-in-Rank : goal.returns-in_ok-rank-in-Rank
+returns-in_ok-rank-in-Rank c =
     let f = c.args.self in
     let t = c.args.topology.now in
-    let new = c.in_ok-rank-in-rank.rank in
-    let (d, reads, is) = c.in_ok-rank-in-rank.ensures.value in (
+    let new = c.in_ok-rank-in-Rank.rank in
+    let (d, reads, is) = c.in_ok-rank-in-Rank.ensures.value in (
       d,
       reads,
       λ ms held. subst (λ (k : List ℕ). HoldsEntry t f.lan f.need (Some new) f.router f.vif (put k d ms))
-          (sym c.in-rank.is)
+          (sym (ap key_name c.in-Rank.is))
           (HoldsEntry-rank t f.lan f.need f.rank f.router f.vif d ms new is held),
     )
 
-pub returns-in_ok-router-in-router : goal.returns-in_ok-router-in-router
-returns-in_ok-router-in-router c =
+pub returns-in_ok-router-in-Router : goal.returns-in_ok-router-in-Router
+returns-in_ok-router-in-Router c =
     let f = c.args.self in
     let t = c.args.topology.now in
-    let new = c.in_ok-router-in-router.router in
-    let (d, reads, is) = c.in_ok-router-in-router.ensures in (
+    let new = c.in_ok-router-in-Router.router in
+    let (d, reads, is) = c.in_ok-router-in-Router.ensures in (
       d,
       reads,
       λ ms held. subst (λ (k : List ℕ). HoldsEntry t f.lan f.need f.rank (Some new) f.vif (put k d ms))
-          (sym c.in-router.is)
+          (sym (ap key_name c.in-Router.is))
           (HoldsEntry-router t f.lan f.need f.rank f.router f.vif d ms new is held),
     )
 
-pub returns-in_ok-vif-in-vif : goal.returns-in_ok-vif-in-vif
-returns-in_ok-vif-in-vif c =
+pub returns-in_ok-vif-in-Vif : goal.returns-in_ok-vif-in-Vif
+returns-in_ok-vif-in-Vif c =
     let f = c.args.self in
     let t = c.args.topology.now in
-    let new = c.in_ok-vif-in-vif.vif in
-    let (d, reads, is) = c.in_ok-vif-in-vif.ensures.value in (
+    let new = c.in_ok-vif-in-Vif.vif in
+    let (d, reads, is) = c.in_ok-vif-in-Vif.ensures.value in (
       d,
       reads,
       λ ms held. subst (λ (k : List ℕ). HoldsEntry t f.lan f.need f.rank f.router (Some new) (put k d ms))
-          (sym c.in-vif.is)
+          (sym (ap key_name c.in-Vif.is))
           (HoldsEntry-vif t f.lan f.need f.rank f.router f.vif d ms new is held),
     )

@@ -1,0 +1,9 @@
+use Rattle.std.proofs.Common.{length}
+use Rattle.mc_cert.proofs.JsonStringLemmas.{UnescapedSoFar}
+use Rattle.mc_cert.proofs.json_string.read_escaped.Given as goal
+
+abbrev pub invariant-loop-byte : goal.invariant-loop-byte
+invariant-loop-byte l = UnescapedSoFar l.text l.bytes.items l.rest
+
+abbrev pub decreases-loop-byte : goal.decreases-loop-byte
+decreases-loop-byte l = length l.rest

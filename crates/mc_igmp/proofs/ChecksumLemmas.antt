@@ -11,6 +11,15 @@ unfolding word_sum
 word_sum-cons (a ∷ b ∷ rest) h = refl
 word_sum-cons _ h = absurd (omega arith)
 
+-- the sum is the first four words and the sum of the others
+pub word_sum-eight : (s : List ℕ) → 8 ≤ length s
+    → word_sum s ≡ (256 * get_or s 0 0 + get_or s 1 0) + ((256 * get_or s 2 0 + get_or s 3 0)
+    + ((256 * get_or s 4 0 + get_or s 5 0) + ((256 * get_or s 6 0 + get_or s 7 0)
+    + word_sum (drop 8 s))))
+unfolding word_sum
+word_sum-eight (a ∷ b ∷ c ∷ d ∷ e ∷ f ∷ g ∷ h ∷ rest) l = refl
+word_sum-eight _ l = absurd (omega arith)
+
 -- the sum of an odd last byte, or of none
 pub word_sum-last : (s : List ℕ) → length s < 2 → word_sum s ≡ 256 * get_or s 0 0
 unfolding word_sum

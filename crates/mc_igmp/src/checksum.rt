@@ -1,24 +1,25 @@
 //! The checksum of an IGMP message (RFC 1071).
 
-ghost use Rattle.std.specs.Prelude.{◌≡◌, ◌≤◌, ◌+◌, ◌%◌, ◌&&◌, ◌==◌, ◌↔◌, nat_lt, length};
+ghost use Rattle.std.specs.Prelude.{◌≡◌, ◌<◌, ◌≤◌, ◌+◌, ◌%◌, ◌^◌, ◌&&◌, ◌==◌, ◌↔◌, nat_lt, length};
 ghost use Rattle.mc_igmp.specs.Checksum.{word_sum};
 
 /// Ones in all sixteen bits.
 const ALL_ONES: u64 = 0xffff;
 
-/// The number of bytes whose words are added up at a time, a whole number of words. Their sum fits in
-/// 32 bits.
+/// The number of bytes whose words are added up before the carries, a whole number of words. Their sum
+/// fits in 32 bits, and the sum of their pairs of words in 64.
 const PIECE_LEN: usize = 65_536;
 
 /// The one's complement sum of a sum and a number: carries out of the sixteen bits are added at their
 /// low end.
-fn add_with_carries(sum: u64, number: u32) -> u64
+fn add_with_carries(sum: u64, number: u64) -> u64
     requires bounded { sum ≤ ALL_ONES }
+    requires small { number < 2 ^ 47 }
     ensures bound { result ≤ ALL_ONES }
     ensures congruent { result % 65535 ≡ (sum + number) % 65535 }
     ensures zero { (result ≡ 0) ↔ (sum + number ≡ 0) }
 {
-    let total = sum + u64::from(number);
+    let total = sum + number;
     if total == 0 {
         0
     } else {
@@ -43,6 +44,24 @@ fn sum_of_words(piece: &[u8]) -> u32
     }
 }
 
+/// The sum of the words of a piece, but for multiples of 65,535. Two words are added at a time, as a number
+/// of 32 bits, of which the first word is the carry (RFC 1071, section 2(C)).
+fn sum_of_pairs(piece: &[u8]) -> u64
+    requires bounded { length piece.now ≤ PIECE_LEN }
+    ensures congruent { result % 65535 ≡ word_sum piece.now % 65535 }
+    ensures zero { (result ≡ 0) ↔ (word_sum piece.now ≡ 0) }
+    ensures small { result < 2 ^ 47 }
+{
+    let mut sum = 0u64;
+    let mut rest = piece;
+    while let [a, b, c, d, e, f, g, h, others @ ..] = rest {
+        sum += u64::from(u32::from_be_bytes([*a, *b, *c, *d]));
+        sum += u64::from(u32::from_be_bytes([*e, *f, *g, *h]));
+        rest = others;
+    }
+    sum + u64::from(sum_of_words(rest))
+}
+
 /// The one's complement sum of the words of a message. A message of at most `PIECE_LEN` bytes, as is
 /// each that fits in an IP packet, is summed at once, and the carries are added at the end.
 fn ones_complement_sum(message: &[u8]) -> u64
@@ -54,7 +73,7 @@ fn ones_complement_sum(message: &[u8]) -> u64
     let mut rest = message;
     while !rest.is_empty() {
         let (piece, others) = rest.split_at(rest.len().min(PIECE_LEN));
-        sum = add_with_carries(sum, sum_of_words(piece));
+        sum = add_with_carries(sum, sum_of_pairs(piece));
         rest = others;
     }
     sum

@@ -266,7 +266,8 @@ further_wants-from all a lists =
 -- all are shown or further ones
 pub count_wants-split : (all : Bool) (a : AnswersValue) (lists : List (List Record))
     → count_wants (lan_wants_from all a 0 lists)
-    ≡ count_shown (asked_lines all (lan_wants_from all a 0 lists)) + further_wants all (lan_wants_from all a 0 lists)
+    ≡ count_shown (asked_lines all (lan_wants_from all a 0 lists)) + further_wants all
+    (lan_wants_from all a 0 lists)
 count_wants-split all a lists =
     let parts = asked_from a 0 lists in
     let shown = shown_of_parts all parts in

@@ -1,13 +1,14 @@
 -- The pairs of one group, which stand together among ascending pairs.
-use Rattle.std.proofs.Common.{◌≡◌, ℕ, zero, suc, ◌+◌, ◌-◌, ◌<◌, ◌≤◌, ◌==◌, Bool, true, false, cond, List, []}
-use Rattle.std.proofs.Common.{◌∷◌, ◌++◌, drop, filter, get_or, length, map, set, take, arith, refl, sym, ap, ap₂}
-use Rattle.std.proofs.Common.{subst, ◌∙◌, leb, ltb, inl, inr}
+use Rattle.std.proofs.Common.{◌≡◌, ℕ, zero, suc, ◌+◌, ◌-◌, ◌<◌, ◌≤◌, ◌==◌, Bool, true, false, cond}
+use Rattle.std.proofs.Common.{List, [], ◌∷◌, ◌++◌, drop, filter, get_or, length, map, set, take, arith}
+use Rattle.std.proofs.Common.{refl, sym, ap, ap₂, subst, ◌∙◌, leb, ltb, inl, inr}
 use Rattle.std.specs.List.{AllWithin}
 use Rattle.std.specs.List.Sorted.{IsNonDecreasingBy, IsStrictlySortedBy, IsPartitionPoint}
 use Rattle.std.specs.declared.cmp.Ordering.TheVariants.{Less}
 use Rattle.std.proofs.lemmas.Bool.{cases_lt}
 use Rattle.std.proofs.lemmas.Bool.Decides.{nat_tests}
-use Rattle.std.proofs.lemmas.List.{get_or-drop, get_or-map, length-drop, length-map, take-append-drop, take_more}
+use Rattle.std.proofs.lemmas.List.{get_or-drop, get_or-map, length-drop, length-map, take-append-drop}
+use Rattle.std.proofs.lemmas.List.{take_more}
 use Rattle.mc_tables.specs.CacheTable.{key_cmp}
 use Rattle.mc_asked.specs.GroupRun.{IsRunOf, with_run}
 use Rattle.mc_asked.proofs.OneKeyLemmas.{set-next}
@@ -119,8 +120,8 @@ module _ {A : Type 0} (test : A → Bool) where
   with_run-cond f (x ∷ xs) zero zero ordered within before inside behind =
       ap₂ (λ (y : A) (ys : List A). y ∷ ys)
       (sym (ap (λ t. cond t (f x) x) (behind 0 x (omega arith) (omega arith))))
-      (with_run-cond f xs zero zero (omega arith) (omega arith) (none-within Fails xs 0) (none-within Passes xs 0)
-      (behind-zero Fails x xs (length xs) behind))
+      (with_run-cond f xs zero zero (omega arith) (omega arith) (none-within Fails xs 0)
+      (none-within Passes xs 0) (behind-zero Fails x xs (length xs) behind))
   with_run-cond f (x ∷ xs) zero (suc b) ordered within before inside behind =
       let small : b ≡ b - 0 = omega arith in
       let large : suc b - 0 ≡ suc b = omega arith in
@@ -136,12 +137,13 @@ module _ {A : Type 0} (test : A → Bool) where
       ap₂ (λ (y : A) (ys : List A). y ∷ ys)
       (sym (ap (λ t. cond t (f x) x) (before 0 x (omega arith) (omega arith))))
       (ap (λ n. take a xs ++ (map f (take n (drop a xs)) ++ drop b xs)) size
-      ∙ with_run-cond f xs a b (omega (arith, ordered)) (omega (arith, within)) (behind-zero Fails x xs a before)
+      ∙ with_run-cond f xs a b (omega (arith, ordered)) (omega (arith, within))
+      (behind-zero Fails x xs a before)
       (behind-first Passes x xs a b inside) (behind-first Fails x xs b (length xs) behind))
 
 -- by the keys of elements
-pub with_run-of_keys : {A : Type 0} (key : A → ℕ × ℕ) (f : A → A) (group : ℕ) (ks : List (ℕ × ℕ)) (xs : List A)
-    (run : ℕ × ℕ) → ks ≡ map key xs → IsRunOf group ks run
+pub with_run-of_keys : {A : Type 0} (key : A → ℕ × ℕ) (f : A → A) (group : ℕ) (ks : List (ℕ × ℕ))
+    (xs : List A) (run : ℕ × ℕ) → ks ≡ map key xs → IsRunOf group ks run
     → with_run f run xs ≡ map (λ x. cond ((key x).0 == group) (f x) x) xs
 with_run-of_keys {A} key f group ks xs run are is =
     let count : length ks ≡ length xs = ap length are ∙ length-map xs key in
@@ -152,8 +154,8 @@ with_run-of_keys {A} key f group ks xs run are is =
     let at : get_or ks k (0, 0) ≡ key (get_or xs k d) =
     ap (λ l. get_or l k (0, 0)) are ∙ get_or-map key xs k d (0, 0) (omega (arith, lt, within, count)) in
     subst (λ (p : ℕ × ℕ). (p.0 == group) ≡ b) at (holds k (0, 0) le lt) in
-    with_run-cond (λ (x : A). (key x).0 == group) f xs run.0 run.1 is.ordered (omega (arith, is.within, count))
-    (all false 0 run.0 (omega (arith, is.ordered, is.within)) is.before)
+    with_run-cond (λ (x : A). (key x).0 == group) f xs run.0 run.1 is.ordered
+    (omega (arith, is.within, count)) (all false 0 run.0 (omega (arith, is.ordered, is.within)) is.before)
     (all true run.0 run.1 is.within is.inside)
     (subst (λ n. AllWithin (λ (x : A). ((key x).0 == group) ≡ false) xs run.1 n) count
     (all false run.1 (length ks) (omega arith) is.behind))
@@ -193,7 +195,8 @@ module _ {A : Type 0} (f : A → A) where
       let size : b - 0 ≡ b = omega arith in
       ap (λ n. map f (take n xs) ++ drop b xs) size
 
-  with_run-suc : (x : A) (xs : List A) (a b : ℕ) → with_run f (suc a, suc b) (x ∷ xs) ≡ x ∷ with_run f (a, b) xs
+  with_run-suc : (x : A) (xs : List A) (a b : ℕ)
+      → with_run f (suc a, suc b) (x ∷ xs) ≡ x ∷ with_run f (a, b) xs
   with_run-suc x xs a b =
       let size : suc b - suc a ≡ b - a = omega arith in
       ap (λ n. x ∷ (take a xs ++ (map f (take n (drop a xs)) ++ drop b xs))) size
@@ -214,7 +217,7 @@ module _ {A : Type 0} (f : A → A) where
       ∙ ap (λ n. with_run f (suc a, n) (x ∷ xs)) next
 
   -- the next one
-  pub with_run-more : (xs now : List A) (a b : ℕ) (y d : A) → a ≤ b → b < length xs → now ≡ with_run f (a, b) xs
-      → y ≡ f (get_or now b d) → set now b y ≡ with_run f (a, b + 1) xs
+  pub with_run-more : (xs now : List A) (a b : ℕ) (y d : A) → a ≤ b → b < length xs
+      → now ≡ with_run f (a, b) xs → y ≡ f (get_or now b d) → set now b y ≡ with_run f (a, b + 1) xs
   with_run-more xs now a b y d le lt so_far is =
       ap (set now b) is ∙ ap (λ l. set l b (f (get_or l b d))) so_far ∙ set-with_run xs a b d le lt

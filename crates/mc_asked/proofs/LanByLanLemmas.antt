@@ -1,7 +1,7 @@
 -- The sources that the filter of none of a want's LANs admits, with one LAN more.
-use Rattle.std.proofs.Common.{◌≡◌, ℕ, zero, suc, ◌+◌, ◌<◌, ◌==◌, Bool, true, false, not, cond, inl, inr, List, []}
-use Rattle.std.proofs.Common.{◌∷◌, ◌++◌, filter, flat_map, length, map, take, get_or, Some, refl, sym, ap, ap₂}
-use Rattle.std.proofs.Common.{subst, ◌∙◌, arith, append-nil, length-take}
+use Rattle.std.proofs.Common.{◌≡◌, ℕ, zero, suc, ◌+◌, ◌<◌, ◌==◌, Bool, true, false, not, cond, inl, inr}
+use Rattle.std.proofs.Common.{List, [], ◌∷◌, ◌++◌, filter, flat_map, length, map, take, get_or, Some}
+use Rattle.std.proofs.Common.{refl, sym, ap, ap₂, subst, ◌∙◌, arith, append-nil, length-take}
 use Rattle.std.specs.Prelude.{◌&&◌, ◌||◌, ◌↔◌, Contains, slice_get}
 use Rattle.std.specs.List.{list_any}
 use Rattle.std.specs.List.Sorted.{IsStrictlyIncreasing, IsStrictlySortedBy}
@@ -20,9 +20,8 @@ use Rattle.mc_tables.specs.CacheTable.{key_cmp}
 use Rattle.mc_tables.specs.ListedRows.{is_listed}
 use Rattle.mc_tables.specs.Summary.{in_order, shown_pairs}
 use Rattle.mc_theory.specs.Lists.{In, below}
-use Rattle.mc_theory.proofs.ListLemmas.{in-below, in-below_cases, in-filter, in-filter_cases, in-flat_map_cases}
-use Rattle.mc_theory.proofs.ListLemmas.{in-map, in-map_cases}
-use Rattle.mc_theory.proofs.ListLemmas.{slice_get-map_some}
+use Rattle.mc_theory.proofs.ListLemmas.{in-below, in-below_cases, in-filter, in-filter_cases}
+use Rattle.mc_theory.proofs.ListLemmas.{in-flat_map_cases, in-map, in-map_cases, slice_get-map_some}
 use Rattle.mc_asked.specs.Answers.{AnswersValue, class_of}
 use Rattle.mc_asked.specs.AskedLines.{asked_lines, lan_wants_from, wants_of_lans}
 use Rattle.mc_asked.specs.GroupRun.{seconds_of}
@@ -30,17 +29,17 @@ use Rattle.mc_asked.specs.LanWants.{LanWantsValue, asked_wants, is_asked_class, 
 use Rattle.mc_asked.specs.ListWants.{Want, wants_in}
 use Rattle.mc_asked.specs.PairParts.{parts_with, shown_of_parts, with_parts}
 use Rattle.mc_asked.specs.Unadmitted.{is_admitted, list_of, unadmitted_by, unadmitted_in, with_unadmitted}
-use Rattle.mc_asked.specs.UnadmittedSoFar.{AreSourcesBelow, WantSourcesValue, as_asked, groups_from_any, is_empty}
-use Rattle.mc_asked.specs.UnadmittedSoFar.{is_shared_any, sources_so_far, wants_below, with_lan, with_lan_at}
-use Rattle.mc_asked.specs.UnadmittedSoFar.{with_unadmitted_of, without_sources}
+use Rattle.mc_asked.specs.UnadmittedSoFar.{AreSourcesBelow, WantSourcesValue, as_asked, groups_from_any}
+use Rattle.mc_asked.specs.UnadmittedSoFar.{is_empty, is_shared_any, sources_so_far, wants_below}
+use Rattle.mc_asked.specs.UnadmittedSoFar.{with_lan, with_lan_at, with_unadmitted_of, without_sources}
 use Rattle.mc_asked.specs.WantStates.{is_key}
 use Rattle.mc_asked.proofs.LawLemmas.{any-from_in, has-from_in, has_exclude-from_any, in-from_has}
 use Rattle.mc_asked.proofs.NoFilterLemmas.{firsts-sorted, or-false}
 use Rattle.mc_asked.proofs.NoFilterLemmas.{unadmitted-more, unadmitted-one, unadmitted-unique}
 use Rattle.mc_asked.proofs.NoFilterLemmas.{unadmitted_by-are}
 use Rattle.mc_asked.proofs.OneKeyLemmas.{equal-from_is_key, is_key-itself}
-use Rattle.mc_asked.proofs.PartLemmas.{equal_bools-from_both, in-from_in_order, in-from_is_listed, in-from_take}
-use Rattle.mc_asked.proofs.PartLemmas.{is_listed-from_in}
+use Rattle.mc_asked.proofs.PartLemmas.{equal_bools-from_both, in-from_in_order, in-from_is_listed}
+use Rattle.mc_asked.proofs.PartLemmas.{in-from_take, is_listed-from_in}
 use Rattle.mc_asked.proofs.SharedPairLemmas.{map-equal_on_list, map-with_parts, parts_with-push}
 use Rattle.mc_asked.proofs.WantStateLemmas.{and-false}
 
@@ -74,7 +73,8 @@ in-wants_in all a lan records w h =
     (in-filter_cases (λ want. is_asked_class (class_of a lan records want)) w (wants_in records)
     (in-asked all h)).0
   where
-    in-asked : (all : Bool) → In w (shown_pairs all (asked_wants a lan records)) → In w (asked_wants a lan records)
+    in-asked : (all : Bool) → In w (shown_pairs all (asked_wants a lan records))
+        → In w (asked_wants a lan records)
     in-asked true h = h
     in-asked false h = in-from_take 20 w (asked_wants a lan records) h
 
@@ -126,7 +126,8 @@ module _ (all : Bool) (a : AnswersValue) (lists : List (List Record)) where
       has_exclude-from_lowest all a (0 + n) (list_of lists n) w
       (listed-below all a 0 lists lan n w (in-below_cases n (length (parts_below lan)) found.0) found.1) any
 
-  module _ (lan : ℕ) (own : LanWantsValue) (at : slice_get (lan_wants_from all a 0 lists) lan ≡ Some own) where
+  module _ (lan : ℕ) (own : LanWantsValue)
+      (at : slice_get (lan_wants_from all a 0 lists) lan ≡ Some own) where
     kept_at : slice_get (wants_of_lans (lan_wants_from all a 0 lists)) lan ≡ Some own.lowest
     kept_at = slice_get-map_some (λ (o : LanWantsValue). o.lowest) (lan_wants_from all a 0 lists) lan own at
 
@@ -204,16 +205,17 @@ module _ (all : Bool) (a : AnswersValue) (lists : List (List Record)) where
         → (any ≡ true → listed ≡ true → has_exclude (list_of lists lan) w.0 ≡ true)
         → (any ≡ true → (n : ℕ) → In n ns → has_exclude (list_of lists n) w.0 ≡ true)
         → cond (any && has groups w.0)
-        (with_lan (seconds_of w.0 (unadmitted_in (list_of lists lan) groups)) (so_far_by any w ns)) (so_far_by any w ns)
+        (with_lan (seconds_of w.0 (unadmitted_in (list_of lists lan) groups)) (so_far_by any w ns))
+        (so_far_by any w ns)
         ≡ so_far_by any w (ns ++ cond listed (lan ∷ []) [])
     so_far-step w groups ns false listed known is each = so_far-single w ns (ns ++ cond listed (lan ∷ []) [])
     so_far-step w groups ns true true known is each =
-        ap (λ b. cond b (with_lan (seconds_of w.0 (unadmitted_in (list_of lists lan) groups)) (so_far_by true w ns))
-        (so_far_by true w ns)) (known refl)
+        ap (λ b. cond b (with_lan (seconds_of w.0 (unadmitted_in (list_of lists lan) groups))
+        (so_far_by true w ns)) (so_far_by true w ns)) (known refl)
         ∙ so_far-with w groups ns (known refl) (is refl refl) (each refl)
     so_far-step w groups ns true false known is each =
-        ap (λ b. cond b (with_lan (seconds_of w.0 (unadmitted_in (list_of lists lan) groups)) (so_far_by true w ns))
-        (so_far_by true w ns)) (known refl)
+        ap (λ b. cond b (with_lan (seconds_of w.0 (unadmitted_in (list_of lists lan) groups))
+        (so_far_by true w ns)) (so_far_by true w ns)) (known refl)
         ∙ ap (so_far_by true w) (sym (append-nil ns))
 
     -- ---- all wants
@@ -230,7 +232,8 @@ module _ (all : Bool) (a : AnswersValue) (lists : List (List Record)) where
           let found = in-map_cases (λ (v : Want). v.0) w.0 (filter (is_shared_any wants) own.lowest)
           (in-from_has groups w.0 e) in
           let kept = in-filter_cases (is_shared_any wants) found.0 own.lowest found.1 in
-          let source = eqb-true found.0.1 0 (and_parts (found.0.1 == 0) (is_listed (Some wants) found.0) kept.1).0 in
+          let source = eqb-true found.0.1 0
+          (and_parts (found.0.1 == 0) (is_listed (Some wants) found.0) kept.1).0 in
           let same : found.0 ≡ w = ap₂ (λ (g s : ℕ). (g, s)) found.2 (source ∙ sym (eqb-true w.1 0 any)) in
           is_listed-from_in w own.lowest (subst (λ (v : Want). In v own.lowest) same kept.0))
           (λ e. has-from_in groups w.0 (in-map (λ (v : Want). v.0) w (filter (is_shared_any wants) own.lowest)
@@ -238,10 +241,12 @@ module _ (all : Bool) (a : AnswersValue) (lists : List (List Record)) where
           (and_from (w.1 == 0) (is_listed (Some wants) w) any (is_listed-from_in w wants h)))))
 
       so_far-next : (w : Want) → In w wants
-          → with_unadmitted_of groups (unadmitted_in (list_of lists lan) groups) (so_far lan w) ≡ so_far (lan + 1) w
+          → with_unadmitted_of groups (unadmitted_in (list_of lists lan) groups) (so_far lan w)
+          ≡ so_far (lan + 1) w
       so_far-next w h =
           let ns = parts_with (parts_below lan) w in
-          so_far-step w groups ns (w.1 == 0) (is_own w) (has-groups w h) (λ any listed. has_exclude-of_own w listed any)
+          so_far-step w groups ns (w.1 == 0) (is_own w) (has-groups w h)
+          (λ any listed. has_exclude-of_own w listed any)
           (λ any n k. has_exclude-of_part lan n w any k)
           ∙ ap (λ (l : List ℕ). sources_so_far lists (w, l)) (sym (parts_with-next w))
 
@@ -275,8 +280,10 @@ module _ (all : Bool) (a : AnswersValue) (lists : List (List Record)) where
               (and_from (w.1 == 0) (is_listed (Some wants) w) any (is_listed-from_in w wants h))) ∙ none))
           by true false any is = ap (so_far_by true w) (sym (append-nil (parts_with (parts_below lan) w)))
 
-      pub sources-without_list : (sources : List WantSourcesValue) → AreSourcesBelow all a lists lan wants sources
-          → list_any (is_shared_any wants) own.lowest ≡ false → AreSourcesBelow all a lists (lan + 1) wants sources
+      pub sources-without_list : (sources : List WantSourcesValue)
+          → AreSourcesBelow all a lists lan wants sources
+          → list_any (is_shared_any wants) own.lowest ≡ false
+          → AreSourcesBelow all a lists (lan + 1) wants sources
       sources-without_list sources are none =
           are ∙ map-equal_on_list (so_far lan) (so_far (lan + 1)) wants (λ w h. so_far-other w h none)
 
@@ -291,13 +298,19 @@ module _ (all : Bool) (a : AnswersValue) (lists : List (List Record)) where
 
   -- ---- before the first LAN, and after the last one
 
-  pub sources-before_first : (wants : List Want) → AreSourcesBelow all a lists 0 wants (map without_sources wants)
+  pub sources-before_first : (wants : List Want)
+      → AreSourcesBelow all a lists 0 wants (map without_sources wants)
   unfolding below
   sources-before_first wants =
-      map-equal_on_list without_sources (λ w. sources_so_far lists (with_parts [] w)) wants (λ w h. by w (w.1 == 0))
+      map-equal_on_list without_sources (λ w. sources_so_far lists (with_parts [] w)) wants
+      (λ w h. by w (w.1 == 0))
     where
       by : (w : Want) (any : Bool) → without_sources w
-          ≡ (let s : WantSourcesValue = record { want = w; is_begun = false; unadmitted = cond any [] [] } in s)
+          ≡ (let s : WantSourcesValue = record {
+            want = w;
+            is_begun = false;
+            unadmitted = cond any [] [];
+          } in s)
       by w true = refl
       by w false = refl
 
@@ -311,13 +324,15 @@ module _ (all : Bool) (a : AnswersValue) (lists : List (List Record)) where
       let shown = shown_of_parts all parts in
       let line : Want → Want × List ℕ = with_parts parts in
       let count : length parts ≡ length lists =
-      length-map (lan_wants_from all a 0 lists) (λ (o : LanWantsValue). o.lowest) ∙ length-lan_wants_from all a 0 lists in
+      length-map (lan_wants_from all a 0 lists) (λ (o : LanWantsValue). o.lowest)
+      ∙ length-lan_wants_from all a 0 lists in
       let whole : parts_below (length lists) ≡ parts =
       ap (λ n. take n parts) (sym count) ∙ take_whole parts in
       let keys : map (λ (l : Want × List ℕ). l.0) lines ≡ shown =
       ap (map (λ (l : Want × List ℕ). l.0)) lines_are ∙ map-with_parts parts shown in
       let own : sources ≡ map (λ w. sources_so_far lists (line w)) shown =
-      are ∙ ap₂ (λ (ps : List (List Want)) (ws : List Want). map (λ w. sources_so_far lists (with_parts ps w)) ws) whole keys in
+      are ∙ ap₂ (λ (ps : List (List Want)) (ws : List Want).
+      map (λ w. sources_so_far lists (with_parts ps w)) ws) whole keys in
       ap (map as_asked) own
       ∙ map-map as_asked (λ w. sources_so_far lists (line w)) shown
       ∙ sym (map-map (with_unadmitted lists) line shown)
@@ -334,10 +349,12 @@ module _ (all : Bool) (a : AnswersValue) (lists : List (List Record)) where
       → (n : ℕ) × In n (parts_with ps w)
   in-some_part w ps h =
       let whole = flat_map (λ (part : List Want). part) ps in
-      let found = in-flat_map_cases (λ (part : List Want). part) w ps (in-from_in_order w whole (shown all h)) in
+      let found = in-flat_map_cases (λ (part : List Want). part) w ps
+      (in-from_in_order w whole (shown all h)) in
       let at = place found.0 ps found.1 in (
         at.0,
-        in-filter (λ n. is_listed (slice_get ps n) w) at.0 (below (length ps)) (in-below at.0 (length ps) at.1.0)
+        in-filter (λ n. is_listed (slice_get ps n) w) at.0 (below (length ps))
+            (in-below at.0 (length ps) at.1.0)
             (ap (λ o. is_listed o w) at.1.1 ∙ is_listed-from_in w found.0 found.2),
       )
     where
@@ -363,7 +380,8 @@ module _ (all : Bool) (a : AnswersValue) (lists : List (List Record)) where
       let want : found.0 ≡ (group, 0) = ap (λ (line : Want × List ℕ). line.0) found.2 in
       let own : parts_with parts (group, 0) ≡ ns =
       ap (parts_with parts) (sym want) ∙ ap (λ (line : Want × List ℕ). line.1) found.2 in
-      let some = in-some_part (group, 0) parts (subst (λ (w : Want). In w (shown_of_parts all parts)) want found.1) in
+      let some = in-some_part (group, 0) parts
+      (subst (λ (w : Want). In w (shown_of_parts all parts)) want found.1) in
       by ns some.0 (subst (λ l. In some.0 l) own some.1)
       (λ n k. each n (subst (λ l. In n l) (sym own) k))
     where
@@ -372,7 +390,8 @@ module _ (all : Bool) (a : AnswersValue) (lists : List (List Record)) where
           has_exclude-of_part all a lists (length parts) n (group, 0) refl
           (subst (λ (ps : List (List Want)). In n (parts_with ps (group, 0))) (sym (take_whole parts)) k)
 
-      decided : (sources : List ℕ) (b : Bool) → has sources source ≡ not b → Contains sources source ↔ (b ≡ false)
+      decided : (sources : List ℕ) (b : Bool) → has sources source ≡ not b
+          → Contains sources source ↔ (b ≡ false)
       decided sources b is = grind (arith, Decides-has sources source)
 
       by : (ns : List ℕ) (m : ℕ) → In m ns → ((n : ℕ) → In n ns → has_exclude (list_of lists n) group ≡ true)
@@ -380,7 +399,8 @@ module _ (all : Bool) (a : AnswersValue) (lists : List (List Record)) where
       by [] m none is = absurd none
       by (n ∷ ns) m some is =
           let are = unadmitted_by-are lists group n ns (is n (inl refl)) in
-          decided (unadmitted_by lists group (n ∷ ns)) (is_admitted lists (n ∷ ns) group source) (are.each source)
+          decided (unadmitted_by lists group (n ∷ ns)) (is_admitted lists (n ∷ ns) group source)
+          (are.each source)
 
 pub wants-of_without_sources : (wants : List Want)
     → map (λ (s : WantSourcesValue). s.want) (map without_sources wants) ≡ wants
@@ -394,7 +414,8 @@ pub groups_from_any-ascend : (wants own : List Want) → IsStrictlySortedBy key_
     → IsStrictlyIncreasing (groups_from_any wants own)
 groups_from_any-ascend wants own up =
     IsStrictlyIncreasing-from_sorted (groups_from_any wants own)
-    (firsts-sorted 0 (filter (is_shared_any wants) own) (IsStrictlySortedBy-filter key_cmp (is_shared_any wants) own up)
+    (firsts-sorted 0 (filter (is_shared_any wants) own)
+    (IsStrictlySortedBy-filter key_cmp (is_shared_any wants) own up)
     (λ w h. eqb-true w.1 0 (and_parts (w.1 == 0) (is_listed (Some wants) w)
     (in-filter_cases (is_shared_any wants) w own h).1).0))
 
@@ -403,7 +424,8 @@ has-take_ascending : (groups : List ℕ) (k g : ℕ) → IsStrictlyIncreasing gr
     → g ≡ get_or groups k g → has (take k groups) g ≡ false
 has-take_ascending groups k g up lt at = by (has (take k groups) g) refl
   where
-    place : (k : ℕ) (xs : List ℕ) → In g (take k xs) → (j : ℕ) × ((j < k) × ((j < length xs) × (get_or xs j g ≡ g)))
+    place : (k : ℕ) (xs : List ℕ) → In g (take k xs)
+        → (j : ℕ) × ((j < k) × ((j < length xs) × (get_or xs j g ≡ g)))
     place zero xs h = absurd h
     place (suc k) [] h = absurd h
     place (suc k) (x ∷ xs) (inl e) = (0, (omega arith, (omega arith, e)))
@@ -452,7 +474,8 @@ module _ (unadmitted : List (ℕ × ℕ)) where
       -- by whether the want had one of the groups, and whether it has this one
       before : (old key : Bool) → ((s.want.1 == 0) && has groups s.want.0) ≡ old → is_key (g, 0) s.want ≡ key
           → with_lan_at g (seconds_of g unadmitted) (step_of groups s)
-          ≡ cond key (with_lan (seconds_of g unadmitted) (cond old (own s.want.0) s)) (cond old (own s.want.0) s)
+          ≡ cond key (with_lan (seconds_of g unadmitted) (cond old (own s.want.0) s))
+          (cond old (own s.want.0) s)
       before true key is_old is_key =
           ap (λ b. with_lan_at g (seconds_of g unadmitted) (cond b (own s.want.0) s)) is_old
           ∙ ap (λ b. cond b (with_lan (seconds_of g unadmitted) (own s.want.0)) (own s.want.0)) is_key
@@ -471,16 +494,19 @@ module _ (unadmitted : List (ℕ × ℕ)) where
       by true true false is_any is_old is_same =
           before true false (ap₂ (λ b c. b && c) is_any is_old)
           (is_key-any g s.want ∙ ap₂ (λ b c. b && c) is_any is_same)
-          ∙ sym (ap₂ (λ b c. cond (b && c) (own s.want.0) s) is_any (more ∙ ap₂ (λ b c. b || c) is_old is_same))
+          ∙ sym (ap₂ (λ b c. cond (b && c) (own s.want.0) s) is_any
+          (more ∙ ap₂ (λ b c. b || c) is_old is_same))
       by true false true is_any is_old is_same =
           before false true (ap₂ (λ b c. b && c) is_any is_old)
           (is_key-any g s.want ∙ ap₂ (λ b c. b && c) is_any is_same)
           ∙ ap own (eqb-true g s.want.0 is_same)
-          ∙ sym (ap₂ (λ b c. cond (b && c) (own s.want.0) s) is_any (more ∙ ap₂ (λ b c. b || c) is_old is_same))
+          ∙ sym (ap₂ (λ b c. cond (b && c) (own s.want.0) s) is_any
+          (more ∙ ap₂ (λ b c. b || c) is_old is_same))
       by true false false is_any is_old is_same =
           before false false (ap₂ (λ b c. b && c) is_any is_old)
           (is_key-any g s.want ∙ ap₂ (λ b c. b && c) is_any is_same)
-          ∙ sym (ap₂ (λ b c. cond (b && c) (own s.want.0) s) is_any (more ∙ ap₂ (λ b c. b || c) is_old is_same))
+          ∙ sym (ap₂ (λ b c. cond (b && c) (own s.want.0) s) is_any
+          (more ∙ ap₂ (λ b c. b || c) is_old is_same))
 
 -- no group yet
 pub sources-with_no_group : (unadmitted : List (ℕ × ℕ)) (sources : List WantSourcesValue)
@@ -492,7 +518,8 @@ sources-with_no_group unadmitted (s ∷ sources) =
     (sources-with_no_group unadmitted sources)
 
 -- the wants of the next group
-pub sources-with_group : (unadmitted : List (ℕ × ℕ)) (groups : List ℕ) (k g : ℕ) (old now new : List WantSourcesValue)
+pub sources-with_group : (unadmitted : List (ℕ × ℕ)) (groups : List ℕ) (k g : ℕ)
+    (old now new : List WantSourcesValue)
     → IsStrictlyIncreasing groups → k < length groups → g ≡ get_or groups k g
     → now ≡ map (with_unadmitted_of (take k groups) unadmitted) old
     → new ≡ map (with_lan_at g (seconds_of g unadmitted)) now
@@ -503,7 +530,8 @@ sources-with_group unadmitted groups k g old now new up lt at so_far is =
     let fresh = has-take_ascending groups k g up lt at in
     is ∙ ap (map (with_lan_at g (seconds_of g unadmitted))) so_far
     ∙ map-map (with_lan_at g (seconds_of g unadmitted)) (with_unadmitted_of (take k groups) unadmitted) old
-    ∙ map-equal (λ s. with_lan_at g (seconds_of g unadmitted) (with_unadmitted_of (take k groups) unadmitted s))
+    ∙ map-equal (λ s. with_lan_at g (seconds_of g unadmitted)
+    (with_unadmitted_of (take k groups) unadmitted s))
     (with_unadmitted_of (take k groups ++ g ∷ []) unadmitted) old
     (λ s. with_group-more unadmitted (take k groups) g s fresh)
     ∙ ap (λ gs. map (with_unadmitted_of gs unadmitted) old) (sym next)

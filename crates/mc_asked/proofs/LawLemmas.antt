@@ -26,7 +26,8 @@ use Rattle.mc_asked.proofs.PartLemmas.{in-in_order, in-from_in_order}
 
 -- ---- lists
 
-pub any-from_in : {X : Type 0} (p : X → Bool) (x : X) (xs : List X) → In x xs → p x ≡ true → list_any p xs ≡ true
+pub any-from_in : {X : Type 0} (p : X → Bool) (x : X) (xs : List X) → In x xs → p x ≡ true
+    → list_any p xs ≡ true
 any-from_in p x [] h is = absurd h
 any-from_in p x (y ∷ ys) (inl e) is = ap (λ (b : Bool). b || list_any p ys) (ap p e ∙ is)
 any-from_in p x (y ∷ ys) (inr h) is = or_true (p y) (any-from_in p x ys h is)
@@ -125,7 +126,8 @@ single_asked (kind.Unknown type) group g s sources is other admits =
 pub has_exclude-from_any : (records : List Record) (g : ℕ) → In (g, 0) (wants_in records)
     → has_exclude records g ≡ true
 has_exclude-from_any records g h =
-    let kept = in-filter_cases (is_of_merged_filter records) (g, 0) (in_order (flat_map asked_by records)) h in
+    let kept = in-filter_cases (is_of_merged_filter records) (g, 0)
+    (in_order (flat_map asked_by records)) h in
     let found = in-flat_map_cases asked_by (g, 0) records
     (in-from_in_order (g, 0) (flat_map asked_by records) kept.0) in
     any-from_in (is_exclude_for g) found.0 records found.1

@@ -1,5 +1,7 @@
 pub mod IndexLemmas
+pub mod AscendingLemmas
 pub mod WantLemmas
+pub mod UnansweredLemmas
 pub mod ForwardingLemmas
 pub mod LowestOfParts
 pub mod MergeLemmas

@@ -1,6 +1,6 @@
 -- The sources that the filter of none of several LANs admits, which all want a group from any source.
-use Rattle.std.proofs.Common.{◌≡◌, ℕ, ◌==◌, Bool, true, false, not, cond, inl, inr, List, [], ◌∷◌, ◌++◌, filter}
-use Rattle.std.proofs.Common.{flat_map, map, Some, refl, sym, ap, ap₂, subst, ◌∙◌, arith}
+use Rattle.std.proofs.Common.{◌≡◌, ℕ, ◌==◌, Bool, true, false, not, cond, inl, inr, List, [], ◌∷◌, ◌++◌}
+use Rattle.std.proofs.Common.{filter, flat_map, map, Some, refl, sym, ap, ap₂, subst, ◌∙◌, arith}
 use Rattle.std.specs.Prelude.{◌&&◌, ◌||◌}
 use Rattle.std.specs.List.{AllByRecursion, list_any}
 use Rattle.std.specs.List.Sorted.{IsStrictlyIncreasing, IsStrictlySortedBy}
@@ -16,8 +16,8 @@ use Rattle.mc_igmp.specs.declared.record.Kind.{Kind}
 use Rattle.mc_igmp.specs.declared.record.Kind.TheVariants as kind
 use Rattle.mc_filter.specs.declared.filter.Mode.{Mode}
 use Rattle.mc_filter.specs.declared.filter.Mode.TheVariants.{Exclude}
-use Rattle.mc_filter.specs.FilterBuilding.{has_exclude, is_exclude, is_exclude_for, is_exclude_mode, kind_admits}
-use Rattle.mc_filter.specs.FilterBuilding.{wanted, wanted_by}
+use Rattle.mc_filter.specs.FilterBuilding.{has_exclude, is_exclude, is_exclude_for, is_exclude_mode}
+use Rattle.mc_filter.specs.FilterBuilding.{kind_admits, wanted, wanted_by}
 use Rattle.mc_filter.specs.Merged.{IsMergedValue}
 use Rattle.mc_filter.specs.SourceFilter.{SourceFilter, admits_by, has}
 use Rattle.mc_filter.proofs.AscendingLemmas.{ascending_lists_equal-from_has, filter-ascending}
@@ -32,7 +32,8 @@ use Rattle.mc_asked.specs.Unadmitted.{is_admitted, list_of, listed_by, unadmitte
 use Rattle.mc_asked.proofs.IndexLemmas.{list_any-filter, list_any-map}
 use Rattle.mc_asked.proofs.LawLemmas.{any-from_in, has-from_in, in-from_any, in-from_has}
 use Rattle.mc_asked.proofs.MergeLemmas.{AreAbove, is_strictly_sorted_by-in_order}
-use Rattle.mc_asked.proofs.PartLemmas.{equal_bools-from_both, in-from_is_listed, in-in_order, is_listed-from_in}
+use Rattle.mc_asked.proofs.PartLemmas.{equal_bools-from_both, in-from_is_listed, in-in_order}
+use Rattle.mc_asked.proofs.PartLemmas.{is_listed-from_in}
 
 -- ---- the second parts of a group's pairs
 
@@ -116,7 +117,8 @@ admits-by_exclude (kind.Unknown type) listed is = absurd (true≢false (sym is))
 
 -- each source that a list with an EXCLUDE record for the group doesn't want is listed by that
 in-listed_by_exclude : (records : List Record) (groups : List ℕ) (g s : ℕ) → has groups g ≡ true
-    → has_exclude records g ≡ true → wanted records g s ≡ false → In (g, s) (flat_map (listed_by groups) records)
+    → has_exclude records g ≡ true → wanted records g s ≡ false
+    → In (g, s) (flat_map (listed_by groups) records)
 in-listed_by_exclude records groups g s known is refused =
     let found = in-from_any (is_exclude_for g) records is in
     let r = found.0 in
@@ -143,12 +145,14 @@ in-listed_by_exclude records groups g s known is refused =
 
 -- so the sources that it lists and doesn't want are all that it doesn't want
 pub has-unadmitted_in : (records : List Record) (groups : List ℕ) (g s : ℕ) → has groups g ≡ true
-    → has_exclude records g ≡ true → has (seconds_of g (unadmitted_in records groups)) s ≡ not (wanted records g s)
+    → has_exclude records g ≡ true → has (seconds_of g (unadmitted_in records groups)) s
+    ≡ not (wanted records g s)
 has-unadmitted_in records groups g s known is =
     let listed = in_order (flat_map (listed_by groups) records) in
     let keeps : ℕ × ℕ → Bool = λ p. not (wanted records p.0 p.1) in
     has-seconds_of g (unadmitted_in records groups) s
-    ∙ equal_bools-from_both (is_listed (Some (unadmitted_in records groups)) (g, s)) (not (wanted records g s))
+    ∙ equal_bools-from_both (is_listed (Some (unadmitted_in records groups)) (g, s))
+    (not (wanted records g s))
     (λ e. (in-filter_cases keeps (g, s) listed (in-from_is_listed (g, s) (unadmitted_in records groups) e)).1)
     (λ e. is_listed-from_in (g, s) (unadmitted_in records groups)
     (in-filter keeps (g, s) listed (in-in_order (g, s) (flat_map (listed_by groups) records)
@@ -170,8 +174,8 @@ unadmitted_in-of_merged records groups g filter merged mode h =
     let is : has_exclude records g ≡ true = sym m.excludes ∙ ap is_exclude_mode mode in
     let known = has-from_in groups g h in
     ascending_lists_equal-from_has (seconds_of g (unadmitted_in records groups)) filter.sources
-    (seconds_of-ascend g (unadmitted_in records groups) (unadmitted_in-ascend records groups)) merged.ascending
-    (λ s. has-unadmitted_in records groups g s known is
+    (seconds_of-ascend g (unadmitted_in records groups) (unadmitted_in-ascend records groups))
+    merged.ascending (λ s. has-unadmitted_in records groups g s known is
     ∙ ap not (sym (m.admitted s) ∙ ap (λ (own : Mode). admits_by own (has filter.sources s)) mode)
     ∙ not-not (has filter.sources s))
   where
@@ -182,7 +186,8 @@ unadmitted_in-of_merged records groups g filter merged mode h =
 -- ---- of several LANs
 
 -- these are the sources that none admits, ascending
-pub record AreUnadmitted (lists : List (List Record)) (lans : List ℕ) (group : ℕ) (sources : List ℕ) : Type 0 where
+pub record AreUnadmitted (lists : List (List Record)) (lans : List ℕ) (group : ℕ) (sources : List ℕ)
+    : Type 0 where
   pub ascending : IsStrictlyIncreasing sources
   pub each : (s : ℕ) → has sources s ≡ not (is_admitted lists lans group s)
 

@@ -34,7 +34,8 @@ is_strictly_sorted_by-take : (n : ℕ) (ps : List (ℕ × ℕ)) → IsStrictlySo
 unfolding IsStrictlySortedBy
 is_strictly_sorted_by-take zero ps up = tt
 is_strictly_sorted_by-take (suc n) [] up = tt
-is_strictly_sorted_by-take (suc n) (p ∷ ps) up = (are_above-take n ps up.0, is_strictly_sorted_by-take n ps up.1)
+is_strictly_sorted_by-take (suc n) (p ∷ ps) up =
+    (are_above-take n ps up.0, is_strictly_sorted_by-take n ps up.1)
   where
     are_above-take : (n : ℕ) (qs : List (ℕ × ℕ)) → AreAbove p qs → AreAbove p (take n qs)
     are_above-take zero qs all = tt

@@ -21,7 +21,8 @@ mark-at test pairs marks place x count are within own =
     let mark = get_or marks place false in
     let inside : place < length marks = subst (λ n. place < n) (sym count) within in
     are place x mark (slice_get_read pairs (length pairs) place x refl within own)
-    (slice_get_read marks (length marks) place mark refl inside (get_or_default marks place false mark inside))
+    (slice_get_read marks (length marks) place mark refl inside
+    (get_or_default marks place false mark inside))
 
 -- what a list says of the pairs as channels
 pub are_marks-of_wanted : (records : List Record) (pairs channels : List (ℕ × ℕ)) (answers : List Bool)

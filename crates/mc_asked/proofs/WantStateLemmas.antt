@@ -1,6 +1,7 @@
 -- What a router has for several wants, by one more row.
-use Rattle.std.proofs.Common.{◌≡◌, ℕ, ◌==◌, Bool, true, false, cond, not, List, [], ◌∷◌, map, refl, sym, ap, ◌∙◌}
-use Rattle.std.proofs.Common.{ap₂, inl, inr, Option, Some, None, ◌++◌, append-nil, append_assoc}
+use Rattle.std.proofs.Common.{◌≡◌, ℕ, ◌==◌, Bool, true, false, cond, not, List, [], ◌∷◌, map, refl, sym}
+use Rattle.std.proofs.Common.{ap, ◌∙◌, ap₂, inl, inr, Option, Some, None, ◌++◌, append-nil}
+use Rattle.std.proofs.Common.{append_assoc}
 use Rattle.std.specs.Prelude.{◌&&◌}
 use Rattle.std.specs.FinMap.{FinMap}
 use Rattle.std.specs.Ordering.{nat_cmp}
@@ -100,8 +101,10 @@ row-at_both vifs key entry w source =
             | inr not_one ↦
                 ap (λ b. cond b after w) not_one
                 ∙ row-other vifs key entry w source
-                (λ is. false≢true (sym not_any ∙ ap (is_key (key.1, 0)) is ∙ is_key-itself (key.1, 0) (key.1, 0) refl))
-                (λ is. false≢true (sym not_one ∙ ap (is_key (key.1, key.0)) is ∙ is_key-itself (key.1, key.0) (key.1, key.0) refl))
+                (λ is. false≢true (sym not_any ∙ ap (is_key (key.1, 0)) is
+                ∙ is_key-itself (key.1, 0) (key.1, 0) refl))
+                (λ is. false≢true (sym not_one ∙ ap (is_key (key.1, key.0)) is
+                ∙ is_key-itself (key.1, key.0) (key.1, key.0) refl))
           ]
     ]
 

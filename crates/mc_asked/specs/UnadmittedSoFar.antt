@@ -1,6 +1,6 @@
 -- The sources that the filter of none of a want's LANs admits, LAN by LAN.
-use Rattle.std.specs.Prelude.{◌≡◌, ℕ, ◌==◌, ◌&&◌, Bool, false, true, not, List, [], ◌∷◌, filter, map, take, Some}
-use Rattle.std.specs.Prelude.{if◌then◌else◌}
+use Rattle.std.specs.Prelude.{◌≡◌, ℕ, ◌==◌, ◌&&◌, Bool, false, true, not, List, [], ◌∷◌, filter, map}
+use Rattle.std.specs.Prelude.{take, Some, if◌then◌else◌}
 use Rattle.mc_igmp.specs.declared.record.Record.{Record}
 use Rattle.mc_filter.specs.SourceFilter.{has}
 use Rattle.mc_tables.specs.ListedRows.{is_listed}

@@ -137,7 +137,7 @@ impl WantAnswers {
     }
 
     /// Whether a flow answers the want, by the groups of the flows that the LAN wants.
-    fn is_answered(&self, wanted_groups: &Index, want: &(Addr, Addr)) -> bool
+    pub(crate) fn is_answered(&self, wanted_groups: &Index, want: &(Addr, Addr)) -> bool
         ensures { (records : List Record) → IsIndexOfWantedGroups self.now.flows records wanted_groups.now
             → result ≡ is_answered self.now records want.now }
     {

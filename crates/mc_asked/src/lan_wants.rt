@@ -6,13 +6,14 @@ ghost use Rattle.mc_asked.specs.Indexes.{AreFlowsWanted, IsClassified, IsIndexOf
 ghost use Rattle.std.specs.List.Sorted.{IsStrictlySortedBy};
 ghost use Rattle.mc_tables.specs.CacheTable.{key_cmp};
 ghost use Rattle.mc_tables.specs.Summary.{shown_pairs};
-ghost use Rattle.std.specs.Prelude.{if◌then◌else◌};
+ghost use Rattle.std.specs.Prelude.{if◌then◌else◌, filter, not};
+ghost use Rattle.mc_asked.specs.Answers.{is_answered};
 ghost use Rattle.std.specs.List.{dedup};
 ghost use Rattle.mc_asked.specs.LanWants.{is_asked_class, is_service_class, kept_wants, lan_wants};
 
 use crate::answers::WantAnswers;
 use crate::want_class::WantClass;
-use crate::wants::{group_number, wants_in};
+use crate::wants::{asked_in, group_number, wants_among};
 use mc_igmp::ReportList;
 use mc_text::{Addr, Index, Memory};
 use mc_topology::LanNo;
@@ -91,6 +92,40 @@ fn index_of_wanted_groups(
         }
     }
     Index::of(alloc, numbers)
+}
+
+/// Appends a want if it is kept.
+fn push_if(
+    wants: &mut Vec<(Addr, Addr)>,
+    is_kept: bool,
+    want: &(Addr, Addr),
+) -> Result<(), AllocError>
+    ensures { OnOk result (wants.new.items
+        ≡ wants.old.items ++ (if is_kept then want.now ∷ [] else [])) }
+{
+    if is_kept {
+        wants.push(*want)?;
+    }
+    Ok(())
+}
+
+/// Those of the pairs that no flow answers. Mostly there are none, and they needn't be put in order.
+fn unanswered_among(
+    alloc: Global,
+    answers: &WantAnswers,
+    wanted_groups: &Index,
+    pairs: &[(Addr, Addr)],
+) -> Result<Vec<(Addr, Addr)>, AllocError>
+    ensures { IfOk result (λ unanswered. (records : List Record) →
+        IsIndexOfWantedGroups answers.now.flows records wanted_groups.now →
+        unanswered.items ≡ filter (λ pair. not (is_answered answers.now records pair)) pairs.now) }
+{
+    let mut unanswered = Vec::new(alloc);
+    for pair in pairs {
+        let is_answered = answers.is_answered(wanted_groups, pair);
+        push_if(&mut unanswered, !is_answered, pair)?;
+    }
+    Ok(unanswered)
 }
 
 /// Wants by their classes.
@@ -179,7 +214,8 @@ impl ClassifiedWants {
 
 impl WantAnswers {
     /// What is kept of the wants of a LAN's list, all or the lowest. `wanted` says of each flow whether
-    /// the list wants it. The time is in proportion to n log n for n records and sources.
+    /// the list wants it. The time is in proportion to the records and sources, and to n log n for n of
+    /// them that no flow answers.
     ///
     /// # Errors
     ///
@@ -197,7 +233,9 @@ impl WantAnswers {
         ensures { IfOk result (λ kept. kept ≡ lan_wants all self.now lan list.now) }
     {
         let wanted_groups = index_of_wanted_groups(alloc, self.flows(), wanted)?;
-        let wants = wants_in(alloc, list)?;
+        let asked = asked_in(alloc, list)?;
+        let unanswered = unanswered_among(alloc, self, &wanted_groups, &asked)?;
+        let wants = wants_among(alloc, list, unanswered)?;
         let classified = classify(alloc, self, lan, &wanted_groups, &wants)?;
         Ok(classified.into_kept(all))
     }

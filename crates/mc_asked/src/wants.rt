@@ -1,10 +1,11 @@
 //! What a list of reports asks for.
 
-ghost use Rattle.std.specs.Prelude.{◌≡◌, ◌↔◌, ◌++◌, Contains, IfOk, IsTrue, OnOk, flat_map};
+ghost use Rattle.std.specs.Prelude.{◌≡◌, ◌↔◌, ◌++◌, Contains, IfOk, IsTrue, OnOk, filter, flat_map};
 ghost use Rattle.mc_filter.specs.SourceFilter.{has};
 ghost use Rattle.mc_filter.specs.FilterBuilding.{is_exclude};
 ghost use Rattle.mc_asked.specs.Indexes.{IsIndexOfExcludes, is_of_merged_filter_by};
-ghost use Rattle.mc_asked.specs.ListWants.{asked_by, included_in, wants_in};
+ghost use Rattle.mc_tables.specs.Summary.{in_order};
+ghost use Rattle.mc_asked.specs.ListWants.{asked_by, included_in, is_of_merged_filter};
 
 use mc_igmp::{Kind, Record, ReportList};
 use mc_tables::sorted_without_repeats;
@@ -74,7 +75,7 @@ fn add_asked(wants: &mut Vec<(Addr, Addr)>, group_record: &Record<'_>) -> Result
 }
 
 /// What the records of a list ask for, one by one.
-fn asked_in(alloc: Global, list: &ReportList) -> Result<Vec<(Addr, Addr)>, AllocError>
+pub(crate) fn asked_in(alloc: Global, list: &ReportList) -> Result<Vec<(Addr, Addr)>, AllocError>
     ensures { IfOk result (λ wants. wants.items ≡ flat_map asked_by list.now) }
 {
     let mut wants = Vec::new(alloc);
@@ -93,13 +94,17 @@ fn is_of_merged_filter(excluded: &Index, want: &(Addr, Addr)) -> bool
         && (source.is_unspecified() || !has_number(excluded, group_number(group)))
 }
 
-/// The wants of a list, by group and then by source, each once. The time is in proportion to n log n for
-/// n records and sources.
-pub(crate) fn wants_in(alloc: Global, list: &ReportList) -> Result<Vec<(Addr, Addr)>, Memory>
-    ensures { IfOk result (λ wants. wants.items ≡ wants_in list.now) }
+/// Those of these pairs that the list wants, by group and then by source, each once.
+pub(crate) fn wants_among(
+    alloc: Global,
+    list: &ReportList,
+    pairs: Vec<(Addr, Addr)>,
+) -> Result<Vec<(Addr, Addr)>, Memory>
+    ensures { IfOk result (λ wants.
+        wants.items ≡ filter (is_of_merged_filter list.now) (in_order pairs.items)) }
 {
     let excluded = excluded_groups(alloc, list)?;
-    let mut wants = sorted_without_repeats(asked_in(alloc, list)?);
+    let mut wants = sorted_without_repeats(pairs);
     wants.retain(|want| is_of_merged_filter(&excluded, want));
     Ok(wants)
 }

@@ -1,4 +1,5 @@
-use Rattle.std.proofs.Common.{◌≡◌, ℕ, ◌-◌, ◌<◌, ◌==◌, ◌∷◌, [], ◌++◌, drop, length, map, take, arith, ap, sym, ◌∙◌}
+use Rattle.std.proofs.Common.{◌≡◌, ℕ, ◌-◌, ◌<◌, ◌==◌, ◌∷◌, [], ◌++◌, drop, length, map, take, arith, ap}
+use Rattle.std.proofs.Common.{sym, ◌∙◌}
 use Rattle.std.proofs.lemmas.List.{map-append}
 use Rattle.mc_asked.proofs.GroupRunLemmas.{filter-run, take_run-more}
 use Rattle.mc_asked.proofs.group_run.seconds_of.Goals as goal
@@ -15,14 +16,16 @@ loop-place-preserved c =
     let a = c.run_of_group-start.result.0 in
     let k = c.loop-place.place in
     let x = c.index-pairs-place.result in
-    let within : k < length pairs = omega (arith, c.loop-place-test.true, c.run_of_group-start.ensures.within) in
+    let within : k < length pairs =
+    omega (arith, c.loop-place-test.true, c.run_of_group-start.ensures.within) in
     let pushed : c.push.new.self.items ≡ c.loop-place.seconds.items ++ x.1 ∷ [] =
     c.in_ok-push.ensures.items
     ∙ ap (λ (p : ℕ × ℕ). c.loop-place.seconds.items ++ p.1 ∷ []) (sym c.index-pairs-place.is) in
     pushed
     ∙ ap (λ l. l ++ x.1 ∷ []) c.loop-place.invariant
     ∙ sym (map-append (λ (p : ℕ × ℕ). p.1) (take (k - a) (drop a pairs)) (x ∷ []))
-    ∙ ap (map (λ (p : ℕ × ℕ). p.1)) (take_run-more pairs a k x c.loop-place.auto.place within c.index-pairs-place.is)
+    ∙ ap (map (λ (p : ℕ × ℕ). p.1)) (take_run-more pairs a k x c.loop-place.auto.place within
+    c.index-pairs-place.is)
 
 pub returns : goal.returns
 returns c =
@@ -34,5 +37,6 @@ returns c =
     omega (arith, c.loop-place-test.false, c.loop-place.auto.place-end is.ordered) in
     c.loop-place.invariant
     ∙ ap (λ n. map (λ (p : ℕ × ℕ). p.1) (take (n - run.0) (drop run.0 pairs))) end
-    ∙ ap (map (λ (p : ℕ × ℕ). p.1)) (sym (filter-run (λ (p : ℕ × ℕ). p.0 == group) pairs run.0 run.1 is.ordered
+    ∙ ap (map (λ (p : ℕ × ℕ). p.1)) (sym
+    (filter-run (λ (p : ℕ × ℕ). p.0 == group) pairs run.0 run.1 is.ordered
     is.within is.before is.inside is.behind))

@@ -1,4 +1,5 @@
-use Rattle.mc_asked.proofs.AskedLawLemmas.{asked_lines-from, count_wants-split, further_wants-from, in-services}
+use Rattle.mc_asked.proofs.AskedLawLemmas.{asked_lines-from, count_wants-split, further_wants-from}
+use Rattle.mc_asked.proofs.AskedLawLemmas.{in-services}
 use Rattle.mc_asked.proofs.laws.each_unanswered_want_is_shown_or_counted.Goals as goal
 
 pub returns-clause-lines : goal.returns-clause-lines

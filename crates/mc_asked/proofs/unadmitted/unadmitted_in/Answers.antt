@@ -31,4 +31,5 @@ returns-clause-value c = value c
 
 pub returns-clause-sorted : goal.returns-clause-sorted
 returns-clause-sorted c =
-    subst (IsStrictlySortedBy key_cmp) (sym (value c)) (unadmitted_in-ascend c.args.list.now c.args.groups.now)
+    subst (IsStrictlySortedBy key_cmp) (sym (value c))
+    (unadmitted_in-ascend c.args.list.now c.args.groups.now)

@@ -17,7 +17,8 @@ any_of : (group any : ℕ) (own : List ℕ) (sources : List WantSourcesValue) �
     → map (λ (s : WantSourcesValue). cond (is_key (group, any) s.want) (with_lan own s) s) sources
     ≡ map (with_lan_at group own) sources
 any_of group any own sources is =
-    ap (λ (a : ℕ). map (λ (s : WantSourcesValue). cond (is_key (group, a) s.want) (with_lan own s) s) sources) is
+    ap (λ (a : ℕ). map (λ (s : WantSourcesValue). cond (is_key (group, a) s.want) (with_lan own s) s)
+    sources) is
 
 pub invariant_of-self : goal.invariant_of-self
 invariant_of-self c =
@@ -50,7 +51,8 @@ returns-in_ok-add_lan c =
     ap (set sources place) put
     ∙ set-one_key key (with_lan own) want sources place _ up
     (found-within key c.deref.result.now sources place keys c.in-Ok.ensures.bound)
-    (found-key key c.deref.result.now sources place want _ keys c.in-Ok.ensures.bound (c.in-Ok.ensures.ok want))
+    (found-key key c.deref.result.now sources place want _ keys c.in-Ok.ensures.bound
+    (c.in-Ok.ensures.ok want))
     ∙ any_of c.args.group c.unspecified-any_source.result own sources c.unspecified-any_source.ensures
     ∙ ap (map (with_lan_at c.args.group own)) c.self.view_is
 
@@ -63,5 +65,6 @@ returns-in_default c =
     sym c.self.view_is
     ∙ map-no_key key (with_lan c.args.own.items) want sources
     (absent-key key c.self.inside.keys.items sources want c.self.invariant.0 absent)
-    ∙ any_of c.args.group c.unspecified-any_source.result c.args.own.items sources c.unspecified-any_source.ensures
+    ∙ any_of c.args.group c.unspecified-any_source.result c.args.own.items sources
+    c.unspecified-any_source.ensures
     ∙ ap (map (with_lan_at c.args.group c.args.own.items)) c.self.view_is

@@ -18,6 +18,7 @@ pub loop-group-preserved : goal.loop-group-preserved
 loop-group-preserved c =
     let g = c.group-item.result in
     let before = c.loop-group.self in
-    sources-with_group c.args.unadmitted.now c.args.groups.now c.loop-group.group-index g c.args.self.now before
+    sources-with_group c.args.unadmitted.now c.args.groups.now c.loop-group.group-index g
+    c.args.self.now before
     c.add_lan.new.self c.requires.groups c.loop-group-test.true c.group-item.is c.loop-group.invariant
     (c.in_ok-add_lan.ensures ∙ ap (λ (own : List ℕ). map (with_lan_at g own) before) c.in_ok-own.ensures)

@@ -6,7 +6,6 @@ use Rattle.mc_asked.specs.UnadmittedSoFar.{WantSourcesValue, groups_from_any, is
 use Rattle.mc_asked.proofs.LanByLanLemmas.{groups_from_any-ascend}
 use Rattle.mc_asked.proofs.WantLemmas.{map_filter-take_more}
 use Rattle.mc_asked.proofs.unadmitted_sources.UnadmittedSources.groups_from_any.Goals as goal
-use Rattle.mc_asked.proofs.unadmitted_sources.UnadmittedSources.groups_from_any.Goals.{then-is_shared_any+in_ok-push, else-is_shared_any}
 
 pub loop-want-preserved : goal.loop-want-preserved
 loop-want-preserved c =
@@ -15,17 +14,18 @@ loop-want-preserved c =
     let k = c.loop-want.want-index in
     let x = c.want-item.result in
     let before = c.loop-want.groups.items in
-    let keys = c.deref.ensures.value ∙ c.self.invariant.0 ∙ ap (map (λ (s : WantSourcesValue). s.want)) c.self.view_is in
+    let keys = c.deref.ensures.value ∙ c.self.invariant.0
+    ∙ ap (map (λ (s : WantSourcesValue). s.want)) c.self.view_is in
     let test = c.is_shared_any.ensures ∙ ap (λ (ws : List Want). is_shared_any ws x) keys in
     elim c.if-is_shared_any.branch [
-      | then-is_shared_any+in_ok-push w ↦
+      | goal.then-is_shared_any+in_ok-push w ↦
           ap (λ (v : Vec ℕ Global). v.items) w.groups-is ∙ w.in_ok-push.ensures.items
-          ∙ map_filter-take_more (λ (v : Want). v.0) (is_shared_any wants) own k x before true c.loop-want-test.true
-          c.want-item.is (sym w.if-is_shared_any.true ∙ test) c.loop-want.invariant
-      | else-is_shared_any w ↦
+          ∙ map_filter-take_more (λ (v : Want). v.0) (is_shared_any wants) own k x before true
+          c.loop-want-test.true c.want-item.is (sym w.if-is_shared_any.true ∙ test) c.loop-want.invariant
+      | goal.else-is_shared_any w ↦
           ap (λ (v : Vec ℕ Global). v.items) w.groups-is ∙ sym (append-nil before)
-          ∙ map_filter-take_more (λ (v : Want). v.0) (is_shared_any wants) own k x before false c.loop-want-test.true
-          c.want-item.is (sym w.if-is_shared_any.false ∙ test) c.loop-want.invariant
+          ∙ map_filter-take_more (λ (v : Want). v.0) (is_shared_any wants) own k x before false
+          c.loop-want-test.true c.want-item.is (sym w.if-is_shared_any.false ∙ test) c.loop-want.invariant
     ]
 
 pub returns-clause-groups : goal.returns-clause-groups

@@ -5,4 +5,5 @@ use Rattle.mc_asked.proofs.unadmitted_sources.UnadmittedSources.groups_from_any.
 -- those so far
 abbrev pub invariant-loop-want : goal.invariant-loop-want
 invariant-loop-want l =
-    l.groups.items ≡ groups_from_any (map (λ (s : WantSourcesValue). s.want) l.fn.self) (take l.want-index l.want-items)
+    l.groups.items ≡ groups_from_any (map (λ (s : WantSourcesValue). s.want) l.fn.self)
+    (take l.want-index l.want-items)

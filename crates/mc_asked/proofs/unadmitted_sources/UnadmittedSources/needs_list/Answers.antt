@@ -11,8 +11,10 @@ returns-clause-skipped c = λ all a lists lan wants at are not_needed.
     let own = c.args.own.now in
     let sources = c.args.self.now in
     let items = c.lowest-want-items.result.now in
-    let whole = take_all c.loop-want.want-index items c.loop-want-test.false ∙ c.lowest-want-items.ensures.value in
+    let whole = take_all c.loop-want.want-index items c.loop-want-test.false
+    ∙ c.lowest-want-items.ensures.value in
     let none : list_any (is_shared_any wants) own.lowest ≡ false =
-    sym (ap (λ (ws : List Want). list_any (is_shared_any ws) own.lowest) (wants-of_sources all a lists lan wants sources are))
+    sym (ap (λ (ws : List Want). list_any (is_shared_any ws) own.lowest)
+    (wants-of_sources all a lists lan wants sources are))
     ∙ sym (ap (list_any (is_shared_any _)) whole) ∙ c.loop-want.invariant in
     sources-without_list all a lists lan own at wants sources are none

@@ -6,4 +6,5 @@ use Rattle.mc_asked.proofs.unadmitted_sources.UnadmittedSources.needs_list.Given
 -- none so far
 abbrev pub invariant-loop-want : goal.invariant-loop-want
 invariant-loop-want l =
-    list_any (is_shared_any (map (λ (s : WantSourcesValue). s.want) l.fn.self)) (take l.want-index l.want-items) ≡ false
+    list_any (is_shared_any (map (λ (s : WantSourcesValue). s.want) l.fn.self))
+    (take l.want-index l.want-items) ≡ false

@@ -7,7 +7,8 @@ use Rattle.mc_asked.proofs.unadmitted_sources.UnadmittedSources.of_lines.Goals a
 
 pub invariant_of-result : goal.invariant_of-result
 invariant_of-result c = (
-  sym (ap (map (λ (s : WantSourcesValue). s.want)) (c.in_ok-sources.ensures ∙ ap (map without_sources) c.deref.ensures.value)
+  sym (ap (map (λ (s : WantSourcesValue). s.want)) (c.in_ok-sources.ensures
+      ∙ ap (map without_sources) c.deref.ensures.value)
       ∙ wants-of_without_sources c.in_ok-keys.keys.items),
   subst (IsStrictlySortedBy key_cmp) (sym c.in_ok-keys.ensures) c.requires.sorted,
 )

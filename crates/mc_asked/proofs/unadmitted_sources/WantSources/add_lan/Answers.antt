@@ -5,5 +5,6 @@ use Rattle.mc_asked.proofs.unadmitted_sources.WantSources.add_lan.Goals as goal
 
 pub invariant_of-self : goal.invariant_of-self
 invariant_of-self c =
-    (filter-ascending (has c.deref.result.now) c.args.own.items c.in_ok-self-inside.field-0.items c.requires.ascending
+    (filter-ascending (has c.deref.result.now) c.args.own.items c.in_ok-self-inside.field-0.items
+    c.requires.ascending
     (c.in_ok-self-inside.ensures ∙ ap (filter (has c.deref.result.now)) c.deref-then-self.ensures.value)).0

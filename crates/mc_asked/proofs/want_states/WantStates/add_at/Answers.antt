@@ -2,7 +2,8 @@ use Rattle.std.proofs.Common.{◌≡◌, List, set, sym, ap, subst, ◌∙◌}
 use Rattle.std.proofs.Common.{get_or}
 use Rattle.std.specs.List.Sorted.{IsStrictlySortedBy}
 use Rattle.mc_tables.specs.CacheTable.{key_cmp}
-use Rattle.mc_asked.specs.WantStates.{StatedWantValue, WantStatesValue, states_with_row_if_want, want_with_row}
+use Rattle.mc_asked.specs.WantStates.{StatedWantValue, WantStatesValue, states_with_row_if_want}
+use Rattle.mc_asked.specs.WantStates.{want_with_row}
 use Rattle.mc_asked.proofs.OneKeyLemmas.{absent-key, found-key, found-within, map-no_key, map-set_same}
 use Rattle.mc_asked.proofs.OneKeyLemmas.{set-one_key}
 use Rattle.mc_asked.proofs.SharedPairLemmas.{not_in-from_search}
@@ -31,7 +32,8 @@ returns-in-Ok c =
     c.add_row.ensures ∙ ap (want_with_row vifs key entry) c.index_mut.ensures.value in
     let changed = ap (set ws c.in-Ok.place) put
     ∙ set-one_key (λ (w : StatedWantValue). w.want) (want_with_row vifs key entry) want ws c.in-Ok.place _ up
-    (found-within (λ (w : StatedWantValue). w.want) c.deref.result.now ws c.in-Ok.place keys c.in-Ok.ensures.bound)
+    (found-within (λ (w : StatedWantValue). w.want) c.deref.result.now ws c.in-Ok.place keys
+    c.in-Ok.ensures.bound)
     (found-key (λ (w : StatedWantValue). w.want) c.deref.result.now ws c.in-Ok.place want _ keys
     c.in-Ok.ensures.bound (c.in-Ok.ensures.ok want)) in
     ap (λ (l : List StatedWantValue). record { vifs = vifs; wants = l }) changed
@@ -48,6 +50,7 @@ returns-in_default c =
     let absent = not_in-from_search c.self.inside.keys.items c.deref.result.now c.in_default.field-0 want
     c.deref.ensures.value c.self.invariant.1 c.in_default.ensures.bound c.in_default.ensures.position in
     let same = map-no_key (λ (w : StatedWantValue). w.want) (want_with_row vifs key entry) want ws
-    (absent-key (λ (w : StatedWantValue). w.want) c.self.inside.keys.items ws want c.self.invariant.0 absent) in
+    (absent-key (λ (w : StatedWantValue). w.want) c.self.inside.keys.items ws want
+    c.self.invariant.0 absent) in
     sym c.self.view_is ∙ ap (λ (l : List StatedWantValue). record { vifs = vifs; wants = l }) same
     ∙ ap (λ (s : WantStatesValue). states_with_row_if_want want s key entry) c.self.view_is

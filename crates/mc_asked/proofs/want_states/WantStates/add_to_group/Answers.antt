@@ -1,9 +1,10 @@
-use Rattle.std.proofs.Common.{◌≡◌, ◌==◌, Bool, true, false, cond, List, arith, length, map, refl, subst, sym, ap, ◌∙◌}
+use Rattle.std.proofs.Common.{◌≡◌, ◌==◌, Bool, true, false, cond, List, arith, length, map, refl, subst}
+use Rattle.std.proofs.Common.{sym, ap, ◌∙◌}
 use Rattle.std.specs.List.Sorted.{IsStrictlySortedBy}
 use Rattle.std.proofs.lemmas.List.{length-map}
 use Rattle.mc_tables.specs.CacheTable.{key_cmp}
-use Rattle.mc_asked.specs.WantStates.{StatedWantValue, WantStatesValue, states_with_row_if_group, want_with_row}
-use Rattle.mc_asked.specs.WantStates.{want_with_row_if_group}
+use Rattle.mc_asked.specs.WantStates.{StatedWantValue, WantStatesValue, states_with_row_if_group}
+use Rattle.mc_asked.specs.WantStates.{want_with_row, want_with_row_if_group}
 use Rattle.mc_asked.proofs.GroupRunLemmas.{with_run-of_keys}
 use Rattle.mc_asked.proofs.OneKeyLemmas.{map-same_keys}
 use Rattle.mc_asked.proofs.want_states.WantStates.add_to_group.Goals as goal

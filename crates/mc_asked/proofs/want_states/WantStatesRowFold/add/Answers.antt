@@ -9,7 +9,8 @@ returns-then-not-is_unspecified c =
     let key = c.args.key.now in
     let entry = c.args.entry.now in
     let first : c.add_at.new.self ≡ states_with_row_if_want (key.1, 0) before key entry =
-    c.add_at.ensures ∙ ap (λ (u : ℕ). states_with_row_if_want (key.1, u) before key entry) c.unspecified.ensures in
+    c.add_at.ensures ∙ ap (λ (u : ℕ). states_with_row_if_want (key.1, u) before key entry)
+    c.unspecified.ensures in
     c.add_at-then-not-is_unspecified.ensures
     ∙ ap (λ (s : WantStatesValue). states_with_row_if_want (key.1, key.0) s key entry) first
     ∙ ap (λ (l : List StatedWantValue). record { vifs = before.vifs; wants = l })

@@ -20,6 +20,8 @@ pub use file_part::{FilePart, part_of_file};
 pub use folder::Folder;
 pub use packing::pack;
 pub use piece_source::PieceSource;
-pub use slot::{Slot, slot_at, slot_count};
+pub use slot::{
+    Slot, cache_slot_number, first_lan_slot_number, slot_at, slot_count, vif_slot_number,
+};
 pub use source::FileSource;
 pub use unread::Unread;

@@ -1,6 +1,6 @@
 //! The slots of a domain: its parts in their fixed order, and the two names of each.
 
-ghost use Rattle.std.specs.Prelude.{◌≡◌, ◌<◌, ◌≤◌, ◌*◌, ◌++◌, codes, flat_map, length, slice_get, Some};
+ghost use Rattle.std.specs.Prelude.{◌≡◌, ◌<◌, ◌≤◌, ◌+◌, ◌*◌, ◌++◌, codes, flat_map, length, slice_get, Some};
 ghost use Rattle.std.specs.Prelude.{List, IfOk, IsTrue};
 ghost use Rattle.std.specs.Str.{bytes_eq};
 ghost use Rattle.std.specs.String.{string_bytes};
@@ -9,6 +9,7 @@ ghost use Rattle.mc_files.specs.Layout.{Slot as SlotText, cache_slot, certificat
 ghost use Rattle.mc_files.specs.Layout.{kind_word, part_name, reports_slot, router_slots, slots};
 ghost use Rattle.mc_files.specs.Layout.{topology_slot, vif_slot};
 ghost use Rattle.mc_topology.specs.Names.{is_name};
+ghost use Rattle.mc_topology.specs.Topology.{IsValidTopology};
 
 use mc_text::PartName;
 use mc_topology::{LanNo, RouterNo, Topology};
@@ -201,12 +202,36 @@ fn router_slot(topology: &Topology, number: u32) -> Slot<'_>
     Slot::cache(router)
 }
 
+/// The number of the slot of a router's vifs, counted from 0: behind the topology's, each router has two.
+pub fn vif_slot_number(router: RouterNo) -> u32
+    requires few { router < 256 }
+    ensures value { result ≡ 1 + 2 * router }
+{
+    1 + 2 * router.0
+}
+
+/// The number of the slot of a router's forwarding cache, behind that of its vifs.
+pub fn cache_slot_number(router: RouterNo) -> u32
+    requires few { router < 256 }
+    ensures value { result ≡ 2 + 2 * router }
+{
+    vif_slot_number(router) + 1
+}
+
+/// The number of the slot of the first LAN's reports, behind those of the routers.
+pub fn first_lan_slot_number(topology: &Topology) -> u32
+    ensures value { result ≡ 1 + 2 * length topology.now.routers }
+    ensures rules { IsValidTopology topology.now }
+{
+    1 + 2 * topology.routers()
+}
+
 /// The number of a domain's slots, with the certificate's if `certified`: at most 1,538.
 pub fn slot_count(topology: &Topology, certified: bool) -> u32
     ensures count { result ≡ length (slots certified topology.now) }
     ensures bound { result ≤ 1538 }
 {
-    let count = 1 + 2 * topology.routers() + topology.lans();
+    let count = first_lan_slot_number(topology) + topology.lans();
     if certified {
         return count + 1;
     }

@@ -41,10 +41,6 @@ AreContentsOf t tables wants input = AreKeptContents input t tables.vifs tables.
 abbrev pub IsDomainOf : DomainValue → InputValue → Type 0
 IsDomainOf d input = AreKeptContents input d.topology d.vifs d.rows d.wants
 
--- the input was read, and the domain consists of what is kept of it
-abbrev pub IsDomainRead : Result InputValue SourceFault → DomainValue → Type 0
-IsDomainRead read d = (input : InputValue) × IsDomainOf d input × (read ≡ Ok input)
-
 -- A call's value is kept of the step's, or its fault is the step's. That the source failed or memory ran
 -- out says nothing of the step.
 abbrev pub GivesKept : {X Y : Type 0} → (X → Y → Type 0) → Result X SourceFault → Result Y SourceFault

@@ -1,6 +1,6 @@
 //! Reads the domain that a bundle or a folder's files mean.
 
-ghost use Rattle.std.specs.Prelude.{◌≡◌, ◌<◌, ℕ, Err, IfErr, IfOk, IfSome, List, Some, is_some, length};
+ghost use Rattle.std.specs.Prelude.{◌≡◌, ◌<◌, ℕ, Err, IfErr, IfOk, IfSome, List, Some, is_some};
 ghost use Rattle.std.specs.Prelude.{true};
 ghost use Rattle.mc_text.specs.Bundle.{max_input};
 ghost use Rattle.mc_text.specs.Device.{failures_after};
@@ -8,40 +8,31 @@ ghost use Rattle.mc_text.specs.RestOfBundle.{Advances};
 ghost use Rattle.mc_text.specs.ReadFault.{ConsumesUpTo};
 ghost use Rattle.mc_text.specs.Steps.{map_fault};
 ghost use Rattle.mc_forward.specs.Domains.{IsDomain};
-ghost use Rattle.mc_files.specs.Files.{FileText};
-ghost use Rattle.mc_input.specs.FilesReading.{input_of_files};
 ghost use Rattle.mc_input.specs.InputReading.{input_of_bundle};
 ghost use Rattle.mc_input.specs.InputView.{certificate_text};
-ghost use Rattle.mc_input.specs.Kept.{GivesKeptFromContents, IsDomainOf, IsDomainRead};
 ghost use Rattle.mc_input.specs.ExcludedRouters.{AreRouterNames, IsReadOrMemoryWithout, files_without};
-ghost use Rattle.mc_input.specs.ExcludedRouters.{input_of_files_without, input_of_other_files};
-ghost use Rattle.mc_input.specs.ExcludedRouters.{is_possible_for_files_without, is_read_without, names_of};
+ghost use Rattle.mc_input.specs.ExcludedRouters.{input_of_files_without, is_possible_for_files_without};
+ghost use Rattle.mc_input.specs.ExcludedRouters.{is_read_without, names_of};
 ghost use Rattle.mc_input.specs.Meaning.{FilesMeanDomain, MeansDomain};
 ghost use Rattle.mc_input.specs.ReadAsMeant.{AreFilesReadAsMeant, IsBundleReadAsMeant};
 ghost use Rattle.mc_input.specs.AskedOfFiles.{IsAskedOf};
-ghost use Rattle.mc_input.specs.ListsOfFiles.{AreWantsOf};
 ghost use Rattle.mc_input.specs.SummariesOfFiles.{AreSummariesOf};
 ghost use Rattle.mc_input.specs.PartsOneByOne.{ReadsDomain, IsFaultOf, read_all_parts};
-ghost use Rattle.mc_input.specs.SourceFault.{IsReadOrMemory, is_possible_for_files, is_read};
+ghost use Rattle.mc_input.specs.SourceFault.{IsReadOrMemory, is_read};
 ghost use Rattle.mc_input.specs.declared.source_fault.SourceFault.TheVariants.{Input as refused};
 
 use crate::bundle_part::topology_in;
 use crate::bundle_slots::{BundleSlots, read_bundle_contents};
-use crate::cache_keeper::SummaryKeeper;
 use crate::excluded::check_names;
 use crate::exclusion_fault::ExclusionFault;
-use crate::file_slots::{FileSlots, topology_in as topology_of_files};
-use crate::list_keeper::{NoLists, WantKeeper};
-use crate::part_result::summary_pairs;
+use crate::file_slots::topology_in as topology_of_files;
+use crate::files_once::{FilesOnce, read_files_once};
 use crate::source_fault::SourceFault;
 use crate::unanswered::{UnansweredWants, read_unanswered};
-use crate::walk::read_contents;
-use mc_asked::{LanWants, WantAnswers};
 use mc_files::PieceSource;
-use mc_forward::{Domain, source_group_pairs};
+use mc_forward::Domain;
 use mc_tables::CacheSummary;
 use mc_text::{GroupRange, Input, Parts};
-use mc_topology::Topology;
 use std::alloc::Global;
 
 /// How many bytes of a part or a file are read at once.
@@ -56,14 +47,12 @@ pub struct BundleDomain {
     pub certificate: Option<Vec<u8>>,
 }
 
-/// Reads the domain from the parts of a bundle.
+/// Reads the domain from the parts of a bundle, in pieces.
 fn read_parts<R: Input>(
     alloc: Global,
     slots: &mut BundleSlots<R>,
-    buffer: &mut [u8],
 ) -> Result<BundleDomain, SourceFault>
-    requires room { 0 < length buffer.old }
-    requires failures { slots.old.parts.failed < u64.MAX }
+    requires { slots.old.parts.failed < u64.MAX }
     ensures read { IfOk result (λ read. (text : List ℕ) → slots.old.parts.remaining ≡ Some text →
         ReadsDomain slots.old.parts text slots.old.certified read.domain
         (certificate_text read.certificate)) }
@@ -74,8 +63,9 @@ fn read_parts<R: Input>(
     ensures failures { slots.new.parts.failed
         ≡ failures_after is_read result slots.old.parts.failed }
 {
-    let topology = topology_in(alloc, &mut slots.parts, buffer)?;
-    let listed = read_bundle_contents(alloc, slots, buffer, &topology)?;
+    let mut buffer = Vec::from_elem(alloc, 0u8, PIECE)?;
+    let topology = topology_in(alloc, &mut slots.parts, &mut buffer)?;
+    let listed = read_bundle_contents(alloc, slots, &mut buffer, &topology)?;
     let certificate = listed.certificate;
     let kept = listed.kept;
     let domain = Domain::from_wants(alloc, topology, kept.tables, kept.wants)?;
@@ -83,34 +73,6 @@ fn read_parts<R: Input>(
         domain,
         certificate,
     })
-}
-
-/// Reads the domain that an input's bundle means, in pieces through the buffer.
-fn read_with_buffer<R: Input>(
-    alloc: Global,
-    input: &mut R,
-    buffer: &mut [u8],
-    certified: bool,
-) -> Result<BundleDomain, SourceFault>
-    requires room { 0 < length buffer.old }
-    requires failures { R.failed input.old < u64.MAX }
-    ensures same { R.borrows input.new ≡ R.borrows input.old }
-    ensures means { IfOk result (λ read. IfSome (R.remaining input.old) (λ text.
-        MeansDomain text (certificate_text read.certificate) read.domain)) }
-    ensures certified { IfOk result (λ read. is_some read.certificate ≡ certified) }
-    ensures rules { IfOk result (λ read. IsDomain read.domain) }
-    ensures only { IsBundleReadAsMeant (R.remaining input.old) certified (λ read. read.domain)
-        (λ read. certificate_text read.certificate) result }
-    ensures fault { (text : List ℕ) → R.remaining input.old ≡ Some text → IfErr result (λ fault.
-        ¬ IsReadOrMemory fault → map_fault refused (input_of_bundle certified text) ≡ Err fault) }
-    ensures consumed { ConsumesUpTo max_input (R.remaining input.old) (R.remaining input.new) }
-    ensures failures { R.failed input.new ≡ failures_after is_read result (R.failed input.old) }
-{
-    let parts = Parts::new(input);
-    let mut slots = BundleSlots { parts, certified };
-    let read = read_parts(alloc, &mut slots, buffer);
-    let _input = slots.into_input();
-    read
 }
 
 /// Reads the domain that an input's bundle means: the parts `topology`, `vif/<router>` and
@@ -149,8 +111,11 @@ pub fn read_bundle_domain<R: Input>(
     // `Read` is answered only where the input's count of failures rose in the call.
     ensures failures { R.failed input.new ≡ failures_after is_read result (R.failed input.old) }
 {
-    let mut buffer = Vec::from_elem(alloc, 0u8, PIECE)?;
-    read_with_buffer(alloc, input, &mut buffer, certified)
+    let parts = Parts::new(input);
+    let mut slots = BundleSlots { parts, certified };
+    let read = read_parts(alloc, &mut slots);
+    let _input = slots.into_input();
+    read
 }
 
 /// A domain, a summary of each router's cache, and what hosts ask for and no flow answers.
@@ -164,17 +129,6 @@ pub struct FolderDomain {
     pub asked: UnansweredWants,
 }
 
-/// What is made of a folder's files when each is read for the first time.
-#[derive(Drop)]
-struct FilesOnce {
-    /// The domain.
-    domain: Domain,
-    /// The summary of each router's cache, in the order of the topology.
-    summary: Vec<CacheSummary>,
-    /// What is kept of the wants of each LAN's list, in the order of the topology.
-    wants: Vec<LanWants>,
-}
-
 /// What a folder is read for.
 #[derive(Debug, Drop)]
 pub struct FolderOptions {
@@ -182,172 +136,6 @@ pub struct FolderOptions {
     pub all: bool,
     /// The ranges of groups whose wants are left aside.
     pub ignored: Vec<GroupRange>,
-}
-
-/// Reads the slots after the topology's, in pieces through the buffer, as the domain of this topology, with
-/// the summaries of the caches and what is kept of the wants of the lists.
-fn read_rest_of_slots<F: PieceSource>(
-    alloc: Global,
-    slots: &mut FileSlots<'_, F>,
-    buffer: &mut [u8],
-    topology: Topology,
-    options: FolderOptions,
-) -> Result<FilesOnce, SourceFault>
-    requires room { 0 < length buffer.old }
-    requires reads { F.failed slots.old.files < u64.MAX }
-    ensures same { F.borrows slots.new.files ≡ F.borrows slots.old.files }
-    ensures kept { F.contents slots.new.files ≡ F.contents slots.old.files }
-    ensures domain { GivesKeptFromContents (F.contents slots.old.files) (λ read. IsDomainOf read.domain)
-        result (input_of_other_files topology (names_of slots.old.without.now)) }
-    ensures topology { IfOk result (λ read. read.domain.topology ≡ topology) }
-    ensures rules { IfOk result (λ read. IsDomain read.domain) }
-    ensures summary { (contents : List FileText) → F.contents slots.old.files ≡ Some contents →
-        IfOk result (λ read. AreSummariesOf options.all (files_without slots.old.without.now contents)
-        read.domain.topology read.summary.items) }
-    ensures wants { (contents : List FileText) → F.contents slots.old.files ≡ Some contents →
-        IfOk result (λ read. AreWantsOf options.all options.ignored.items
-        (files_without slots.old.without.now contents) read.domain.topology read.wants.items) }
-    ensures count { IfOk result (λ read. length read.wants.items ≡ length read.domain.topology.lans) }
-    ensures faults { IfErr result (λ fault. is_possible_for_files fault ≡ true) }
-    ensures failures { F.failed slots.new.files
-        ≡ failures_after is_read result (F.failed slots.old.files) }
-{
-    let FolderOptions { all, ignored } = options;
-    let mut keeper = SummaryKeeper {
-        listed: summary_pairs(alloc, &topology)?,
-        all,
-        summary: Vec::new(alloc),
-    };
-    let flows = source_group_pairs(alloc, &topology)?;
-    let answers = WantAnswers::of(alloc, &topology, flows, ignored)?;
-    let mut list_keeper = WantKeeper {
-        answers,
-        all,
-        wants: Vec::new(alloc),
-    };
-    let kept = read_contents(
-        alloc,
-        slots,
-        buffer,
-        &topology,
-        &mut keeper,
-        &mut list_keeper,
-    )?;
-    let domain = Domain::from_wants(alloc, topology, kept.tables, kept.wants)?;
-    Ok(FilesOnce {
-        domain,
-        summary: keeper.summary,
-        wants: list_keeper.wants,
-    })
-}
-
-/// Reads each file after the topology's for the first time, as the domain of this topology with some routers
-/// excluded.
-fn read_rest_once<F: PieceSource>(
-    alloc: Global,
-    files: &mut F,
-    buffer: &mut [u8],
-    topology: Topology,
-    without: &[&str],
-    options: FolderOptions,
-) -> Result<FilesOnce, SourceFault>
-    requires room { 0 < length buffer.old }
-    requires reads { F.failed files.old < u64.MAX }
-    ensures count { IfOk result (λ read. length read.wants.items ≡ length read.domain.topology.lans) }
-    ensures same { F.borrows files.new ≡ F.borrows files.old }
-    ensures kept { F.contents files.new ≡ F.contents files.old }
-    ensures domain { GivesKeptFromContents (F.contents files.old) (λ read. IsDomainOf read.domain) result
-        (input_of_other_files topology (names_of without.now)) }
-    ensures topology { IfOk result (λ read. read.domain.topology ≡ topology) }
-    ensures rules { IfOk result (λ read. IsDomain read.domain) }
-    ensures summary { (contents : List FileText) → F.contents files.old ≡ Some contents → IfOk result (λ read.
-        AreSummariesOf options.all (files_without without.now contents)
-        read.domain.topology read.summary.items) }
-    ensures wants { (contents : List FileText) → F.contents files.old ≡ Some contents → IfOk result (λ read.
-        AreWantsOf options.all options.ignored.items (files_without without.now contents)
-        read.domain.topology read.wants.items) }
-    ensures faults { IfErr result (λ fault. is_possible_for_files fault ≡ true) }
-    ensures failures { F.failed files.new ≡ failures_after is_read result (F.failed files.old) }
-{
-    let mut slots = FileSlots { files, without };
-    let read = read_rest_of_slots(alloc, &mut slots, buffer, topology, options);
-    let _files = slots.into_files();
-    read
-}
-
-/// Reads the files after the topology's as the domain of this topology with some routers excluded, and what
-/// hosts ask for and no flow answers.
-fn read_rest_with_buffer<F: PieceSource>(
-    alloc: Global,
-    files: &mut F,
-    buffer: &mut [u8],
-    topology: Topology,
-    without: &[&str],
-    options: FolderOptions,
-) -> Result<FolderDomain, SourceFault>
-    requires room { 0 < length buffer.old }
-    requires reads { F.failed files.old < u64.MAX }
-    ensures same { F.borrows files.new ≡ F.borrows files.old }
-    ensures kept { F.contents files.new ≡ F.contents files.old }
-    ensures domain { GivesKeptFromContents (F.contents files.old) (λ read. IsDomainOf read.domain) result
-        (input_of_other_files topology (names_of without.now)) }
-    ensures topology { IfOk result (λ read. read.domain.topology ≡ topology) }
-    ensures rules { IfOk result (λ read. IsDomain read.domain) }
-    ensures summary { (contents : List FileText) → F.contents files.old ≡ Some contents → IfOk result (λ read.
-        AreSummariesOf options.all (files_without without.now contents)
-        read.domain.topology read.summary.items) }
-    ensures asked { (contents : List FileText) → F.contents files.old ≡ Some contents → IfOk result (λ read.
-        IsAskedOf options.all options.ignored.items (files_without without.now contents)
-        read.domain read.asked) }
-    ensures faults { IfErr result (λ fault. is_possible_for_files fault ≡ true) }
-    ensures failures { F.failed files.new ≡ failures_after is_read result (F.failed files.old) }
-{
-    let all = options.all;
-    let once = read_rest_once(alloc, files, buffer, topology, without, options)?;
-    let FilesOnce {
-        domain,
-        summary,
-        wants,
-    } = once;
-    let asked = read_unanswered(alloc, files, buffer, &domain, without, &wants, all)?;
-    Ok(FolderDomain {
-        domain,
-        summary,
-        asked,
-    })
-}
-
-/// Reads the domain that files mean with some routers excluded, and the summaries of the caches.
-fn read_files_with_buffer<F: PieceSource>(
-    alloc: Global,
-    files: &mut F,
-    buffer: &mut [u8],
-    without: &[&str],
-    options: FolderOptions,
-) -> Result<FolderDomain, ExclusionFault>
-    requires room { 0 < length buffer.old }
-    requires reads { F.failed files.old < u64.MAX }
-    ensures same { F.borrows files.new ≡ F.borrows files.old }
-    ensures kept { F.contents files.new ≡ F.contents files.old }
-    ensures domain { (contents : List FileText) → F.contents files.old ≡ Some contents → IfOk result (λ read.
-        IsDomainRead (input_of_files (files_without without.now contents)) read.domain) }
-    ensures routers { IfOk result (λ read. AreRouterNames read.domain.topology (names_of without.now)) }
-    ensures rules { IfOk result (λ read. IsDomain read.domain) }
-    ensures summary { (contents : List FileText) → F.contents files.old ≡ Some contents → IfOk result (λ read.
-        AreSummariesOf options.all (files_without without.now contents)
-        read.domain.topology read.summary.items) }
-    ensures asked { (contents : List FileText) → F.contents files.old ≡ Some contents → IfOk result (λ read.
-        IsAskedOf options.all options.ignored.items (files_without without.now contents)
-        read.domain read.asked) }
-    ensures fault { (contents : List FileText) → F.contents files.old ≡ Some contents → IfErr result (λ fault.
-        ¬ IsReadOrMemoryWithout fault →
-        input_of_files_without (names_of without.now) contents ≡ Err fault) }
-    ensures faults { IfErr result (λ fault. is_possible_for_files_without fault ≡ true) }
-    ensures failures { F.failed files.new ≡ failures_after is_read_without result (F.failed files.old) }
-{
-    let topology = topology_of_files(alloc, files)?;
-    check_names(&topology, without)?;
-    Ok(read_rest_with_buffer(alloc, files, buffer, topology, without, options)?)
 }
 
 /// Reads the domain that a folder's files mean with the routers of these names excluded: `topology`,
@@ -403,5 +191,19 @@ pub fn read_folder_domain<F: PieceSource>(
     ensures failures { F.failed files.new ≡ failures_after is_read_without result (F.failed files.old) }
 {
     let mut buffer = Vec::from_elem(alloc, 0u8, PIECE)?;
-    read_files_with_buffer(alloc, files, &mut buffer, without, options)
+    let topology = topology_of_files(alloc, files)?;
+    check_names(&topology, without)?;
+    let all = options.all;
+    let once = read_files_once(alloc, files, &mut buffer, topology, without, options)?;
+    let FilesOnce {
+        domain,
+        summary,
+        wants,
+    } = once;
+    let asked = read_unanswered(alloc, files, &mut buffer, &domain, without, &wants, all)?;
+    Ok(FolderDomain {
+        domain,
+        summary,
+        asked,
+    })
 }

@@ -29,7 +29,9 @@ use crate::part_reader::PartReader;
 use crate::part_result::listed_pairs;
 use crate::source_fault::SourceFault;
 use crate::walk::read_slot;
-use mc_files::{PieceSource, Slot, Unread, slot_at};
+use mc_files::{
+    PieceSource, Slot, Unread, cache_slot_number, first_lan_slot_number, slot_at, vif_slot_number,
+};
 use mc_igmp::ListReader;
 use mc_tables::{CacheReader, ListedPairs, VifReader};
 use mc_text::Memory;
@@ -183,7 +185,7 @@ fn judge_tables<F: PieceSource>(
     refused: &mut Vec<RefusedFile>,
 ) -> Result<(), Memory>
     requires router { router < length topology.now.routers }
-    requires below_max { 2 + 2 * router < u32.MAX }
+    requires few { router < 256 }
     requires room { 0 < length buffer.old }
     ensures same { F.borrows files.new ≡ F.borrows files.old }
     ensures kept { F.contents files.new ≡ F.contents files.old }
@@ -195,12 +197,13 @@ fn judge_tables<F: PieceSource>(
     if is_excluded(without, topology.router_name(RouterNo(router))) {
         return Ok(());
     }
-    let number = 1 + 2 * router;
+    let vif_number = vif_slot_number(RouterNo(router));
     let vifs = VifReader::new(alloc);
-    judge_slot(alloc, files, buffer, topology, number, vifs, refused)?;
+    judge_slot(alloc, files, buffer, topology, vif_number, vifs, refused)?;
     let order = topology.order(RouterNo(router));
+    let cache_number = cache_slot_number(RouterNo(router));
     let cache = CacheReader::new(alloc, order, listed.clone()?);
-    judge_slot(alloc, files, buffer, topology, number + 1, cache, refused)
+    judge_slot(alloc, files, buffer, topology, cache_number, cache, refused)
 }
 
 /// Checks the tables of all routers but the excluded ones.
@@ -244,7 +247,7 @@ fn judge_lans<F: PieceSource>(
     ensures judged { OnOk result (ListsRefused (F.contents files.old) (judged_lans topology.now)
         refused.old.items refused.new.items (F.failed files.old) (F.failed files.new)) }
 {
-    let first = 1 + 2 * topology.routers();
+    let first = first_lan_slot_number(topology);
     for lan in 0..topology.lans() {
         let reader = ListReader::new(alloc);
         judge_slot(alloc, files, buffer, topology, first + lan, reader, refused)?;

@@ -15,6 +15,7 @@ mod fed_file;
 mod fed_part;
 mod file_again;
 mod file_slots;
+mod files_once;
 pub mod laws;
 mod list_keeper;
 mod part_reader;

@@ -1,6 +1,6 @@
 //! Turns the result of a text's reader into that of its part: a fault gets the part's name.
 
-ghost use Rattle.std.specs.Prelude.{◌≡◌, IfErr, IfOk, Err, true};
+ghost use Rattle.std.specs.Prelude.{◌≡◌, ◌↔◌, IfErr, IfOk, IsTrue, Err, true};
 ghost use Rattle.mc_igmp.specs.ReadingList.{oom_fault};
 ghost use Rattle.mc_tables.specs.Steps.{out_of_memory};
 ghost use Rattle.mc_text.specs.BundleView.{part_text};
@@ -39,6 +39,13 @@ pub(crate) fn topology_of(alloc: Global, part: &Part<'_>) -> Result<Topology, In
     }
 }
 
+/// Whether memory ran out, and the table may have no fault.
+fn is_memory(fault: TableFault) -> bool
+    ensures { IsTrue result ↔ (fault.kind ≡ TableFaultKind.Memory) }
+{
+    fault.kind == TableFaultKind::Memory
+}
+
 /// The vifs that the reader of the part with this name found, or its fault.
 pub(crate) fn vifs_or_fault(
     name: PartName,
@@ -50,12 +57,7 @@ pub(crate) fn vifs_or_fault(
 {
     match found {
         Ok(vifs) => Ok(vifs),
-        Err(
-            TableFault {
-                kind: TableFaultKind::Memory,
-                ..
-            },
-        ) => Err(InputFault::Memory),
+        Err(fault) if is_memory(fault) => Err(InputFault::Memory),
         Err(fault) => Err(InputFault::Vif(name, fault)),
     }
 }
@@ -88,12 +90,7 @@ pub(crate) fn cache_or_fault<T: Drop>(
 {
     match found {
         Ok(cache) => Ok(cache),
-        Err(
-            TableFault {
-                kind: TableFaultKind::Memory,
-                ..
-            },
-        ) => Err(InputFault::Memory),
+        Err(fault) if is_memory(fault) => Err(InputFault::Memory),
         Err(fault) => Err(InputFault::Cache(name, fault)),
     }
 }

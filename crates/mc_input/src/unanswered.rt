@@ -26,7 +26,7 @@ use mc_asked::{
     AskedLines, AskedWant, LanWants, RouterState, SharedPair, UnadmittedSources, count_wants,
     service_lines,
 };
-use mc_files::PieceSource;
+use mc_files::{PieceSource, first_lan_slot_number};
 use mc_forward::{Domain, Items};
 use mc_igmp::ListReader;
 use mc_topology::Topology;
@@ -127,7 +127,7 @@ fn take_list<F: PieceSource>(
     if !sources.needs_list(own) {
         return Ok(());
     }
-    let number = 1 + 2 * topology.routers() + lan;
+    let number = first_lan_slot_number(topology) + lan;
     let reader = ListReader::new(alloc);
     let list = read_file_again(alloc, files, buffer, topology, without, number, reader)?;
     sources.add_list(alloc, own, &list)?;

@@ -25,6 +25,7 @@ use crate::list_keeper::ListKeeper;
 use crate::part_reader::PartReader;
 use crate::slots::Slots;
 use crate::source_fault::SourceFault;
+use mc_files::{cache_slot_number, first_lan_slot_number, vif_slot_number};
 use mc_forward::{FlowChannels, Items, RouterTables, Tables};
 use mc_igmp::ListReader;
 use mc_tables::VifReader;
@@ -114,11 +115,12 @@ fn read_tables<S: Slots, K: CacheKeeper>(
 {
     let mut tables = RouterTables::new(alloc, topology)?;
     for router in 0..topology.routers() {
-        let number = 1 + 2 * router;
+        let vif_number = vif_slot_number(RouterNo(router));
+        let cache_number = cache_slot_number(RouterNo(router));
         let order = topology.order(RouterNo(router));
         let reader = VifReader::new(alloc);
-        let vifs = read_slot(alloc, slots, buffer, topology, number, reader)?;
-        let cache = keeper.read_cache(alloc, slots, buffer, topology, order, number + 1)?;
+        let vifs = read_slot(alloc, slots, buffer, topology, vif_number, reader)?;
+        let cache = keeper.read_cache(alloc, slots, buffer, topology, order, cache_number)?;
         tables.add(alloc, topology, Tables { vifs, cache })?;
     }
     Ok(tables)
@@ -156,7 +158,7 @@ fn read_wants<S: Slots, L: ListKeeper>(
     ensures failures { S.failed slots.new ≡ failures_after is_read result (S.failed slots.old) }
 {
     let channels = FlowChannels::of(alloc, topology)?;
-    let first = 1 + 2 * topology.routers();
+    let first = first_lan_slot_number(topology);
     let mut wants = Vec::new(alloc);
     for lan in 0..topology.lans() {
         let reader = ListReader::new(alloc);

@@ -12,7 +12,8 @@ use Rattle.mc_input.proofs.domain.read_parts.Goals as goal
 
 pub returns-in_err-topology-clause-fault : goal.returns-in_err-topology-clause-fault
 returns-in_err-topology-clause-fault g c =
-    let p = err_from_is_err_and c.from_residual.result c.from_residual.ensures.1 in
+    let p = err_from_is_err_and c.from_residual-in_err-topology.result
+    c.from_residual-in_err-topology.ensures.1 in
     let s = c.args.slots.now in
     rw (p.1, p.2) (IsFaultOf-read_all_parts s.certified s.parts c.in_err-topology.field-0.0
     c.in_err-topology.ensures.fault)

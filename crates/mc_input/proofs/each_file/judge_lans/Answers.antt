@@ -27,7 +27,7 @@ judge_slot-requires-clause-within g c =
       arith,
       c.loop-lan-test.true,
       c.loop-lan.invariant.count,
-      c.routers.ensures.count,
+      c.first_lan_slot_number-first.ensures.value,
       lan_slot-within_count false c.args.topology.now c.loop-lan.lan
           (omega (arith, c.loop-lan-test.true, c.loop-lan.invariant.count)),
     )
@@ -42,8 +42,8 @@ loop-lan-preserved g c =
     let middle = g.F.FileSource.failed c.loop-lan.files in
     let after = g.F.FileSource.failed c.judge_slot.new.files in
     let lan = slice_get-exists t.lans k (omega (arith, c.loop-lan-test.true, c.loop-lan.invariant.count)) in
-    let at = slots-reports_slot false t (1 + 2 * c.routers.result + k) k lan.0
-    (omega (arith, c.routers.ensures.count)) lan.1 in
+    let at = slots-reports_slot false t (c.first_lan_slot_number-first.result + k) k lan.0
+    (omega (arith, c.first_lan_slot_number-first.ensures.value)) lan.1 in
     record {
       count = c.loop-lan.invariant.count;
       room = search rules;

@@ -20,11 +20,19 @@ use Rattle.mc_input.proofs.each_file.judge_tables.Goals as goal
 
 pub judge_slot-requires-clause-within : goal.judge_slot-requires-clause-within
 judge_slot-requires-clause-within g c =
-    omega (arith, router_slots-within_count false c.args.topology.now c.args.router c.requires.router)
+    omega (
+      arith,
+      c.vif_slot_number-vif_number.ensures.value,
+      router_slots-within_count false c.args.topology.now c.args.router c.requires.router,
+    )
 
 pub judge_slot-requires-2-clause-within : goal.judge_slot-requires-2-clause-within
 judge_slot-requires-2-clause-within g c =
-    omega (arith, router_slots-within_count false c.args.topology.now c.args.router c.requires.router)
+    omega (
+      arith,
+      c.cache_slot_number-cache_number.ensures.value,
+      router_slots-within_count false c.args.topology.now c.args.router c.requires.router,
+    )
 
 pub returns-then-is_excluded-clause-judged : goal.returns-then-is_excluded-clause-judged
 returns-then-is_excluded-clause-judged g c = λ r at.
@@ -47,9 +55,11 @@ returns-clause-judged g c = λ r at.
     let own = ap (λ (own : List ℕ). list_any (λ n. bytes_eq n own) names) (sym name)
     ∙ sym c.is_excluded.ensures ∙ c.if-is_excluded.false in
     let named = ap (option_map (λ r. r.name)) at in
-    let vif_at = router_slot false t (1 + 2 * k) (2 * k) (vif_slot r.name) (omega arith)
+    let vif_at = router_slot false t c.vif_slot_number-vif_number.result (2 * k) (vif_slot r.name)
+    (omega (arith, c.vif_slot_number-vif_number.ensures.value))
     (λ more. slice_get-vif_slot more t.routers k (2 * k) r.name refl named) in
-    let cache_at = router_slot false t (1 + 2 * k + 1) (2 * k + 1) (cache_slot r.name) (omega arith)
+    let cache_at = router_slot false t c.cache_slot_number-cache_number.result (2 * k + 1) (cache_slot r.name)
+    (omega (arith, c.cache_slot_number-cache_number.ensures.value))
     (λ more. slice_get-cache_slot more t.routers k (2 * k + 1) r.name refl named) in
     let before = g.F.FileSource.failed c.args.files.now in
     let middle = g.F.FileSource.failed c.judge_slot.new.files in

@@ -22,12 +22,12 @@ use Rattle.std.specs.Ordering.{nat_cmp}
 use Rattle.mc_input.proofs.states.read_states_of_router.Goals as goal
 
 -- the slot of the router's cache, of a topology that is the domain's
-cache_slot-at : (t own : TopologyValue) (k : ℕ) (r : RouterRow) → own ≡ t → slice_get t.routers k ≡ Some r
-    → slice_get (slots false own) (2 + 2 * k) ≡ Some (cache_slot r.name)
-cache_slot-at t own k r same at =
+cache_slot-at : (t own : TopologyValue) (k number : ℕ) (r : RouterRow) → own ≡ t → number ≡ 2 + 2 * k
+    → slice_get t.routers k ≡ Some r → slice_get (slots false own) number ≡ Some (cache_slot r.name)
+cache_slot-at t own k number r same is at =
     let named = ap (option_map (λ (r : RouterRow). r.name)) at in
-    subst (λ (u : TopologyValue). slice_get (slots false u) (2 + 2 * k) ≡ Some (cache_slot r.name)) (sym same)
-    (router_slot false t (2 + 2 * k) (2 * k + 1) (cache_slot r.name) (omega arith)
+    subst (λ (u : TopologyValue). slice_get (slots false u) number ≡ Some (cache_slot r.name)) (sym same)
+    (router_slot false t number (2 * k + 1) (cache_slot r.name) (omega (arith, is))
     (λ more. slice_get-cache_slot more t.routers k (2 * k + 1) r.name refl named))
 
 -- and its byte order
@@ -44,8 +44,12 @@ one_table e = cc
 
 pub read_file_again-requires-clause-within : goal.read_file_again-requires-clause-within
 read_file_again-requires-clause-within g c =
-    subst (λ (t : TopologyValue). 2 + 2 * c.args.router < length (slots false t)) (sym c.topology-topology.ensures.topology)
-    (router_slots-within_count false c.args.domain.now.topology c.args.router c.requires.router)
+    let number = c.cache_slot_number-number.result in
+    subst (λ (t : TopologyValue). number < length (slots false t)) (sym c.topology-topology.ensures.topology) (omega (
+      arith,
+      c.cache_slot_number-number.ensures.value,
+      router_slots-within_count false c.args.domain.now.topology c.args.router c.requires.router,
+    ))
 
 pub returns-then-is_empty-clause-states : goal.returns-then-is_empty-clause-states
 returns-then-is_empty-clause-states g c = λ all contents summary r vifs is summaries at vifs_at.
@@ -65,7 +69,8 @@ returns-in_err-stated-clause-fault g c = λ all contents summary is summaries.
     let reader = c.handing_on-reader.result in
     let row = slice_get-exists t.routers k c.requires.router in
     let r = row.0 in
-    let here = cache_slot-at t c.topology-topology.result.now k r c.topology-topology.ensures.topology row.1 in
+    let here = cache_slot-at t c.topology-topology.result.now k c.cache_slot_number-number.result r
+    c.topology-topology.ensures.topology c.cache_slot_number-number.ensures.value row.1 in
     let order = order-of t c.topology-topology.result.now k r c.order-order.result
     c.topology-topology.ensures.topology c.order-order.ensures.item row.1 in
     let own = IsSummaryOf-at all files t summary k r summaries c.requires.router row.1 in
@@ -83,7 +88,8 @@ returns-clause-states g c = λ all contents summary r vifs is summaries at vifs_
     let files = files_without c.args.without.now contents in
     let wants = c.args.wants.now in
     let reader = c.handing_on-reader.result in
-    let here = cache_slot-at t c.topology-topology.result.now k r c.topology-topology.ensures.topology at in
+    let here = cache_slot-at t c.topology-topology.result.now k c.cache_slot_number-number.result r
+    c.topology-topology.ensures.topology c.cache_slot_number-number.ensures.value at in
     let order = order-of t c.topology-topology.result.now k r c.order-order.result
     c.topology-topology.ensures.topology c.order-order.ensures.item at in
     let own = IsSummaryOf-at all files t summary k r summaries c.requires.router at in

@@ -16,7 +16,7 @@ pub read_file_again-requires-clause-within : goal.read_file_again-requires-claus
 read_file_again-requires-clause-within g c =
     omega (
       arith,
-      c.routers.ensures.count,
+      c.first_lan_slot_number.ensures.value,
       lan_slot-within_count false c.args.topology.now c.args.lan c.requires.lan,
     )
 
@@ -27,8 +27,8 @@ returns-in_err-list-clause-fault g c = λ lists contents is are.
     let lan = c.args.lan in
     let files = files_without c.args.without.now contents in
     let own = IsListOf-at files t lists lan are c.requires.lan in
-    let here = slots-reports_slot false t (1 + 2 * c.routers.result + lan) lan own.0 (omega (arith, c.routers.ensures.count))
-    own.1 in
+    let here = slots-reports_slot false t (c.first_lan_slot_number.result + lan) lan own.0
+    (omega (arith, c.first_lan_slot_number.ensures.value)) own.1 in
     rw (p.1, p.2)
     (c.in_err-list.ensures.fault reports_of (reports_slot own.0) contents own.4.part own.2
     (λ part small. ap (map_fault (Reports part.name)) (c.new-reader.ensures.reads part.bytes)) here is own.4.made
@@ -40,8 +40,8 @@ returns-clause-sources g c = λ all a lists contents wants is are own_at so_far.
     let lan = c.args.lan in
     let files = files_without c.args.without.now contents in
     let own = IsListOf-at files t lists lan are c.requires.lan in
-    let here = slots-reports_slot false t (1 + 2 * c.routers.result + lan) lan own.0 (omega (arith, c.routers.ensures.count))
-    own.1 in
+    let here = slots-reports_slot false t (c.first_lan_slot_number.result + lan) lan own.0
+    (omega (arith, c.first_lan_slot_number.ensures.value)) own.1 in
     let read = c.in_ok-list.ensures.value reports_of (reports_slot own.0) contents
     (λ part small. ap (map_fault (Reports part.name)) (c.new-reader.ensures.reads part.bytes)) here is in
     let list = subst (λ (records : List Record). slice_get lists lan ≡ Some records)

@@ -48,6 +48,7 @@ pub read_slot-requires-clause-within : goal.read_slot-requires-clause-within
 read_slot-requires-clause-within g c =
     omega (
       arith,
+      c.vif_slot_number-vif_number.ensures.value,
       c.loop-router-test.true,
       c.loop-router.invariant.end,
       router_slots-within_count false c.args.topology.now c.loop-router.router
@@ -58,6 +59,7 @@ pub read_cache-requires-clause-within : goal.read_cache-requires-clause-within
 read_cache-requires-clause-within g c =
     omega (
       arith,
+      c.cache_slot_number-cache_number.ensures.value,
       c.loop-router-test.true,
       c.loop-router.invariant.end,
       router_slots-within_count false c.args.topology.now c.loop-router.router
@@ -78,13 +80,15 @@ returns-in_err-vifs-clause-fault g c =
     let r = slice_get-exists rs k (omega (arith, c.loop-router-test.true, c.loop-router.invariant.end)) in
     rw (p.1, p.2) (λ stream known loud.
     let x = c.loop-router.invariant.taken stream known in
+    let vifs_next = subst (λ (n : ℕ). g.S.Slots.gives c.loop-router.slots c.args.topology.now n ≡ Some x.0)
+    (sym c.vif_slot_number-vif_number.ensures.value) x.2 in
     x.5 ∙ ap (λ (more : List RouterRow). read_stream (read_each_after read x.1 more) x.0)
     (drop-slice_get rs k r.0 r.1)
     ∙ read_stream-Err_implied (read r.0) (read_each_after read x.1 (r.0 ∷ drop (k + 1) rs))
     (read_each-Err read x.1 r.0 (drop (k + 1) rs)) x.0 own
     (read_stream-Err_implied (read_first vifs_of) (read r.0) (read_router-vifs_Err r.0.order) x.0 own
     (c.in_err-vifs.ensures.fault vifs_of
-    (λ part small. ap (map_fault (Vif part.name)) (c.new-reader.ensures.reads part.bytes small)) x.0 x.2 loud)))
+    (λ part small. ap (map_fault (Vif part.name)) (c.new-reader.ensures.reads part.bytes small)) x.0 vifs_next loud)))
 
 pub returns-in_err-cache-clause-fault : goal.returns-in_err-cache-clause-fault
 returns-in_err-cache-clause-fault g c =
@@ -94,17 +98,23 @@ returns-in_err-cache-clause-fault g c =
     let own = c.in_err-cache.field-0.0 in
     let r = slice_get-exists rs k (omega (arith, c.loop-router-test.true, c.loop-router.invariant.end)) in
     let order = order-at _ r.0 c.order-order.result c.order-order.ensures.item r.1 in
+    let number_of_cache : c.vif_slot_number-vif_number.result + 1 ≡ c.cache_slot_number-cache_number.result =
+    omega (arith, c.vif_slot_number-vif_number.ensures.value, c.cache_slot_number-cache_number.ensures.value) in
     rw (p.1, p.2) (λ stream known loud.
     let x = c.loop-router.invariant.taken stream known in
+    let vifs_next = subst (λ (n : ℕ). g.S.Slots.gives c.loop-router.slots c.args.topology.now n ≡ Some x.0)
+    (sym c.vif_slot_number-vif_number.ensures.value) x.2 in
     let v = c.in_ok-vifs.ensures.value vifs_of
-    (λ part small. ap (map_fault (Vif part.name)) (c.new-reader.ensures.reads part.bytes small)) x.0 x.2 in
+    (λ part small. ap (map_fault (Vif part.name)) (c.new-reader.ensures.reads part.bytes small)) x.0 vifs_next in
+    let cache_next = subst (λ (n : ℕ). g.S.Slots.gives c.read_slot.new.slots c.args.topology.now n ≡ Some v.0)
+    number_of_cache v.2 in
     x.5 ∙ ap (λ (more : List RouterRow). read_stream (read_each_after read x.1 more) x.0)
     (drop-slice_get rs k r.0 r.1)
     ∙ read_stream-Err_implied (read r.0) (read_each_after read x.1 (r.0 ∷ drop (k + 1) rs))
     (read_each-Err read x.1 r.0 (drop (k + 1) rs)) x.0 own
     (ap (read_stream (read r.0)) v.3 ∙ read_router-cache_Err r.0.order v.0 v.1 v.4.0 own v.4.1
     (subst (λ (o : Order). read_stream (read_first (cache_and_text o)) v.0 ≡ Err own) order
-    (c.in_err-cache.ensures.fault v.0 v.2 loud))))
+    (c.in_err-cache.ensures.fault v.0 cache_next loud))))
 
 pub returns-in_err-cache-clause-advances : goal.returns-in_err-cache-clause-advances
 returns-in_err-cache-clause-advances g c =
@@ -129,7 +139,11 @@ loop-router-preserved g c =
     let own : TablesValue = record { vifs = vifs; cache = c.in_ok-cache.cache } in
     let kept = g.K.CacheKeeper.has_kept in
     let added = c.in_ok-add.ensures.added in
-    let next : 1 + 2 * k + 1 + 1 ≡ 1 + 2 * (k + 1) = omega arith in
+    let vif_number = c.vif_slot_number-vif_number.ensures.value in
+    let cache_number = c.cache_slot_number-cache_number.ensures.value in
+    let number_of_cache : c.vif_slot_number-vif_number.result + 1 ≡ c.cache_slot_number-cache_number.result =
+    omega (arith, vif_number, cache_number) in
+    let next : c.cache_slot_number-cache_number.result + 1 ≡ 1 + 2 * (k + 1) = omega (arith, cache_number) in
     record {
       advances = g.met.S.Slots.advances_twice c.args.slots.now c.read_slot.new.slots c.read_cache.new.slots
           (g.met.S.Slots.advances_twice c.args.slots.now c.loop-router.slots c.read_slot.new.slots
@@ -147,8 +161,10 @@ loop-router-preserved g c =
       taken = λ stream known.
           let x = c.loop-router.invariant.taken stream known in
           let v = c.in_ok-vifs.ensures.value vifs_of
-          (λ part small. ap (map_fault (Vif part.name)) (c.new-reader.ensures.reads part.bytes small)) x.0 x.2 in
-          let y = c.in_ok-cache.ensures.cache v.0 v.2 in
+          (λ part small. ap (map_fault (Vif part.name)) (c.new-reader.ensures.reads part.bytes small)) x.0
+          (subst (λ (n : ℕ). g.S.Slots.gives c.loop-router.slots t n ≡ Some x.0) (sym vif_number) x.2) in
+          let y = c.in_ok-cache.ensures.cache v.0
+          (subst (λ (n : ℕ). g.S.Slots.gives c.read_slot.new.slots t n ≡ Some v.0) number_of_cache v.2) in
           let read_own = router_read v.4.0 y.4.0.0 r.0.order y.4.0.1 in
           let before = map (λ (read : RouterRead). read.tables) x.1 in (
             y.0,

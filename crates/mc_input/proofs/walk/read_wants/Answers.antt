@@ -60,7 +60,7 @@ read_slot-requires-clause-within g c =
       arith,
       c.loop-lan-test.true,
       c.loop-lan.invariant.end,
-      c.routers.ensures.count,
+      c.first_lan_slot_number-first.ensures.value,
       lan_slot-within_count false c.args.topology.now c.loop-lan.lan
           (omega (arith, c.loop-lan-test.true, c.loop-lan.invariant.end)),
     )
@@ -73,8 +73,8 @@ returns-in_err-reports-clause-fault g c =
     let k = c.loop-lan.lan in
     let own = c.in_err-reports.field-0.0 in
     let lan = slice_get-exists t.lans k (omega (arith, c.loop-lan-test.true, c.loop-lan.invariant.end)) in
-    let number : 1 + 2 * c.routers.result + k ≡ first_lan_number t + k =
-    omega (arith, c.routers.ensures.count) in
+    let number : c.first_lan_slot_number-first.result + k ≡ first_lan_number t + k =
+    omega (arith, c.first_lan_slot_number-first.ensures.value) in
     let refused = subst (λ (n : ℕ). IsFaultOfStream (g.S.Slots.gives c.loop-lan.slots t n) (read_first reports_of) own)
     number (c.in_err-reports.ensures.fault reports_of
     (λ part small. ap (map_fault (Reports part.name)) (c.new-reader.ensures.reads part.bytes))) in
@@ -100,10 +100,10 @@ loop-lan-preserved g c =
     let items = c.in_ok-push.ensures.items in
     let are = c.in_ok-channels.ensures in
     let lan = slice_get-exists t.lans k (omega (arith, c.loop-lan-test.true, c.loop-lan.invariant.end)) in
-    let number : 1 + 2 * c.routers.result + k ≡ first_lan_number t + k =
-    omega (arith, c.routers.ensures.count) in
-    let next : 1 + 2 * c.routers.result + k + 1 ≡ first_lan_number t + (k + 1) =
-    omega (arith, c.routers.ensures.count) in
+    let number : c.first_lan_slot_number-first.result + k ≡ first_lan_number t + k =
+    omega (arith, c.first_lan_slot_number-first.ensures.value) in
+    let next : c.first_lan_slot_number-first.result + k + 1 ≡ first_lan_number t + (k + 1) =
+    omega (arith, c.first_lan_slot_number-first.ensures.value) in
     record {
       advances = g.met.S.Slots.advances_twice c.args.slots.now c.loop-lan.slots c.read_slot.new.slots
           c.loop-lan.invariant.advances c.in_ok-reports.ensures.advances;

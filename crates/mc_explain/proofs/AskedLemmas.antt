@@ -9,7 +9,8 @@ use Rattle.mc_explain.specs.AskedText.{services_text, some_services_text}
 
 -- the state of a router whose number is in the list
 pub has_state-at : (state : RouterState) (states : List RouterState) (n : ℕ) (d : RouterState)
-    → n < length states → has_state state (slice_get states n) ≡ is_same_state state (slice_index_or states n d)
+    → n < length states → has_state state (slice_get states n)
+    ≡ is_same_state state (slice_index_or states n d)
 has_state-at state [] n d within = absurd (omega (arith, within))
 has_state-at state (own ∷ states) zero d within = refl
 has_state-at state (own ∷ states) (suc n) d within = has_state-at state states n d (omega (arith, within))

@@ -1,6 +1,7 @@
 -- What is said to be behind a stray is true of a run of the flow.
-use Rattle.std.proofs.Common.{◌≡◌, ℕ, ◌≤◌, ◌==◌, inl, inr, Bool, true, false, cond, List, [], ◌∷◌, ◌++◌, filter}
-use Rattle.std.proofs.Common.{length, map, Option, Some, None, is_some, refl, ap, sym, subst, ◌∙◌, arith}
+use Rattle.std.proofs.Common.{◌≡◌, ℕ, ◌≤◌, ◌==◌, inl, inr, Bool, true, false, cond, List, [], ◌∷◌, ◌++◌}
+use Rattle.std.proofs.Common.{filter, length, map, Option, Some, None, is_some, refl, ap, sym, subst}
+use Rattle.std.proofs.Common.{◌∙◌, arith}
 use Rattle.std.specs.Prelude.{is_none, option_and_then, option_map, reverse}
 use Rattle.std.proofs.lemmas.Bool.{and_parts}
 use Rattle.mc_topology.specs.Topology.{TopologyValue}
@@ -47,7 +48,8 @@ second_causes-of_double n cs o c x causes are double found =
     are ∙ ap (second_causes n cs) double ∙ ap (double_causes n cs c) shown
 
 -- the sender of a LAN's first copy
-sender_on-first : (cs : List Copy) (l : ℕ) (a : Copy) → first_copy_on cs l ≡ Some a → sender_on cs l ≡ a.sender
+sender_on-first : (cs : List Copy) (l : ℕ) (a : Copy) → first_copy_on cs l ≡ Some a
+    → sender_on cs l ≡ a.sender
 sender_on-first cs l a on = sym (sender-copy_on cs l) ∙ ap (option_and_then (λ (c : Copy). c.sender)) on
 
 has_senders-of_duplicate : (n : Net) (g : Flight) (lan : ℕ) (causes : List Cause)
@@ -58,15 +60,16 @@ has_senders-of_duplicate n g lan causes d are found =
     let c = d.copy in
     let double = first_double-from_is_first_double cs c d.first in
     let a = earlier_copy-of_first_double cs c d.first in
-    let of_double = second_causes-of_double n cs (first_double [] cs) c (Duplicate lan) causes are double found in
+    let of_double = second_causes-of_double n cs (first_double [] cs) c (Duplicate lan) causes are
+    double found in
     let here : HasSenders cs c.lan causes = record {
       first = a.0;
       second = c;
       first_on = a.1;
       is_double = d.first;
       on = refl;
-      causes_are = of_double ∙ ap (λ (x : Option Interface). sender_causes c.lan x ++ sender_causes c.lan c.sender)
-          (sender_on-first cs c.lan a.0 a.1);
+      causes_are = of_double ∙ ap (λ (x : Option Interface). sender_causes c.lan x ++ sender_causes
+          c.lan c.sender) (sender_on-first cs c.lan a.0 a.1);
     } in
     subst (λ (l : ℕ). HasSenders cs l causes) d.lan here
 
@@ -112,8 +115,8 @@ double-of_finding n cs x e = by (first_double [] cs) refl e
     by None q e = absurd cc
     by (Some c) q e = (c, q, cc)
 
-second_is_shown : (d : DomainValue) (flow : ℕ) (greatest : Bool) (g : Flight) (x : Finding) (k t : ℕ) → IsDomain d
-    → EndsPastStrays (net_of d flow) (start (net_of d flow) 255) g
+second_is_shown : (d : DomainValue) (flow : ℕ) (greatest : Bool) (g : Flight) (x : Finding) (k t : ℕ)
+    → IsDomain d → EndsPastStrays (net_of d flow) (start (net_of d flow) 255) g
     → second_copy_finding (net_of d flow) g.carried ≡ Some x
     → second_shown_from greatest (net_of d flow) g.carried (first_double [] g.carried) ≡ Some k → k ≤ t
     → EachCompleteRunHasFault (net_of d flow) t x
@@ -133,8 +136,8 @@ in_filter-passes : {A : Type 0} (p : A → Bool) (x : A) (xs : List A) → In x 
 in_filter-passes p x [] h = absurd h
 in_filter-passes p x (y ∷ ys) h = by (p y) refl (in_filter-passes p x ys) h
   where
-    by : (b : Bool) → p y ≡ b → (In x (filter p ys) → p x ≡ true) → In x (cond b (y ∷ filter p ys) (filter p ys))
-        → p x ≡ true
+    by : (b : Bool) → p y ≡ b → (In x (filter p ys) → p x ≡ true)
+        → In x (cond b (y ∷ filter p ys) (filter p ys)) → p x ≡ true
     by true q rest (inl e) = sym (ap p e) ∙ q
     by true q rest (inr k) = rest k
     by false q rest k = rest k
@@ -182,19 +185,20 @@ is_true-behind whole d flow own b ok h =
     let g = h.flight in
     let s = h.shows in
     let shows : (x : Finding) → optional_finding_value b.finding ≡ Some x → Shows n g x = λ x e.
-    shows-past_strays n (length d.topology.lans) 255 g x (λ l wants. wants-below_lan_count d flow l ok wants) h.run
+    shows-past_strays n (length d.topology.lans) 255 g x
+    (λ l wants. wants-below_lan_count d flow l ok wants) h.run
     (sym s.finding ∙ e) in
     record {
       flight = g;
       run = h.run;
       shows = shows;
-      duplicate = λ lan e. has_senders-of_duplicate n g lan b.causes.items (shows (Duplicate lan) e).0 s.causes
-          (sym s.finding ∙ e);
-      loop_back = λ lan e. has_circle-of_loop d flow g lan b.causes.items ok h.run (shows (Loop lan) e).0 s.causes
-          (sym s.finding ∙ e);
-      shown = λ x k t e from le. second_is_shown d flow (ttl_of d flow == 255) g x k t ok h.run (sym s.finding ∙ e)
-          (sym s.shown ∙ from) le;
+      duplicate = λ lan e. has_senders-of_duplicate n g lan b.causes.items
+          (shows (Duplicate lan) e).0 s.causes (sym s.finding ∙ e);
+      loop_back = λ lan e. has_circle-of_loop d flow g lan b.causes.items ok h.run
+          (shows (Loop lan) e).0 s.causes (sym s.finding ∙ e);
+      shown = λ x k t e from le. second_is_shown d flow (ttl_of d flow == 255) g x k t ok h.run
+          (sym s.finding ∙ e) (sym s.shown ∙ from) le;
       strays = λ i k. strays-of_run n own (first_double [] g.carried) g.strays i (subst (In i) s.strays k);
-      missed = λ l k. missed-in_run d.topology n whole (start n 255) g (first_double [] g.carried) l refl h.run
-          (subst (In l) s.missed k);
+      missed = λ l k. missed-in_run d.topology n whole (start n 255) g
+          (first_double [] g.carried) l refl h.run (subst (In l) s.missed k);
     }

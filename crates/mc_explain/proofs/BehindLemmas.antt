@@ -11,7 +11,8 @@ use Rattle.mc_theory.specs.ShownFrom.{IsShownFrom, RestsOnTwoCopies}
 use Rattle.mc_forward.specs.Domains.{DomainValue, IsDomain, net_of}
 use Rattle.mc_forward.specs.FlightsInDomain.{FlowOfDomain, IsFlowOfDomain, net_in}
 use Rattle.mc_forward.proofs.DomainLemmas.{is_net-net_of, wants-below_lan_count}
-use Rattle.mc_replay.specs.PastStrays.{EndsPastStrays, IsFlightPastStrays, finding_of_double, second_copy_finding}
+use Rattle.mc_replay.specs.PastStrays.{EndsPastStrays, IsFlightPastStrays, finding_of_double}
+use Rattle.mc_replay.specs.PastStrays.{second_copy_finding}
 use Rattle.mc_replay.specs.declared.past_strays.FlightPastStrays.{FlightPastStrays}
 use Rattle.mc_replay.proofs.PastStraysLemmas.{came_by_few_hops-past_strays, has_need-past_strays}
 use Rattle.mc_explain.specs.Behind.{missed_unless_open}
@@ -37,7 +38,8 @@ is_shown_from-of_second d flow g c ok past double =
     let count = length d.topology.lans in
     let wants : WantsBelow n count = λ l w. wants-below_lan_count d flow l ok w in
     let x = finding_of_double n g.carried c in
-    let found : second_copy_finding n g.carried ≡ Some x = ap (option_map (finding_of_double n g.carried)) double in
+    let found : second_copy_finding n g.carried ≡ Some x =
+    ap (option_map (finding_of_double n g.carried)) double in
     let has = has_need-past_strays n count 255 g x net wants (omega arith) past found in
     let rests = rests_on_two-of_either n g.carried c.lan has.0
     (walk_visits n g.carried c.lan (length g.carried) c.sender) has.1 in

@@ -10,13 +10,15 @@ use Rattle.mc_explain.specs.BehindText.{leaks_text, missed_behind_text, not_know
 use Rattle.mc_explain.specs.Indented.{AreIndented}
 use Rattle.mc_explain.specs.RowText.{device_text}
 use Rattle.mc_explain.specs.ShownNames.{lans_text, more_text, routers_text}
-use Rattle.mc_explain.proofs.IndentedLemmas.{are_indented-append, are_indented-from_line_rest, are_indented-none}
-use Rattle.mc_explain.proofs.IndentedLemmas.{is_line_rest-append, is_line_rest-append_front, is_line_rest-feed}
+use Rattle.mc_explain.proofs.IndentedLemmas.{are_indented-append, are_indented-from_line_rest}
+use Rattle.mc_explain.proofs.IndentedLemmas.{are_indented-none, is_line_rest-append}
+use Rattle.mc_explain.proofs.IndentedLemmas.{is_line_rest-append_front, is_line_rest-feed}
 use Rattle.mc_explain.proofs.LineFeedLemmas.{no_feed-append, no_feed-append_front, no_feed-device_text}
 use Rattle.mc_explain.proofs.LineFeedLemmas.{no_feed-flat_map, no_feed-router_name}
 use Rattle.mc_explain.proofs.NameListLemmas.{no_feed-lans_text, no_feed-more_text, no_feed-routers_text}
 
-no_feed-leak_text : (d : DomainFacts) (i : Interface) → IsValidTopology d.topology → HasNoByte 10 (leak_text d i)
+no_feed-leak_text : (d : DomainFacts) (i : Interface) → IsValidTopology d.topology
+    → HasNoByte 10 (leak_text d i)
 no_feed-leak_text d i ok =
     no_feed-append (router_name d.topology i.0) _ (no_feed-router_name d.topology i.0 ok)
     (no_feed-append_front (codes " ") (device_text d i.0 i.1) refl (no_feed-device_text d i.0 i.1))
@@ -54,9 +56,11 @@ are_indented-missed_behind_text t [] ok = are_indented-none
 are_indented-missed_behind_text t (lan ∷ lans) ok =
     are_indented-from_line_rest _
     (is_line_rest-append_front (codes "behind it: missed, unless what leaves there reaches it:") _ refl
-    (is_line_rest-append (lans_text t (lan ∷ lans)) _ (no_feed-lans_text t (lan ∷ lans) ok) is_line_rest-feed))
+    (is_line_rest-append (lans_text t (lan ∷ lans)) _ (no_feed-lans_text t (lan ∷ lans) ok)
+    is_line_rest-feed))
 
-pub are_indented-leaks_behind_text : (d : DomainFacts) (strays : List Interface) (open_routers missed : List ℕ)
+pub are_indented-leaks_behind_text : (d : DomainFacts) (strays : List Interface)
+    (open_routers missed : List ℕ)
     → IsValidTopology d.topology → AreIndented (leaks_behind_text d strays open_routers missed)
 are_indented-leaks_behind_text d strays open_routers missed ok =
     are_indented-append (also_leaves_text d strays) _ (are_indented-also_leaves_text d strays ok)

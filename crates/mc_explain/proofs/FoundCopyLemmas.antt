@@ -103,7 +103,8 @@ causes-two_senders lan x y a b r ts us vs ws e₁ e₂ e₃ e₄ p q = e₄ ∙
 pub causes-two_senders_alone : (k lan : ℕ) (x y a b : Option Interface) (ts us vs : List Cause) → ts ≡ [] →
     us ≡ ts ++ sender_causes k a → vs ≡ us ++ sender_causes k b → k ≡ lan → a ≡ x → b ≡ y →
     vs ≡ sender_causes lan x ++ sender_causes lan y
-causes-two_senders_alone k lan x y a b ts us vs e₁ e₂ e₃ same p q = e₃ ∙ ap (λ (zs : List Cause). zs ++ sender_causes k b)
+causes-two_senders_alone k lan x y a b ts us vs e₁ e₂ e₃ same p q = e₃
+    ∙ ap (λ (zs : List Cause). zs ++ sender_causes k b)
     (e₂ ∙ ap (λ (zs : List Cause). zs ++ sender_causes k a) e₁) ∙
     ap₂ (λ (us vs : List Cause). us ++ vs) (ap₂ sender_causes same p) (ap₂ sender_causes same q)
 

@@ -14,8 +14,8 @@ use Rattle.mc_forward.specs.Domains.{DomainValue, IsDomain}
 use Rattle.mc_forward.specs.ListedTables.{DomainFacts, facts}
 use Rattle.mc_forward.proofs.DomainLemmas.{placed-below_lan_count}
 use Rattle.mc_explain.specs.declared.searches.search_line.SearchLine.{SearchLine}
-use Rattle.mc_explain.specs.declared.searches.search_line.SearchLine.TheVariants.{DoesNotSend, Excluded, NoRow}
-use Rattle.mc_explain.specs.declared.searches.search_line.SearchLine.TheVariants.{NoSender}
+use Rattle.mc_explain.specs.declared.searches.search_line.SearchLine.TheVariants.{DoesNotSend, Excluded}
+use Rattle.mc_explain.specs.declared.searches.search_line.SearchLine.TheVariants.{NoRow, NoSender}
 use Rattle.mc_explain.specs.declared.searches.search_line.SearchLine.TheVariants.{Unresolved}
 use Rattle.mc_explain.specs.declared.searches.listed_interface.ListedInterface.{ListedInterface}
 use Rattle.mc_explain.specs.SearchLine.{Search, carried, device_lines, every_source_from, expected_lines}

@@ -25,10 +25,12 @@ use Rattle.mc_theory.proofs.ListLemmas.{in-map}
 use Rattle.mc_forward.specs.Domains.{DomainValue, IsDomain, lan_of_vif, vif_of}
 use Rattle.mc_forward.specs.ListedTables.{DomainFacts, facts}
 use Rattle.mc_explain.specs.declared.searches.search_line.SearchLine.{SearchLine}
-use Rattle.mc_explain.specs.declared.searches.search_line.SearchLine.TheVariants.{DoesNotSend, EverySource}
-use Rattle.mc_explain.specs.declared.searches.search_line.SearchLine.TheVariants.{ExpectedFromHere, FromUnplaced}
-use Rattle.mc_explain.specs.declared.searches.search_line.SearchLine.TheVariants.{Excluded}
-use Rattle.mc_explain.specs.declared.searches.search_line.SearchLine.TheVariants.{NoRow, NoVif, NotMulticast}
+use Rattle.mc_explain.specs.declared.searches.search_line.SearchLine.TheVariants.{DoesNotSend}
+use Rattle.mc_explain.specs.declared.searches.search_line.SearchLine.TheVariants.{EverySource}
+use Rattle.mc_explain.specs.declared.searches.search_line.SearchLine.TheVariants.{ExpectedFromHere}
+use Rattle.mc_explain.specs.declared.searches.search_line.SearchLine.TheVariants.{FromUnplaced}
+use Rattle.mc_explain.specs.declared.searches.search_line.SearchLine.TheVariants.{Excluded, NoRow}
+use Rattle.mc_explain.specs.declared.searches.search_line.SearchLine.TheVariants.{NoVif, NotMulticast}
 use Rattle.mc_explain.specs.declared.searches.search_line.SearchLine.TheVariants.{Unresolved}
 use Rattle.mc_explain.specs.declared.searches.listed_interface.ListedInterface.{ListedInterface}
 use Rattle.mc_explain.specs.SearchLine.{Search, carried, device_lines, expected_lines, group_by_router}

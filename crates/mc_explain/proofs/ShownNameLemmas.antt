@@ -31,7 +31,8 @@ also_leaves_text-some_leak d (i ∷ is) some = refl
 
 -- if nothing is known past some router there
 pub not_known_past_text-some_router : (t : TopologyValue) (routers : List ℕ) → (length routers == 0) ≡ false
-    → codes "  behind it: not known past" ++ (routers_text t routers ++ codes "\n") ≡ not_known_past_text t routers
+    → codes "  behind it: not known past" ++ (routers_text t routers ++ codes "\n")
+    ≡ not_known_past_text t routers
 not_known_past_text-some_router t [] some = absurd cc
 not_known_past_text-some_router t (r ∷ rs) some = refl
 

@@ -1,6 +1,6 @@
 -- The text of the wants that nothing answers.
-use Rattle.std.specs.Prelude.{◌≡◌, ℕ, ◌-◌, ◌*◌, ◌^◌, ◌==◌, ◌&&◌, Bool, List, [], ◌∷◌, ◌++◌, codes, decimal, filter}
-use Rattle.std.specs.Prelude.{if◌then◌else◌, length, map, unwrap_or, flat_map, take}
+use Rattle.std.specs.Prelude.{◌≡◌, ℕ, ◌-◌, ◌*◌, ◌^◌, ◌==◌, ◌&&◌, Bool, List, [], ◌∷◌, ◌++◌, codes}
+use Rattle.std.specs.Prelude.{decimal, filter, if◌then◌else◌, length, map, unwrap_or, flat_map, take}
 use Rattle.mc_text.specs.Addr.{dotted}
 use Rattle.mc_text.specs.GroupRange.{has_group}
 use Rattle.mc_topology.specs.Topology.{TopologyValue}

@@ -20,9 +20,9 @@ use Rattle.mc_explain.specs.declared.causes.behind.Behind.{Behind}
 
 -- ---- a second copy
 
--- Why these copies show the finding of copy c, the first double one, as for a finding of a travel, but without a
--- remedy: the senders of the LAN's first copy and of the second, or the path by which the second came from the LAN
--- itself, from its beginning.
+-- Why these copies show the finding of copy c, the first double one, as for a finding of a travel, but
+-- without a remedy: the senders of the LAN's first copy and of the second, or the path by which the second
+-- came from the LAN itself, from its beginning.
 abbrev pub double_causes : Net → List Copy → Copy → FindingValue → List Cause
 double_causes n cs c (Duplicate lan) =
     sender_causes c.lan (sender_on cs c.lan) ++ sender_causes c.lan c.sender
@@ -72,7 +72,8 @@ is_missed n cs lan = n.wants lan && is_none (first_copy_on cs lan)
 abbrev pub missed_lans : TopologyValue → Net → List Copy → List ℕ
 missed_lans t n cs = filter (is_missed n cs) (below (length t.lans))
 
--- No LAN is called missed where a router's row isn't followed, or a router is excluded: it may send a copy there.
+-- No LAN is called missed where a router's row isn't followed, or a router is excluded: it may send a copy
+-- there.
 abbrev pub missed_unless_open : (whole : Bool) → (open_routers lans : List ℕ) → List ℕ
 missed_unless_open true [] lans = lans
 missed_unless_open true (r ∷ rs) lans = []
@@ -85,8 +86,9 @@ abbrev pub unless_second : {A : Type 0} → Option Copy → List A → List A
 unless_second None xs = xs
 unless_second (Some c) xs = []
 
--- What the flight that a run past the stray ends with shows: `whole` where no router is excluded, `greatest` where
--- the flow's own TTL is 255, and `double` is the first copy that has an earlier one on its LAN, if there is one.
+-- What the flight that a run past the stray ends with shows: `whole` where no router is excluded,
+-- `greatest` where the flow's own TTL is 255, and `double` is the first copy that has an earlier one on its
+-- LAN, if there is one.
 pub record IsBehindIn (whole greatest : Bool) (t : TopologyValue) (n : Net) (own : Interface) (g : Flight)
     (double : Option Copy) (b : Behind) : Type 0 where
   pub finding : optional_finding_value b.finding ≡ option_map (finding_of_double n g.carried) double
@@ -97,7 +99,8 @@ pub record IsBehindIn (whole greatest : Bool) (t : TopologyValue) (n : Net) (own
   pub missed : b.missed.items ≡ unless_second double
       (missed_unless_open whole (open_routers n g.strays) (missed_lans t n g.carried))
 
--- What is behind the stray at this interface of a packet of the flow with TTL 255: that run is one of the flow.
+-- What is behind the stray at this interface of a packet of the flow with TTL 255: that run is one of the
+-- flow.
 pub record IsBehind (whole : Bool) (d : DomainValue) (flow : ℕ) (own : Interface) (b : Behind) : Type 0 where
   pub flight : Flight
   pub run : EndsPastStrays (net_of d flow) (start (net_of d flow) 255) flight

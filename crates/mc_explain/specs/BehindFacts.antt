@@ -34,9 +34,10 @@ pub record HasCircle (n : Net) (cs : List Copy) (lan : ℕ) (causes : List Cause
   pub came_by_hops : CameFromLan n cs lan second circle
   pub causes_are : causes ≡ reverse (map circle_cause circle)
 
--- All of it is true of one run of the flow, that of a packet with TTL 255 which goes on past strays: it shows the
--- finding, by these causes, and so does each complete run of a packet with at least the TTL that is said; its copies
--- left by the interfaces and came to the routers; and it is complete and brought the missed LANs no copy.
+-- All of it is true of one run of the flow, that of a packet with TTL 255 which goes on past strays: it
+-- shows the finding, by these causes, and so does each complete run of a packet with at least the TTL that
+-- is said; its copies left by the interfaces and came to the routers; and it is complete and brought the
+-- missed LANs no copy.
 pub record IsTrueBehind (d : DomainValue) (flow : ℕ) (b : Behind) : Type 0 where
   pub flight : Flight
   pub run : EndsPastStrays (net_of d flow) (start (net_of d flow) 255) flight
@@ -45,8 +46,8 @@ pub record IsTrueBehind (d : DomainValue) (flow : ℕ) (b : Behind) : Type 0 whe
       → HasSenders flight.carried lan b.causes.items
   pub loop_back : (lan : ℕ) → optional_finding_value b.finding ≡ Some (Loop lan)
       → HasCircle (net_of d flow) flight.carried lan b.causes.items
-  pub shown : (x : Finding) (k t : ℕ) → optional_finding_value b.finding ≡ Some x → b.shown_from ≡ Some k → k ≤ t
-      → EachCompleteRunHasFault (net_of d flow) t x
+  pub shown : (x : Finding) (k t : ℕ) → optional_finding_value b.finding ≡ Some x
+      → b.shown_from ≡ Some k → k ≤ t → EachCompleteRunHasFault (net_of d flow) t x
   pub strays : (i : Interface) → In i b.strays.items → In i flight.strays
   pub missed : (lan : ℕ) → In lan b.missed.items → (flight.waiting ≡ []) × ((net_of d flow).wants lan ≡ true)
       × (In lan (lans flight.carried) → ⊥)

@@ -38,7 +38,8 @@ missed_behind_text t [] = []
 missed_behind_text t (lan ∷ lans) = codes "  behind it: missed, unless what leaves there reaches it:"
     ++ (lans_text t (lan ∷ lans) ++ codes "\n")
 
--- by which interfaces copies also leave the domain, past which routers nothing is known, and which LANs are missed
+-- by which interfaces copies also leave the domain, past which routers nothing is known, and which LANs are
+-- missed
 abbrev pub leaks_behind_text : DomainFacts → List Interface → (open_routers missed : List ℕ) → List ℕ
 leaks_behind_text d strays open_routers missed = also_leaves_text d strays
     ++ (not_known_past_text d.topology open_routers ++ missed_behind_text d.topology missed)

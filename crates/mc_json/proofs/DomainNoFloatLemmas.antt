@@ -9,7 +9,8 @@ use Rattle.mc_explain.specs.TopologyLans.{vif_of_device}
 use Rattle.serde_json.specs.Data.{Data, string}
 use Rattle.serde_json.specs.Written.{has_float}
 use Rattle.mc_json.specs.DomainData.{domain_data, interfaces_data, lan_or_null, parts_data, source_data}
-use Rattle.mc_json.specs.DomainData.{router_with_order, unmatched_data, unmatched_data_of, vif_data, vifs_data}
+use Rattle.mc_json.specs.DomainData.{router_with_order, unmatched_data, unmatched_data_of, vif_data}
+use Rattle.mc_json.specs.DomainData.{vifs_data}
 use Rattle.mc_json.proofs.NoFloatLemmas.{HaveNoFloat, no_float-append, no_float-map, no_float-lans}
 
 -- items with several values each

@@ -54,10 +54,12 @@ unfolding escape_byte
 are_object_lines-wrong_flow number f w = are_object_lines-one (wrong_data number f w) refl refl
 
 pub are_object_lines-wrong : (d : DomainFacts) (number : ℕ) (f : Flow) (certainty : Certainty) (found_ttl : ℕ)
-    (finding : Finding) (events : List Event) (also : List ℕ) (behind : Data) (why : List Data) (events_asked : Bool)
+    (finding : Finding) (events : List Event) (also : List ℕ) (behind : Data) (why : List Data)
+    (events_asked : Bool)
     → AreObjectLines (wrong_line d number f certainty found_ttl finding events also behind why events_asked)
 are_object_lines-wrong d number f certainty found_ttl finding events also behind why events_asked =
-    are_object_lines-wrong_flow number f (wrong_flow_of d number certainty found_ttl finding events also behind why
+    are_object_lines-wrong_flow number f
+    (wrong_flow_of d number certainty found_ttl finding events also behind why
     events_asked)
 
 -- ---- after the flows
@@ -103,7 +105,8 @@ are_object_lines-summary asked right unknown unwanted wrong =
 
 -- ---- what hosts ask for
 
-pub are_object_lines-asked : (t : TopologyValue) (line : Want × List ℕ) (listed none_out forwards star : List ℕ)
+pub are_object_lines-asked : (t : TopologyValue) (line : Want × List ℕ)
+    (listed none_out forwards star : List ℕ)
     → AreObjectLines (line_of (asked_object t line listed none_out forwards star))
 unfolding escape_byte
 are_object_lines-asked t line listed none_out forwards star =

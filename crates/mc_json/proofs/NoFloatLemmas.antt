@@ -1,6 +1,6 @@
 -- No value of a line has a fraction.
-use Rattle.std.proofs.Common.{◌≡◌, ℕ, Bool, true, false, List, [], ◌∷◌, ◌++◌, Option, Some, None, map, ◌==◌, cond}
-use Rattle.std.proofs.Common.{refl}
+use Rattle.std.proofs.Common.{◌≡◌, ℕ, Bool, true, false, List, [], ◌∷◌, ◌++◌, Option, Some, None, map}
+use Rattle.std.proofs.Common.{◌==◌, cond, refl}
 use Rattle.std.proofs.lemmas.Bool.{or_parts}
 use Rattle.mc_tables.specs.CacheTable.{EntryValue}
 use Rattle.mc_tables.specs.VifTable.{VifValue}
@@ -31,7 +31,8 @@ use Rattle.serde_json.specs.Data.{null}
 use Rattle.mc_json.specs.AskedData.{address_data, asked_data_of, service_data, source_data}
 use Rattle.mc_asked.specs.ListWants.{Want}
 use Rattle.mc_explain.specs.declared.asked.asked_text.AskedLine.{AskedLine}
-use Rattle.mc_json.specs.FlowData.{optional_finding_data, shown_from_data, tree_data, wrong_data, wrong_flow_of, wrong_mark}
+use Rattle.mc_json.specs.FlowData.{optional_finding_data, shown_from_data, tree_data, wrong_data}
+use Rattle.mc_json.specs.FlowData.{wrong_flow_of, wrong_mark}
 use Rattle.mc_json.specs.TreeKey.{taking_interface}
 use Rattle.mc_explain.specs.declared.causes.explanation.Certainty.{Certainty}
 
@@ -160,13 +161,16 @@ pub no_float-shown_from : (shown_from : Option ℕ) → has_float (shown_from_da
 no_float-shown_from None = refl
 no_float-shown_from (Some ttl) = refl
 
-pub no_float-optional_finding : (t : TopologyValue) (found : Option Finding) → has_float (optional_finding_data t found) ≡ false
+pub no_float-optional_finding : (t : TopologyValue) (found : Option Finding)
+    → has_float (optional_finding_data t found) ≡ false
 no_float-optional_finding t None = refl
 no_float-optional_finding t (Some finding) = no_float-finding_data t finding
 
-no_float-wrong_data : (number : ℕ) (f : Flow) (certainty : Certainty) (also : List Data) (at_flow_ttl behind : Data)
+no_float-wrong_data : (number : ℕ) (f : Flow) (certainty : Certainty) (also : List Data)
+    (at_flow_ttl behind : Data)
     (events : Option (List Data)) (finding : Data) (found_ttl : ℕ) (wanted why : List Data)
-    → HaveNoFloat also → has_float at_flow_ttl ≡ false → has_float behind ≡ false → EventsHaveNoFloat events → has_float finding ≡ false → HaveNoFloat wanted → HaveNoFloat why
+    → HaveNoFloat also → has_float at_flow_ttl ≡ false → has_float behind ≡ false → EventsHaveNoFloat events
+    → has_float finding ≡ false → HaveNoFloat wanted → HaveNoFloat why
     → has_float (wrong_data number f (record {
       certainty = certainty;
       also = also;
@@ -178,7 +182,8 @@ no_float-wrong_data : (number : ℕ) (f : Flow) (certainty : Certainty) (also : 
       wanted = wanted;
       why = why;
     })) ≡ false
-no_float-wrong_data number f certainty also below past None finding found_ttl wanted why plain own further causes found lans
+no_float-wrong_data number f certainty also below past None finding found_ttl wanted why plain own further
+    causes found lans
     because =
     rw (
       plain,
@@ -190,7 +195,8 @@ no_float-wrong_data number f certainty also below past None finding found_ttl wa
       lans,
       because,
     )
-no_float-wrong_data number f certainty also below past (Some es) finding found_ttl wanted why plain own further causes found lans
+no_float-wrong_data number f certainty also below past (Some es) finding found_ttl wanted why plain own
+    further causes found lans
     because =
     rw (
       plain,
@@ -210,13 +216,16 @@ no_float-events_if_asked t n true es = no_float-events t n es
 no_float-events_if_asked t n false es = tt
 
 pub no_float-wrong_flow_of : (d : DomainFacts) (flow : ℕ) (f : Flow) (certainty : Certainty) (found_ttl : ℕ)
-    (finding : Finding) (events : List Event) (also : List ℕ) (behind : Data) (why : List Data) (events_asked : Bool)
+    (finding : Finding) (events : List Event) (also : List ℕ) (behind : Data) (why : List Data)
+    (events_asked : Bool)
     → has_float behind ≡ false → HaveNoFloat why → has_float (wrong_data flow f
     (wrong_flow_of d flow certainty found_ttl finding events also behind why events_asked)) ≡ false
-no_float-wrong_flow_of d flow f certainty found_ttl finding events also behind why events_asked further because =
+no_float-wrong_flow_of d flow f certainty found_ttl finding events also behind why events_asked
+    further because =
     let t = d.topology in
     no_float-wrong_data flow f certainty (map (lan_data t) also)
-    (optional_finding_data t certainty.shown_by.at_flow_ttl) behind (events_if_asked t (d.nets flow) events_asked events)
+    (optional_finding_data t certainty.shown_by.at_flow_ttl) behind
+    (events_if_asked t (d.nets flow) events_asked events)
     (finding_data t finding) found_ttl (map (lan_data t) (lans_wanting d flow)) why (no_float-lans t also)
     (no_float-optional_finding t certainty.shown_by.at_flow_ttl) further
     (no_float-events_if_asked t (d.nets flow) events_asked events) (no_float-finding_data t finding)
@@ -256,5 +265,6 @@ no_float-asked_data t line = rw (
 no_float-service_data : (t : TopologyValue) (line : Want × List ℕ) → has_float (service_data t line) ≡ false
 no_float-service_data t line = rw (no_float-lans t line.1)
 
-pub no_float-services : (t : TopologyValue) (lines : List (Want × List ℕ)) → HaveNoFloat (map (service_data t) lines)
+pub no_float-services : (t : TopologyValue) (lines : List (Want × List ℕ))
+    → HaveNoFloat (map (service_data t) lines)
 no_float-services t lines = no_float-map (service_data t) (no_float-service_data t) lines

@@ -36,8 +36,8 @@ asked_object t line listed none_out forwards star = single_member (codes "asked"
     ∷ (codes "star", routers_data t star) ∷ []))
 
 abbrev pub asked_data_of : TopologyValue → AskedLine → Data
-asked_data_of t line = asked_object t (line.want.now, line.lans.now) line.listed.now line.routers.now.none_out.items
-    line.routers.now.forwards.items line.routers.now.every_source.items
+asked_data_of t line = asked_object t (line.want.now, line.lans.now) line.listed.now
+    line.routers.now.none_out.items line.routers.now.forwards.items line.routers.now.every_source.items
 
 abbrev pub asked_data : TopologyValue → (flows : List (ℕ × ℕ)) → List RouterState → Want × List ℕ → Data
 asked_data t flows states line = asked_object t line (listed_sources flows line.0.0)

@@ -172,8 +172,8 @@ each_wrong_members number f certainty found_ttl wanted why =
     ∷ (codes "why", list_data why) ∷ []
 
 -- A flow with a finding: how certain that is, the finding and its TTL, what a packet with the flow's own TTL
--- meets, what is behind a stray, the LANs that want the flow, those of them that were also missed, the travel's
--- events if they are asked for, and the causes.
+-- meets, what is behind a stray, the LANs that want the flow, those of them that were also missed, the
+-- travel's events if they are asked for, and the causes.
 pub record WrongFlow : Type 0 where
   pub certainty : Certainty
   pub also : List Data
@@ -222,5 +222,6 @@ wrong_flow_of d flow certainty found_ttl finding events also behind why events_a
 -- and its line
 abbrev pub wrong_line : DomainFacts → (flow : ℕ) → Flow → Certainty → (found_ttl : ℕ) → Finding → List Event
     → (also : List ℕ) → (behind : Data) → (why : List Data) → (events_asked : Bool) → List ℕ
-wrong_line d flow f certainty found_ttl finding events also behind why events_asked = line_of (wrong_data flow f
+wrong_line d flow f certainty found_ttl finding events also behind why events_asked =
+    line_of (wrong_data flow f
     (wrong_flow_of d flow certainty found_ttl finding events also behind why events_asked))

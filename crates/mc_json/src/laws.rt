@@ -1,5 +1,5 @@
-//! Theorems about the lines: each is a JSON object, only the last one has a verdict, and what trees and events
-//! have in common.
+//! Theorems about the lines: each is a JSON object, only the last one has a verdict, and what trees and
+//! events have in common.
 
 ghost use Rattle.std.specs.Prelude.{◌≡◌, ◌+◌, ℕ, Bool, List, codes, false, length, true};
 ghost use Rattle.serde_json.specs.Data.{Data};
@@ -60,6 +60,6 @@ pub fn each_copy_of_an_event_has_its_vif()
 /// Trees that aren't told apart, even of different flows, have one line: so the line with a flow's number of
 /// a tree is that of its own tree.
 pub fn trees_with_one_key_have_one_line()
-    ensures { (t : TopologyValue) (n m : Net) (es fs : List Entry) (tree : ℕ) → tree_key n es ≡ tree_key m fs →
-        tree_data t n es tree ≡ tree_data t m fs tree }
+    ensures { (t : TopologyValue) (n m : Net) (es fs : List Entry) (tree : ℕ) →
+        tree_key n es ≡ tree_key m fs → tree_data t n es tree ≡ tree_data t m fs tree }
 {}

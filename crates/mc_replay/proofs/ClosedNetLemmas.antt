@@ -183,8 +183,11 @@ without_strays-start n t = refl
 in_range-closed : (n : Net) (ps : List Pick) (f : Flight) → InRange n ps f
     → InRange (closed n) ps (without_strays f)
 in_range-closed n [] f h = tt
-in_range-closed n (p ∷ ps) f h =
-    (h.0, subst (InRange (closed n) ps) (without_strays-pick n p f) (in_range-closed n ps (apply_pick n p f) h.1))
+in_range-closed n (p ∷ ps) f h = (
+  h.0,
+  subst (InRange (closed n) ps) (without_strays-pick n p f)
+      (in_range-closed n ps (apply_pick n p f) h.1),
+)
 
 pub is_complete_run-closed : (n : Net) (t : ℕ) (ps : List Pick) → IsCompleteRun n t ps
     → IsCompleteRun (closed n) t ps
@@ -222,8 +225,8 @@ walk_visits-closed n cs l (suc k) x =
     by None rest = refl
     by (Some p) rest = ap (λ b. (p == l) || b) (rest p)
 
-pub is_walk_back-of_closed : (n : Net) (cs : List Copy) (c : Copy) (ds : List Copy) → IsWalkBack (closed n) cs c ds
-    → IsWalkBack n cs c ds
+pub is_walk_back-of_closed : (n : Net) (cs : List Copy) (c : Copy) (ds : List Copy)
+    → IsWalkBack (closed n) cs c ds → IsWalkBack n cs c ds
 is_walk_back-of_closed n cs c [] h = h
 is_walk_back-of_closed n cs c (d ∷ ds) h =
     (sym (from_lan-closed n c.sender) ∙ h.0, h.1, is_walk_back-of_closed n cs d ds h.2)

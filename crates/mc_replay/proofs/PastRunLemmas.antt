@@ -1,6 +1,6 @@
 -- A run past strays, handling by handling.
-use Rattle.std.proofs.Common.{◌≡◌, ℕ, suc, ◌+◌, ◌-◌, ◌<◌, Bool, true, false, not, nat_lt, List, [], ◌∷◌, ◌++◌, length}
-use Rattle.std.proofs.Common.{Option, None, is_some, refl, ap, sym, ◌∙◌, subst, arith}
+use Rattle.std.proofs.Common.{◌≡◌, ℕ, suc, ◌+◌, ◌-◌, ◌<◌, Bool, true, false, not, nat_lt, List, [], ◌∷◌}
+use Rattle.std.proofs.Common.{◌++◌, length, Option, None, is_some, refl, ap, sym, ◌∙◌, subst, arith}
 use Rattle.std.specs.Prelude.{◌≢◌, ◌&&◌}
 use Rattle.std.proofs.lemmas.Bool.{lt-ltb}
 use Rattle.mc_theory.specs.Nets.{Net, placed_interfaces}
@@ -23,15 +23,16 @@ goes_on-from_waiting f o same none waits =
     ∙ lt-ltb 0 (length f.waiting) (omega (arith, waits))
 
 -- by the first second one of these copies, and by how many wait
-pub goes_on-by_counts : (f : Flight) (o : Option Copy) (copies : List Copy) (waiting : ℕ) → o ≡ first_double [] copies
+pub goes_on-by_counts : (f : Flight) (o : Option Copy) (copies : List Copy) (waiting : ℕ)
+    → o ≡ first_double [] copies
     → copies ≡ f.carried → is_some o ≡ false → waiting ≡ length f.waiting → waiting ≢ 0 → goes_on f ≡ true
 goes_on-by_counts f o copies waiting second are none count some =
     goes_on-from_waiting f o (second ∙ ap (first_double []) are) none (λ e. some (count ∙ e))
 
 -- ---- the run so far
 
--- From flight f0 on the run has come to flight f: some copies were handled, and where it ends from f on, it ends
--- from f0 on.
+-- From flight f0 on the run has come to flight f: some copies were handled, and where it ends from f on, it
+-- ends from f0 on.
 pub record IsRunSoFar (n : Net) (f0 f : Flight) : Type 0 where
   pub count : ℕ
   pub handled : HandledCountIs n count f

@@ -19,16 +19,18 @@ use Rattle.mc_theory.proofs.CameByHops.{came_by_hops, in-first_double}
 use Rattle.mc_theory.proofs.CopyAndStepBounds.{HandledCountIs}
 use Rattle.mc_theory.proofs.CopyAndStepBounds.{hearer_count-at_most_placed}
 use Rattle.mc_theory.proofs.FindingMeaning.{shows-travel_finding}
-use Rattle.mc_theory.proofs.Hops.{came_by_hops-fewer_than_copies, came_by_hops-unique, came_from_lan-from_loop}
-use Rattle.mc_theory.proofs.Hops.{came_from_lan-fewer_than_copies, hops_until-came_from_lan}
+use Rattle.mc_theory.proofs.Hops.{came_by_hops-fewer_than_copies, came_by_hops-unique}
+use Rattle.mc_theory.proofs.Hops.{came_from_lan-from_loop, came_from_lan-fewer_than_copies}
+use Rattle.mc_theory.proofs.Hops.{hops_until-came_from_lan}
 use Rattle.mc_theory.proofs.ShownFrom.{HasNeedUpTo, each_complete_run_has_fault, has_need-travel, need-unique}
 use Rattle.mc_theory.proofs.Travels.{finding-at_travel_end, first_double-none}
 use Rattle.mc_replay.specs.PastStrays.{EndsPastStrays, IsRunPastStrays, finding_of_double, goes_on}
 use Rattle.mc_replay.specs.PastStrays.{second_copy_finding}
-use Rattle.mc_replay.proofs.ClosedNetLemmas.{closed, without_strays, is_net-closed, is_complete_run-closed}
-use Rattle.mc_replay.proofs.ClosedNetLemmas.{came_by_hops-of_closed, came_from_lan-of_closed, is_walk_back-of_closed}
-use Rattle.mc_replay.proofs.ClosedNetLemmas.{walk_visits-closed, without_strays-run, without_strays-start}
-use Rattle.mc_replay.proofs.ClosedNetLemmas.{without_strays-step}
+use Rattle.mc_replay.proofs.ClosedNetLemmas.{closed, without_strays, is_net-closed}
+use Rattle.mc_replay.proofs.ClosedNetLemmas.{is_complete_run-closed, came_by_hops-of_closed}
+use Rattle.mc_replay.proofs.ClosedNetLemmas.{came_from_lan-of_closed, is_walk_back-of_closed}
+use Rattle.mc_replay.proofs.ClosedNetLemmas.{walk_visits-closed, without_strays-run}
+use Rattle.mc_replay.proofs.ClosedNetLemmas.{without_strays-start, without_strays-step}
 
 -- ---- it is a travel of the closed domain
 
@@ -108,15 +110,16 @@ pub is_closed_travel-of_second_copy : (n : Net) (count t : ℕ) (g : Flight) (x 
 is_closed_travel-of_second_copy n count t g x past e =
     let found = is_closed_travel-past_strays n count t g past in
     let r = found.1 in
-    let shown = finding-at_travel_end (closed n) count [] false r.picks (start (closed n) t) found.0 r.travel in
+    let shown = finding-at_travel_end (closed n) count [] false r.picks (start (closed n) t)
+    found.0 r.travel in
     let same = finding-of_second_copy n count g x found.0 e
     (ap (finding (closed n) count) r.ends ∙ shown) in
     subst (IsClosedTravel n count t g) same r
 
 -- ---- what it shows
 
-abbrev first_double_walk-of_closed : (n : Net) (g : Flight) (l : ℕ) → FirstDoubleWalk (closed n) (without_strays g) l
-    → FirstDoubleWalk n g l
+abbrev first_double_walk-of_closed : (n : Net) (g : Flight) (l : ℕ)
+    → FirstDoubleWalk (closed n) (without_strays g) l → FirstDoubleWalk n g l
 first_double_walk-of_closed n g l d = record {
   copy = d.copy;
   first = d.first;
@@ -218,7 +221,8 @@ has_need-past_strays n count s g x net wants low past e =
     (is_closed_travel-of_second_copy n count s g x past e) in
     (has.0, is_shown_from-of_closed n g.carried x has.0 is has.1, has.2)
 
-has_fault-of_closed : (f : Flight) (x : Finding) → IsSecondCopy x → HasFault x (without_strays f) → HasFault x f
+has_fault-of_closed : (f : Flight) (x : Finding) → IsSecondCopy x → HasFault x (without_strays f)
+    → HasFault x f
 has_fault-of_closed f Clean is h = absurd is
 has_fault-of_closed f (Duplicate l) is h = h
 has_fault-of_closed f (Loop l) is h = h
@@ -236,7 +240,8 @@ each_complete_run_has-past_strays n count s t k g x net wants low past e shown l
     let same : has.0 ≡ k = need-unique n g.carried x has.0 k net
     (is_shown_from-of_closed n g.carried x has.0 is has.1) shown in
     let at = subst (λ (f : Flight). IsShownFrom (closed n) f.carried x has.0) r.ends has.1 in
-    let fault = each_complete_run_has_fault (closed n) count s t has.0 [] false r.picks x x (is_net-closed n net)
+    let fault = each_complete_run_has_fault (closed n) count s t has.0 [] false r.picks x x
+    (is_net-closed n net)
     r.travel at (omega (arith, same, le)) ps (is_complete_run-closed n t ps complete) in
     has_fault-of_closed (run n ps (start n t)) x is (subst (HasFault x)
     (sym (without_strays-run n ps (start n t) ∙ ap (run (closed n) ps) (without_strays-start n t))) fault)
@@ -252,8 +257,8 @@ came_by_few_hops-past_strays n count t g c hs net past c_in by =
     let r = found.1 in
     let there = subst (λ (f : Flight). In c f.carried) r.ends c_in in
     let path = came_by_hops (closed n) count t [] false r.picks found.0 c r.travel there in
-    let few = came_by_hops-fewer_than_copies (closed n) count t [] false r.picks found.0 c path.0 r.travel there
-    path.1 in
+    let few = came_by_hops-fewer_than_copies (closed n) count t [] false r.picks found.0 c path.0
+    r.travel there path.1 in
     let here = subst (λ (f : Flight). CameByHops (closed n) f.carried c path.0) (sym r.ends) path.1 in
     let same = came_by_hops-unique n g.carried c hs path.0 net by
     (came_by_hops-of_closed n g.carried c path.0 here) in
@@ -264,13 +269,15 @@ came_by_few_hops-past_strays n count t g c hs net past c_in by =
 -- a loop's second copy came from its own LAN by the hops that are followed back
 pub came_from_lan-past_strays : (n : Net) (count t l : ℕ) (g : Flight) (c : Copy) → IsNet n
     → WantsBelow n count → EndsPastStrays n (start n t) g → second_copy_finding n g.carried ≡ Some (Loop l)
-    → IsFirstDouble g.carried c → (c.lan ≡ l) × CameFromLan n g.carried l c (hops_of_copy_until n g.carried l c)
+    → IsFirstDouble g.carried c → (c.lan ≡ l)
+    × CameFromLan n g.carried l c (hops_of_copy_until n g.carried l c)
 came_from_lan-past_strays n count t l g c net wants past e first =
     let r = is_closed_travel-of_second_copy n count t g (Loop l) past e in
     let shows = subst (λ f. Shows (closed n) f (Loop l)) r.ends
     (shows-in_closed n count t g (Loop l) wants r) in
     let double = subst (λ (f : Flight). IsFirstDouble f.carried c) r.ends first in
-    let from = came_from_lan-from_loop (closed n) count t [] false r.picks (Loop l) l c r.travel shows double in
+    let from = came_from_lan-from_loop (closed n) count t [] false r.picks (Loop l) l c r.travel
+    shows double in
     let hs = from.1.0 in
     let few = came_from_lan-fewer_than_copies (closed n) count t [] false r.picks (Loop l) l c hs r.travel
     (in-first_double (run (closed n) (handles r.picks) (start (closed n) t)).carried c double) from.1.1 in
@@ -278,7 +285,8 @@ came_from_lan-past_strays n count t l g c net wants past e first =
     (subst (λ (f : Flight). CameFromLan (closed n) f.carried l c hs) (sym r.ends) from.1.1) in
     let short : length hs < length g.carried =
     subst (λ (f : Flight). length hs < length f.carried) (sym r.ends) few in
-    let found = hops_until-came_from_lan n g.carried l (length g.carried) c hs net here (omega (arith, short)) in
+    let found = hops_until-came_from_lan n g.carried l (length g.carried) c hs net here
+    (omega (arith, short)) in
     (from.0, subst (CameFromLan n g.carried l c) (sym found) here)
 
 -- ---- it ends
@@ -311,8 +319,8 @@ goes_on-not_at_end : (n : Net) (is : List ℕ) (f : Flight) → IsRunPastStrays 
 goes_on-not_at_end n [] f stops = stops
 goes_on-not_at_end n (i ∷ is) f stops = goes_on-not_at_end n is (step n i f) stops.2
 
-pub none_waits-past_strays : (n : Net) (f g : Flight) → EndsPastStrays n f g → first_double [] g.carried ≡ None
-    → g.waiting ≡ []
+pub none_waits-past_strays : (n : Net) (f g : Flight) → EndsPastStrays n f g
+    → first_double [] g.carried ≡ None → g.waiting ≡ []
 none_waits-past_strays n f g past once =
     by (first_double [] g.carried) g.waiting once
     (ap goes_on past.ends ∙ goes_on-not_at_end n past.picks f past.stops)

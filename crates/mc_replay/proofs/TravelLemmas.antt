@@ -114,7 +114,8 @@ pub first_copies_recorded-more : (n : Net) (lans k i : ℕ) (firsts : List (Opti
     → finding n lans f ≡ None
     → k ≡ length f.carried → g ≡ step n i f → FirstCopiesRecorded firsts lans k g.carried
 first_copies_recorded-more n lans k i firsts f g count filled none seen next =
-    first_copies_recorded-next n lans k i firsts f g count filled (double-none_without_finding n lans f none) seen
+    first_copies_recorded-next n lans k i firsts f g count filled
+    (double-none_without_finding n lans f none) seen
     next
 
 -- ---- the travel so far

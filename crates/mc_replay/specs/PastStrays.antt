@@ -1,5 +1,6 @@
 -- The run of a packet that goes on past strays: the first waiting copy is handled each time, up to the first
--- flight in which a LAN carried two copies or none waits. Strays are only collected. All of it is our own choice.
+-- flight in which a LAN carried two copies or none waits. Strays are only collected. All of it is our own
+-- choice.
 use Rattle.std.specs.Prelude.{◌≡◌, ℕ, Bool, true, false, not, ◌&&◌, nat_lt, if◌then◌else◌, List, [], ◌∷◌}
 use Rattle.std.specs.Prelude.{length, Option, is_some, option_map}
 use Rattle.mc_theory.specs.Nets.{Net}

@@ -1,7 +1,7 @@
 -- The lines of wants, one after another, and the sources that are listed for a group.
-use Rattle.std.proofs.Common.{◌≡◌, ◌==◌, ◌+◌, ◌<◌, ◌^◌, ℕ, Bool, true, false, cond, List, [], ◌∷◌, ◌++◌, map, filter}
-use Rattle.std.proofs.Common.{take, length, Some, Result, Ok, Err, slice_get, flat_map, refl, ap, sym, subst, ◌∙◌}
-use Rattle.std.proofs.Common.{append_assoc, append-nil, arith}
+use Rattle.std.proofs.Common.{◌≡◌, ◌==◌, ◌+◌, ◌<◌, ◌^◌, ℕ, Bool, true, false, cond, List, [], ◌∷◌, ◌++◌}
+use Rattle.std.proofs.Common.{map, filter, take, length, Some, Result, Ok, Err, slice_get, flat_map}
+use Rattle.std.proofs.Common.{ap, sym, subst, ◌∙◌, append_assoc, append-nil, arith}
 use Rattle.std.specs.Prelude.{OnOk}
 use Rattle.std.proofs.lemmas.Grind.{flat_map-append}
 use Rattle.std.proofs.lemmas.List.{length-map, map-append}
@@ -78,7 +78,8 @@ parts-of_line : (F : TopologyValue → Bool → Want → List ℕ → List ℕ �
     → F t b want lans listed none_out forwards star
     ≡ F u c line.0 line.1 (listed_sources (flow_pairs u.flows) line.0.0) (routers_in NoneOut states)
     (routers_in Forwards states) (routers_in EverySource states)
-parts-of_line F t u b c line want lans listed none_out forwards star states top excluded pair own list none out every =
+parts-of_line F t u b c line want lans listed none_out forwards star states top excluded pair own list
+    none out every =
     λ i. F (top i) (excluded i) (pair i) (own i) (list i) (none i) (out i) (every i)
 
 -- so a line with the parts of the one with a number is that one
@@ -93,16 +94,18 @@ pub line-by_number : (json : Bool) (t u : TopologyValue) (are_excluded : Bool) (
 line-by_number true t u are_excluded a number line l at top excluded pair own list none out every =
     let states = states_of_line u a.states number in
     let whole : line_written true t l ≡ asked_line_of true u are_excluded states (Some line) =
-    parts-of_line (λ s b w ls x n f e. line_of (asked_object s (w, ls) x n f e)) t u l.are_excluded are_excluded line
+    parts-of_line (λ s b w ls x n f e. line_of (asked_object s (w, ls) x n f e)) t u l.are_excluded
+    are_excluded line
     l.want.now l.lans.now l.listed.now l.routers.now.none_out.items l.routers.now.forwards.items
     l.routers.now.every_source.items states top excluded pair own list none out every in
     whole ∙ sym (ap (asked_line_of true u are_excluded states) at)
 line-by_number false t u are_excluded a number line l at top excluded pair own list none out every =
     let states = states_of_line u a.states number in
     let whole : line_written false t l ≡ asked_line_of false u are_excluded states (Some line) =
-    parts-of_line (λ s b w ls x n f e. asked_line_text s (w, ls) (what_in (forwarding_words s b f n e) x w)) t u
-    l.are_excluded are_excluded line l.want.now l.lans.now l.listed.now l.routers.now.none_out.items
-    l.routers.now.forwards.items l.routers.now.every_source.items states top excluded pair own list none out every in
+    parts-of_line (λ s b w ls x n f e. asked_line_text s (w, ls) (what_in (forwarding_words s b f n e) x w))
+    t u l.are_excluded are_excluded line l.want.now l.lans.now l.listed.now l.routers.now.none_out.items
+    l.routers.now.forwards.items l.routers.now.every_source.items states top excluded pair own list
+    none out every in
     whole ∙ sym (ap (asked_line_of false u are_excluded states) at)
 
 -- what is appended, by another name

@@ -34,7 +34,8 @@ pub end_text-parts : {A X : Type 0} (o : AuditOptions) (t u : TopologyValue) (su
     → OnOk r (new ≡ five ++ strict_lines o.strict all unwanted wants)
     → OnOk r (new ≡ old ++ end_text o u summary asked marks whole all (length u.flows) right wrong unknown
     unwanted)
-end_text-parts o t u summary asked marks routers again whole all flows right wrong unknown unwanted wants (Err e)
+end_text-parts o t u summary asked marks routers again whole all flows right wrong unknown unwanted
+    wants (Err e)
     old one two three four five new same size are are_again counted first second third fourth fifth last = tt
 end_text-parts {A = A} {X = X} o t u summary asked marks routers again whole all flows right wrong unknown
     unwanted wants (Ok x) old one two three four five new same size are are_again counted first second third
@@ -51,8 +52,8 @@ end_text-parts {A = A} {X = X} o t u summary asked marks routers again whole all
     (last ∙ ap (λ (xs : List ℕ). xs ++ strict_lines o.strict all unwanted wants)
     (fifth ∙ ap (λ (rs : List ℕ). four ++ verdict_reason t rs) are_again)
     ∙ append_assoc four (excluded_text t marks) (strict_lines o.strict all unwanted wants)) in
-    append-two_parts end old (unlisted_text o.unlisted t summary) lines (behind t flows wants) one two new first
-    second rest
+    append-two_parts end old (unlisted_text o.unlisted t summary) lines (behind t flows wants) one
+    two new first second rest
     ∙ ap (λ (w : ℕ). old ++ (unlisted_text o.unlisted t summary ++ (lines ++ behind t flows w))) counted
     ∙ ap (λ (n : ℕ). old ++ (unlisted_text o.unlisted t summary ++ (lines ++ behind t n asked.count))) size
     ∙ ap (λ (s : TopologyValue). old ++ (unlisted_text o.unlisted s summary
@@ -67,7 +68,8 @@ pub end_objects-parts : {A X : Type 0} (o : AuditOptions) (t u : TopologyValue) 
     → three ≡ two ++ without_line_of t routers
     → OnOk r (new ≡ three ++ line_of (summary_data wants right unknown unwanted wrong))
     → OnOk r (new ≡ old ++ end_objects o u summary asked marks whole right wrong unknown unwanted)
-end_objects-parts o t u summary asked marks whole routers right wrong unknown unwanted wants (Err e) old one two
+end_objects-parts o t u summary asked marks whole routers right wrong unknown unwanted wants
+    (Err e) old one two
     three new same are counted first second third last = tt
 end_objects-parts {A = A} {X = X} o t u summary asked marks whole routers right wrong unknown unwanted wants
     (Ok x) old one two three new same are counted first second third last =

@@ -53,7 +53,7 @@ use Rattle.mc_maker.specs.ExaminedFlights.{HasExaminedFlights, IsFinishedTravelO
 use Rattle.mc_maker.specs.declared.examined_flights.ExaminedFlights.{ExaminedFlights}
 use Rattle.mc_maker.specs.declared.examined_flights.ExaminedFlights.TheVariants.{FoundAtTtl255}
 use Rattle.mc_maker.specs.declared.examined_flights.ExaminedFlights.TheVariants.{FoundAtFlowTtl}
-use Rattle.mc_maker.specs.declared.examined_flights.ExaminedFlights.TheVariants.{Certified as CertifiedFlights}
+use Rattle.mc_maker.specs.declared.examined_flights.ExaminedFlights.TheVariants as flights_as
 use Rattle.mc_replay.specs.FindingValues.{finding_value}
 use Rattle.mc_replay.specs.declared.finding.Finding.{Finding}
 use Rattle.mc_replay.specs.declared.finding.Finding.TheVariants.{Clean, Duplicate, Loop, Stray, Missed}
@@ -154,11 +154,12 @@ pub audit_text-split_at_lines : (v : AuditedValue) (o : AuditOptions) (all : Boo
     (a : IsAudited v o all written)
     → written ≡ begin_lines o (facts v.domain) (excluded v) v.ignored
     ++ (flat_map (λ ls. ls) (map (λ b. b.lines) a.answers)
-    ++ (end_lines o v.domain.topology v.summary v.asked (excluded v) (is_whole v) all a.answers ++ verdict_line o.json all))
+    ++ (end_lines o v.domain.topology v.summary v.asked (excluded v) (is_whole v) all a.answers
+    ++ verdict_line o.json all))
 audit_text-split_at_lines v o all written a =
     let begin = begin_lines o (facts v.domain) (excluded v) v.ignored in
-    let end = λ (b : Bool). end_lines o v.domain.topology v.summary v.asked (excluded v) (is_whole v) b a.answers
-    ++ verdict_line o.json b in
+    let end = λ (b : Bool). end_lines o v.domain.topology v.summary v.asked (excluded v)
+    (is_whole v) b a.answers ++ verdict_line o.json b in
     a.spelled
     ∙ ap (λ ls. begin ++ (ls ++ end (is_yes v a.answers))) (flat_map-lines a.answers)
     ∙ ap (λ b. begin ++ (flat_map (λ ls. ls) (map (λ c. c.lines) a.answers) ++ end b)) (sym a.answer)
@@ -182,7 +183,8 @@ is_known-whole false known search same is = absurd cc
 -- the lines of a flow with a finding start so
 wrong_flow_lines-say_finding : (o : AuditOptions) (whole : Bool) (d : DomainFacts)
     (summary : List SummaryValue) (flow ttl : ℕ) (travel : Travel) (e : Explanation) (lines : List ℕ)
-    → e.certainty.known ≡ is_known_wrong whole e.search → lines ≡ wrong_flow_lines o d summary flow ttl travel e
+    → e.certainty.known ≡ is_known_wrong whole e.search
+    → lines ≡ wrong_flow_lines o d summary flow ttl travel e
     → SaysFinding o.json whole d.topology flow lines
 wrong_flow_lines-say_finding o whole d summary flow ttl travel e lines known is = by o.json is
   where
@@ -211,20 +213,22 @@ says_flow_right-answer_lines : (v : AuditedValue) (o : AuditOptions) (printed : 
     → wanted ≡ lans_wanting (facts v.domain) flow
     → lines ≡ answer_lines o (is_whole v) (facts v.domain) v.summary printed flow x e wanted
     → SaysFlowRight v o flow lines
-says_flow_right-answer_lines v o printed flow (Certified entries) e wanted lines right known wants is = record {
-  right = λ _. (
-    printed,
-    entries.items,
-    is ∙ ap (λ (w : List ℕ).
-        right_flow_lines o (is_whole v) (facts v.domain) printed flow entries.items w) wants,
-  );
-  wrong = λ not. absurd (not (right.0 refl));
-}
-says_flow_right-answer_lines v o printed flow (Found ttl travel) e wanted lines right known wants is = record {
-  right = λ so. absurd (false≢true (right.1 so));
-  wrong = λ _. wrong_flow_lines-say_finding o (is_whole v) (facts v.domain) v.summary flow ttl travel e lines
-      known is;
-}
+says_flow_right-answer_lines v o printed flow (Certified entries) e wanted lines right known wants is =
+    record {
+      right = λ _. (
+        printed,
+        entries.items,
+        is ∙ ap (λ (w : List ℕ).
+            right_flow_lines o (is_whole v) (facts v.domain) printed flow entries.items w) wants,
+      );
+      wrong = λ not. absurd (not (right.0 refl));
+    }
+says_flow_right-answer_lines v o printed flow (Found ttl travel) e wanted lines right known wants is =
+    record {
+      right = λ so. absurd (false≢true (right.1 so));
+      wrong = λ _. wrong_flow_lines-say_finding o (is_whole v) (facts v.domain) v.summary flow ttl travel
+          e lines known is;
+    }
 
 -- each flow's lines say whether it is right, and the answer whether all flows are
 pub writes_which_are_right-audited : (v : AuditedValue) (o : AuditOptions) (all : Bool) (written : List ℕ)
@@ -295,7 +299,7 @@ shows_from_ttl-by_flights d flow x flights shown ok has same is =
     by : (w : ExaminedFlights) → HasExaminedFlights d flow w → IsShownFromAt255 d flow w shown
         → IfFound (λ ttl travel. (k t : ℕ) → shown ≡ Some k → k ≤ t
         → EachCompleteRunHasFault (net_of d flow) t (finding_value travel.finding)) (without_flights d flow w)
-    by (CertifiedFlights entries) has is = tt
+    by (flights_as.Certified entries) has is = tt
     by (FoundAtTtl255 ended) has is = λ k t some le. above (ttl_of d flow == 255) ended k t has is some le
     by (FoundAtFlowTtl greatest least) has is = λ k t some le.
         absurd (let both : ◌≡◌ {A = Option ℕ} None (Some k) = sym is ∙ some in cc)
@@ -306,12 +310,15 @@ none_is_not_some (Some a) b none some = absurd cc
 
 -- what is behind a stray is true of a run of the flow
 is_true-behind_if_stray : (whole : Bool) (d : DomainValue) (flow : ℕ) (x : Finding) (behind : Option Behind)
-    → IsDomain d → IsBehindIfStray whole d flow x behind → (b : Behind) → behind ≡ Some b → IsTrueBehind d flow b
+    → IsDomain d → IsBehindIfStray whole d flow x behind → (b : Behind) → behind ≡ Some b
+    → IsTrueBehind d flow b
 is_true-behind_if_stray whole d flow Clean behind ok is b some = absurd (none_is_not_some behind b is some)
 is_true-behind_if_stray whole d flow (Duplicate lan) behind ok is b some =
     absurd (none_is_not_some behind b is some)
-is_true-behind_if_stray whole d flow (Loop lan) behind ok is b some = absurd (none_is_not_some behind b is some)
-is_true-behind_if_stray whole d flow (Missed lan) behind ok is b some = absurd (none_is_not_some behind b is some)
+is_true-behind_if_stray whole d flow (Loop lan) behind ok is b some =
+    absurd (none_is_not_some behind b is some)
+is_true-behind_if_stray whole d flow (Missed lan) behind ok is b some =
+    absurd (none_is_not_some behind b is some)
 is_true-behind_if_stray whole d flow (Stray router vif) None ok is b some = absurd is
 is_true-behind_if_stray whole d flow (Stray router vif) (Some a) ok is b some =
     is_true-behind whole d flow (router, vif) b ok
@@ -320,7 +327,7 @@ is_true-behind_if_stray whole d flow (Stray router vif) (Some a) ok is b some =
 is_true-behind_at_255 : (whole : Bool) (d : DomainValue) (flow : ℕ) (flights : ExaminedFlights)
     (behind : Option Behind) → IsDomain d → IsBehindAt255 whole d flow flights behind → (b : Behind)
     → behind ≡ Some b → IsTrueBehind d flow b
-is_true-behind_at_255 whole d flow (CertifiedFlights entries) behind ok is b some =
+is_true-behind_at_255 whole d flow (flights_as.Certified entries) behind ok is b some =
     absurd (none_is_not_some behind b is some)
 is_true-behind_at_255 whole d flow (FoundAtTtl255 ended) behind ok is b some =
     is_true-behind_if_stray whole d flow ended.travel.finding behind ok is b some

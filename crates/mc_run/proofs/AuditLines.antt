@@ -64,15 +64,17 @@ use Rattle.mc_json.proofs.EachLineLemmas.{are_object_lines-all_unlisted, are_obj
 use Rattle.mc_json.proofs.EachLineLemmas.{are_object_lines-wrong}
 use Rattle.mc_run.specs.AuditAsked.{asked_end, asked_line_of, asked_lines, numbered_asked_line}
 use Rattle.mc_run.specs.AuditAsked.{states_of_line}
-use Rattle.mc_run.specs.AuditEnd.{FlowAnswer, begin_lines, count, end_text_or_objects, end_lines, end_objects}
-use Rattle.mc_run.specs.AuditEnd.{end_text, is_right, is_unknown, is_unwanted, is_wrong, option_words, strict_lines}
-use Rattle.mc_run.specs.AuditEnd.{strict_line, summary_line, summary_of_flows}
+use Rattle.mc_run.specs.AuditEnd.{FlowAnswer, begin_lines, count, end_text_or_objects, end_lines}
+use Rattle.mc_run.specs.AuditEnd.{end_objects, end_text, is_right, is_unknown, is_unwanted, is_wrong}
+use Rattle.mc_run.specs.AuditEnd.{option_words, strict_lines, strict_line, summary_line}
+use Rattle.mc_run.specs.AuditEnd.{summary_of_flows}
 use Rattle.mc_run.specs.AuditObjects.{key_of_tree, tree_line, tree_number}
 use Rattle.mc_run.specs.AuditRun.{AreFlowAnswers, IsFlowAnswer, AuditedValue, is_whole, is_yes, excluded}
 use Rattle.mc_run.specs.AuditRun.{AreYesWords, trees_shown, yes_object}
 use Rattle.mc_run.specs.AuditText.{Explanation, events_if_shown, explanation_lines, right_line}
-use Rattle.mc_run.specs.AuditText.{at_flow_ttl_text, behind_text, deeper_shown_from_text, found_flow_line}
-use Rattle.mc_run.specs.AuditText.{known_word, searched_lines, second_behind_text, shown_by_text, shown_from_text}
+use Rattle.mc_run.specs.AuditText.{at_flow_ttl_text, behind_text, deeper_shown_from_text}
+use Rattle.mc_run.specs.AuditText.{found_flow_line, known_word, searched_lines, second_behind_text}
+use Rattle.mc_run.specs.AuditText.{shown_by_text, shown_from_text}
 use Rattle.mc_run.specs.AuditFlowText.{answer_lines, is_hidden, right_lines_or_object, wrong_lines_or_object}
 use Rattle.mc_cli.specs.declared.audit_options.AuditOptions.{AuditOptions}
 use Rattle.mc_run.specs.ReplayRun.{event_line, event_lines}
@@ -331,7 +333,8 @@ no_yes_line-shown_by_text t ttl shown_by ok =
     (no_yes_line-shown_from_text shown_by.from) (no_yes_line-at_flow_ttl_text t ttl shown_by.at_flow_ttl ok)
 
 -- after four spaces
-no_yes_line-deeper_shown_from : (shown_from : Option ℕ) → AreLinesWithoutYes (deeper_shown_from_text shown_from)
+no_yes_line-deeper_shown_from : (shown_from : Option ℕ)
+    → AreLinesWithoutYes (deeper_shown_from_text shown_from)
 no_yes_line-deeper_shown_from None = no_yes_line-no_lines
 no_yes_line-deeper_shown_from (Some ttl) =
     let begin = codes "    shown by packets sent with ttl " in
@@ -353,7 +356,8 @@ no_yes_line-second_behind d summary flow causes shown_from (Some found) ok =
     let first = no_yes_line-text_line line (begin ++ words) (refl, refl)
     (no_feed-append begin words (no_feed-from_list_all begin refl) (finding_text-no_yes d.topology found ok))
     (sym (append_assoc begin words (codes "\n"))) in
-    let rest = no_yes_line-append (deeper_causes_text d summary flow causes) (deeper_shown_from_text shown_from)
+    let rest = no_yes_line-append (deeper_causes_text d summary flow causes)
+    (deeper_shown_from_text shown_from)
     (no_yes_line-indented_lines _ (are_indented-deeper_causes_text d summary flow causes ok))
     (no_yes_line-deeper_shown_from shown_from) in
     subst AreLinesWithoutYes (append_assoc begin (words ++ codes "\n") more
@@ -392,7 +396,8 @@ no_yes_line-wrong_lines_or_object : (json travels : Bool) (d : DomainFacts)
     → AreLinesWithoutYes (wrong_lines_or_object json travels d summary flow ttl travel x)
 no_yes_line-wrong_lines_or_object true travels d summary flow ttl travel x ok =
     no_yes_line-objects _
-    (are_object_lines-wrong d flow (flow_at d.topology flow) x.certainty ttl travel.finding travel.events.items x.also
+    (are_object_lines-wrong d flow (flow_at d.topology flow) x.certainty ttl travel.finding
+    travel.events.items x.also
     (behind_data d summary flow x.behind) (why_data d summary flow x.printed x.search) travels)
 no_yes_line-wrong_lines_or_object false travels d summary flow ttl travel x ok =
     let t = d.topology in
@@ -452,7 +457,8 @@ no_feed-last_number words n none = no_feed-append words (decimal n) none (number
 no_feed-summary_of_flows : (flows right wrong unknown unwanted : ℕ)
     → HasNoByte 10 (summary_of_flows flows right wrong unknown unwanted)
 no_feed-summary_of_flows flows right wrong unknown unwanted =
-    no_feed-number_after (codes "summary flows ") flows _ (no_feed-from_list_all (codes "summary flows ") refl)
+    no_feed-number_after (codes "summary flows ") flows _
+    (no_feed-from_list_all (codes "summary flows ") refl)
     (no_feed-number_after (codes " right ") right _ (no_feed-from_list_all (codes " right ") refl)
     (no_feed-number_after (codes " wrong ") wrong _ (no_feed-from_list_all (codes " wrong ") refl)
     (no_feed-number_after (codes " unknown ") unknown _ (no_feed-from_list_all (codes " unknown ") refl)
@@ -477,7 +483,8 @@ no_yes_line-strict_line fails n words none =
     let ends : (decimal n ++ (words ++ codes ", status 1\n")) ≡ (decimal n ++ last) ++ codes "\n" =
     ap (λ xs. decimal n ++ xs) (sym (append_assoc words (codes ", status 1") (codes "\n")))
     ∙ sym (append_assoc (decimal n) last (codes "\n")) in
-    no_yes_line-if (fails && not (n == 0)) (codes "  strict: " ++ (decimal n ++ (words ++ codes ", status 1\n"))) []
+    no_yes_line-if (fails && not (n == 0))
+    (codes "  strict: " ++ (decimal n ++ (words ++ codes ", status 1\n"))) []
     (no_yes_line-text_line _ (codes "  strict: " ++ (decimal n ++ last)) (refl, refl)
     (no_feed-number_after (codes "  strict: ") n last (no_feed-from_list_all (codes "  strict: ") refl)
     (no_feed-append words (codes ", status 1") none (no_feed-from_list_all (codes ", status 1") refl)))
@@ -501,8 +508,8 @@ begins-asked_line l (rest, begins) = subst BeginsWithOtherByte (sym begins) (ref
 no_yes_line-asked_text : (text : List ℕ) → AreLines IsAskedLine text → AreLinesWithoutYes text
 no_yes_line-asked_text text are = no_yes_line-lines IsAskedLine text begins-asked_line are
 
-no_yes_line-asked_line_of : (json : Bool) (t : TopologyValue) (are_excluded : Bool) (states : List RouterState)
-    (line : Option (Want × List ℕ)) → IsValidTopology t
+no_yes_line-asked_line_of : (json : Bool) (t : TopologyValue) (are_excluded : Bool)
+    (states : List RouterState) (line : Option (Want × List ℕ)) → IsValidTopology t
     → AreLinesWithoutYes (asked_line_of json t are_excluded states line)
 no_yes_line-asked_line_of json t are_excluded states None ok = no_yes_line-no_lines
 no_yes_line-asked_line_of true t are_excluded states (Some line) ok =
@@ -539,7 +546,8 @@ no_yes_line-asked_lines json t are_excluded a ok =
 -- ---- all of these
 
 no_yes_line-end_text : (o : AuditOptions) (t : TopologyValue) (summary : List SummaryValue)
-    (asked : UnansweredWantsValue) (marks : List Bool) (whole all : Bool) (flows right wrong unknown unwanted : ℕ)
+    (asked : UnansweredWantsValue) (marks : List Bool) (whole all : Bool)
+    (flows right wrong unknown unwanted : ℕ)
     → IsValidTopology t
     → AreLinesWithoutYes (end_text o t summary asked marks whole all flows right wrong unknown unwanted)
 no_yes_line-end_text o t summary asked marks whole all flows right wrong unknown unwanted ok =
@@ -571,7 +579,8 @@ no_yes_line-end_objects o t summary asked marks whole right wrong unknown unwant
     (no_yes_line-objects _ (are_object_lines-summary asked.count right unknown unwanted wrong))))
 
 no_yes_line-end_lines : (o : AuditOptions) (t : TopologyValue) (summary : List SummaryValue)
-    (asked : UnansweredWantsValue) (marks : List Bool) (whole all : Bool) (flows right wrong unknown unwanted : ℕ)
+    (asked : UnansweredWantsValue) (marks : List Bool) (whole all : Bool)
+    (flows right wrong unknown unwanted : ℕ)
     → IsValidTopology t
     → AreLinesWithoutYes (end_text_or_objects o t summary asked marks whole all flows right wrong unknown
     unwanted)

@@ -62,8 +62,8 @@ answers-run : (contents : Option (List FileText)) (o : AuditOptions) (left : Lef
 answers-run contents o left a p s r old new text refused parts is same =
     subst (λ (t : Result Bool RunFault). IfSome contents (λ files.
     Answers (IsAuditText o left) (AreRefusedWithout left.routers) files t)) (sym same)
-    (answers-output_written contents (IsAuditText o left) (AreRefusedWithout left.routers) (output_of a) s old new
-    (λ files. tt) (is_output_of-audit contents o left a text)
+    (answers-output_written contents (IsAuditText o left) (AreRefusedWithout left.routers)
+    (output_of a) s old new (λ files. tt) (is_output_of-audit contents o left a text)
     (err-of_output (λ fault. IfSome contents (λ files. AreRefusedWithout left.routers files fault)) a refused)
     (is_output_written-parts p (output_of a) s old new parts is))
 
@@ -74,8 +74,8 @@ writes_part-run : (contents : Option (List FileText)) (o : AuditOptions) (left :
     → IfErr a (λ fault. is_write fault ≡ false) → p ≡ output_of a → IsOutputWritten p s old new
     → yes_of r ≡ s → r ≡ Err Write → IfSome contents (λ files. WritesPart (IsAuditText o left) files old new)
 writes_part-run contents o left a p s r old new text no_write parts is same =
-    audit_write_fault-gives (IfSome contents (λ files. WritesPart (IsAuditText o left) files old new)) r s same
-    (writes_part-output_written contents (IsAuditText o left) (output_of a) s old new
+    audit_write_fault-gives (IfSome contents (λ files. WritesPart (IsAuditText o left) files old new)) r s
+    same (writes_part-output_written contents (IsAuditText o left) (output_of a) s old new
     (is_write_fault-audit_output a no_write) (is_output_of-audit contents o left a text)
     (is_output_written-parts p (output_of a) s old new parts is))
 

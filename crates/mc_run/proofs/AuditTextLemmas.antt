@@ -80,7 +80,8 @@ is_audited-all_pushed v o s printed marks count every begin lines text same size
 
 -- what holds of the domain that was read, with its summaries and wants, holds of the one that the files mean
 pub of_domain-means_audited : (Holds : AuditedValue → Type 0) (o : AuditOptions) (left : LeftOutValue)
-    (contents : Option (List FileText)) (d : DomainValue) (summary : List SummaryValue) (asked : UnansweredWantsValue)
+    (contents : Option (List FileText)) (d : DomainValue) (summary : List SummaryValue)
+    (asked : UnansweredWantsValue)
     → IfSome contents (λ files. FilesMeanDomain (files_with_exclusions left.routers files) d)
     → AreRouterNames d.topology left.routers
     → IfSome contents (λ files. AreSummariesOf o.unlisted (files_with_exclusions left.routers files)
@@ -96,24 +97,25 @@ pub of_domain-means_audited : (Holds : AuditedValue → Type 0) (o : AuditOption
     })
     → IfSome contents (MeansDomainWhere (MeansAudited o left) Holds)
 of_domain-means_audited Holds o left None d summary asked means routers summarized wants holds = tt
-of_domain-means_audited Holds o left (Some files) d summary asked means routers summarized wants holds = record {
-  domain = record {
-    domain = d;
-    summary = summary;
-    asked = asked;
-    without = left.routers;
-    ignored = left.groups;
-  };
-  means = record {
-    means = means;
-    routers = routers;
-    summary = summarized;
-    asked = wants;
-    without = refl;
-    ignored = refl;
-  };
-  holds = holds;
-}
+of_domain-means_audited Holds o left (Some files) d summary asked means routers summarized wants holds =
+    record {
+      domain = record {
+        domain = d;
+        summary = summary;
+        asked = asked;
+        without = left.routers;
+        ignored = left.groups;
+      };
+      means = record {
+        means = means;
+        routers = routers;
+        summary = summarized;
+        asked = wants;
+        without = refl;
+        ignored = refl;
+      };
+      holds = holds;
+    }
 
 -- ---- the answer, with what is counted
 

@@ -1,5 +1,5 @@
 -- The explanation of a finding, and its lines.
-use Rattle.std.proofs.Common.{◌≡◌, ℕ, ◌<◌, ◌≤◌, Bool, true, false, not, filter, List, ◌++◌, length, Option}
+use Rattle.std.proofs.Common.{◌≡◌, ℕ, ◌<◌, Bool, true, false, not, filter, List, ◌++◌, length, Option}
 use Rattle.std.proofs.Common.{None, Some, Result, Ok, arith}
 use Rattle.std.proofs.Common.{Err, refl, sym, ap, ap₂, subst, ◌∙◌, append_assoc}
 use Rattle.std.specs.Prelude.{◌≢◌, IfOk, OnOk, codes}
@@ -42,9 +42,9 @@ use Rattle.mc_run.specs.AuditExplanation.{IsShownFromUnless, certain_finding, is
 use Rattle.mc_run.specs.AuditExplanation.{search_context}
 use Rattle.mc_run.specs.AuditExplanation.{without_remedies}
 use Rattle.mc_run.specs.AuditRun.{AuditedValue, is_whole, excluded}
-use Rattle.mc_run.specs.AuditText.{Explanation, behind_text, events_if_shown, explanation_lines, searched_lines}
-use Rattle.mc_run.specs.AuditText.{deeper_shown_from_text, found_flow_line, second_behind_text, shown_by_text}
-use Rattle.mc_run.specs.AuditText.{wrong_lines}
+use Rattle.mc_run.specs.AuditText.{Explanation, behind_text, events_if_shown, explanation_lines}
+use Rattle.mc_run.specs.AuditText.{searched_lines, deeper_shown_from_text, found_flow_line}
+use Rattle.mc_run.specs.AuditText.{second_behind_text, shown_by_text, wrong_lines}
 use Rattle.mc_run.proofs.MissedLemmas.{missed_lan-below_count}
 
 -- ---- a search
@@ -175,15 +175,18 @@ regrouped_behind : (old begin words feed causes shown : List ℕ)
 regrouped_behind old begin words feed causes shown = simp append_assoc
 
 -- of a second copy behind a stray
-pub second_behind-pushed : {A X : Type 0} (d : DomainFacts) (summary : List SummaryValue) (flow : ℕ) (b : Behind)
+pub second_behind-pushed : {A X : Type 0} (d : DomainFacts) (summary : List SummaryValue)
+    (flow : ℕ) (b : Behind)
     (t : TopologyValue) (x shown : Finding) (causes : List Cause) (r : Result A X) (old one two new : List ℕ)
     → t ≡ d.topology → shown ≡ x → b.finding ≡ Some x → causes ≡ b.causes.items
     → one ≡ old ++ (codes "  behind it: " ++ (finding_text t shown ++ codes "\n"))
     → two ≡ one ++ deeper_causes_text d summary flow causes
     → OnOk r (new ≡ two ++ deeper_shown_from_text b.shown_from)
     → OnOk r (new ≡ old ++ second_behind_text d summary flow b.causes.items b.shown_from b.finding)
-second_behind-pushed d summary flow b t x shown causes (Err e) old one two new same is some are first second third = tt
-second_behind-pushed d summary flow b t x shown causes (Ok a) old one two new same is some are first second third =
+second_behind-pushed d summary flow b t x shown causes (Err e) old one two new same is some are first
+    second third = tt
+second_behind-pushed d summary flow b t x shown causes (Ok a) old one two new same is some are first
+    second third =
     let begin = codes "  behind it: " in
     let feed = codes "\n" in
     let last = deeper_shown_from_text b.shown_from in
@@ -195,7 +198,8 @@ second_behind-pushed d summary flow b t x shown causes (Ok a) old one two new sa
     ∙ ap (λ (xs : List ℕ). xs ++ last) (second ∙ ap₂ (λ (xs : List ℕ) (cs : List Cause). xs
     ++ deeper_causes_text d summary flow cs) line are)
     ∙ regrouped_behind old begin (finding_text d.topology x) feed lines last
-    ∙ ap (λ (o : Option Finding). old ++ second_behind_text d summary flow b.causes.items b.shown_from o) (sym some)
+    ∙ ap (λ (o : Option Finding). old ++ second_behind_text d summary flow b.causes.items b.shown_from o)
+    (sym some)
 
 -- as text
 pub explanation_lines-pushed : {A X : Type 0} (v : AuditedValue) (flow : ℕ) (e : Explanation)
@@ -216,7 +220,8 @@ explanation_lines-pushed v flow e t (Ok a) old one two three new same first seco
     fourth ∙ ap (λ xs. xs ++ past) also
     ∙ ap (λ xs. (xs ++ missed) ++ past) second ∙ ap (λ xs. ((xs ++ search) ++ missed) ++ past) first
     ∙ append_assoc ((old ++ lines) ++ search) missed past
-    ∙ append_assoc (old ++ lines) search (missed ++ past) ∙ append_assoc old lines (search ++ (missed ++ past))
+    ∙ append_assoc (old ++ lines) search (missed ++ past)
+    ∙ append_assoc old lines (search ++ (missed ++ past))
 
 pub wrong_lines-pushed : {A X : Type 0} (v : AuditedValue) (flow : ℕ) (travels : Bool) (travel : Travel)
     (e : Explanation) (t : TopologyValue) (f : Flow) (r : Result A X) (old one two three new : List ℕ)
@@ -268,7 +273,8 @@ pub wrong_flow_lines-same_parts : (v : AuditedValue) (o : AuditOptions) (flow tt
     (explanation_with causes found also behind known shown_by)
     → new ≡ old ++ wrong_flow_lines o (facts v.domain) v.summary flow ttl ended.travel
     (explanation_in (is_whole v) ended causes found behind shown_by)
-wrong_flow_lines-same_parts v o flow ttl ended causes found behind shown_by also whole known old new same all is
+wrong_flow_lines-same_parts v o flow ttl ended causes found behind shown_by also whole known old
+    new same all is
     puts = puts ∙ ap₂ (λ (lans : List ℕ) (b : Bool). old ++ wrong_flow_lines o (facts v.domain) v.summary flow
     ttl ended.travel (explanation_with causes found lans behind b shown_by)) same
     (is ∙ ap (λ (b : Bool). is_known_wrong b found) all)
@@ -276,7 +282,8 @@ wrong_flow_lines-same_parts v o flow ttl ended causes found behind shown_by also
 -- ---- what a packet with the flow's own TTL meets
 
 -- where that TTL is less than the one from which on packets show the finding
-pub is_found_below-less : (whole part : Bool) (d : DomainValue) (flow ttl k : ℕ) (from : Option ℕ) (travel : Travel)
+pub is_found_below-less : (whole part : Bool) (d : DomainValue) (flow ttl k : ℕ) (from : Option ℕ)
+    (travel : Travel)
     → ttl ≡ ttl_of d flow → from ≡ Some k → ttl < k → part ≡ whole
     → IsRunOfChoices (replay_of d flow ttl first_choices) travel
     → IsFoundBelow whole d flow from (certain_finding part travel.finding)

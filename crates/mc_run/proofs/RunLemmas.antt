@@ -111,14 +111,6 @@ of_domain-ok_result Means Holds contents d (Ok a) means holds =
     of_domain-meant Means (Holds a) contents d means holds
 of_domain-ok_result Means Holds contents d (Err f) means holds = tt
 
--- what holds of all possible contents of an input holds of its contents
-pub means-known_contents : {X A F : Type 0} (Means : X → Type 0) (So : A → X → Type 0) (contents : Option X)
-    (r : Result A F) → ((x : X) → Means x → IfOk r (λ a. So a x)) → IfSome contents Means
-    → IfOk r (λ a. IfSome contents (So a))
-means-known_contents Means So contents (Err f) follows means = tt
-means-known_contents Means So None (Ok a) follows means = tt
-means-known_contents Means So (Some x) (Ok a) follows means = follows x means
-
 -- what follows for a domain follows for the meant one
 pub of_domain-implication : {X D : Type 0} (Means : X → D → Type 0) (Holds More : D → Type 0)
     → ((d : D) → Holds d → More d) → (x : X) → MeansDomainWhere Means Holds x → MeansDomainWhere Means More x

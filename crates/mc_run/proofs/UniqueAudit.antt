@@ -50,9 +50,9 @@ use Rattle.mc_run.specs.AuditObjects.{wrong_object}
 use Rattle.mc_run.specs.AuditRun.{LeftOutValue}
 use Rattle.mc_run.specs.AuditRun.{IsFlowAnswer, IsAuditText, IsAudited, MeansAudited, AuditedValue}
 use Rattle.mc_run.specs.AuditRun.{is_whole, is_yes, excluded, trees_shown}
-use Rattle.mc_run.specs.AuditText.{Explanation, behind_text, events_if_shown, explanation_lines, searched_lines}
-use Rattle.mc_run.specs.AuditText.{second_behind_text}
-use Rattle.mc_run.specs.AuditText.{found_flow_line, shown_by_text, wrong_lines}
+use Rattle.mc_run.specs.AuditText.{Explanation, behind_text, events_if_shown, explanation_lines}
+use Rattle.mc_run.specs.AuditText.{searched_lines, second_behind_text, found_flow_line, shown_by_text}
+use Rattle.mc_run.specs.AuditText.{wrong_lines}
 use Rattle.mc_run.specs.AuditFlowText.{answer_lines, is_hidden, known_right, right_flow_lines}
 use Rattle.mc_run.specs.AuditFlowText.{shown_trees_with}
 use Rattle.mc_run.specs.AuditFlowText.{with_shown_tree}
@@ -83,7 +83,8 @@ events_if_shown-same_events : (travels : Bool) (t : TopologyValue) (a b : Finish
 events_if_shown-same_events true t a b same = ap (event_lines t) same.events
 events_if_shown-same_events false t a b same = refl
 
-second_behind_text-same_parts : (d : DomainFacts) (summary : List SummaryValue) (flow : ℕ) (causes others : List Cause)
+second_behind_text-same_parts : (d : DomainFacts) (summary : List SummaryValue) (flow : ℕ)
+    (causes others : List Cause)
     (from to : Option ℕ) (x y : Option Finding) → causes ≡ others → from ≡ to → x ≡ y
     → second_behind_text d summary flow causes from x ≡ second_behind_text d summary flow others to y
 second_behind_text-same_parts d summary flow causes others from to x y same least finding =
@@ -97,8 +98,8 @@ behind_text-same_behind d summary flow None (Some b) same = absurd same
 behind_text-same_behind d summary flow (Some a) None same = absurd same
 behind_text-same_behind d summary flow (Some a) (Some b) same =
     ap₂ (λ (one two : List ℕ). one ++ two)
-    (second_behind_text-same_parts d summary flow a.causes.items b.causes.items a.shown_from b.shown_from a.finding
-    b.finding same.causes same.shown_from same.finding)
+    (second_behind_text-same_parts d summary flow a.causes.items b.causes.items a.shown_from
+    b.shown_from a.finding b.finding same.causes same.shown_from same.finding)
     (ap (λ (is : List Interface). leaks_behind_text d is a.open_routers.items a.missed.items) same.strays
     ∙ ap₂ (λ (rs ls : List ℕ). leaks_behind_text d b.strays.items rs ls) same.open_routers same.missed)
 
@@ -116,12 +117,12 @@ behind_members t finding missed open_routers shown_from strays why = object_data
 found_behind_data-same_parts : (t : TopologyValue) (a b : Behind) (why because : List Data) → IsSameBehind a b
     → why ≡ because → found_behind_data t a why ≡ found_behind_data t b because
 found_behind_data-same_parts t a b why because same is =
-    ap₂ (λ (x : Option Finding) (ls : List ℕ). behind_members t x ls a.open_routers.items a.shown_from a.strays.items
-    why) same.finding same.missed
+    ap₂ (λ (x : Option Finding) (ls : List ℕ). behind_members t x ls a.open_routers.items a.shown_from
+    a.strays.items why) same.finding same.missed
     ∙ ap₂ (λ (rs : List ℕ) (k : Option ℕ). behind_members t b.finding b.missed.items rs k a.strays.items why)
     same.open_routers same.shown_from
-    ∙ ap₂ (λ (is : List Interface) (ds : List Data). behind_members t b.finding b.missed.items b.open_routers.items
-    b.shown_from is ds) same.strays is
+    ∙ ap₂ (λ (is : List Interface) (ds : List Data). behind_members t b.finding b.missed.items
+    b.open_routers.items b.shown_from is ds) same.strays is
 
 behind_data-same_behind : (d : DomainFacts) (summary : List SummaryValue) (flow : ℕ) (s t : Option Behind)
     → HaveSameBehind s t → behind_data d summary flow s ≡ behind_data d summary flow t
@@ -136,7 +137,8 @@ explanation_lines-same_explanation : (d : DomainFacts) (summary : List SummaryVa
     (x y : Explanation) → IsSameExplanation x y
     → explanation_lines d summary flow x ≡ explanation_lines d summary flow y
 explanation_lines-same_explanation d summary flow x y same =
-    ap (λ (printed : List Cause). causes_text d summary flow printed ++ (searched_lines d summary flow x.search
+    ap (λ (printed : List Cause). causes_text d summary flow printed
+    ++ (searched_lines d summary flow x.search
     ++ (also_missed_text d.topology x.also ++ behind_text d summary flow x.behind))) same.printed
     ∙ ap₂ (λ (found : List ℕ) (also : List ℕ). causes_text d summary flow y.printed
     ++ (found ++ (also_missed_text d.topology also ++ behind_text d summary flow x.behind)))
@@ -186,7 +188,8 @@ wrong_object-same_travel : (travels : Bool) (d : DomainFacts) (summary : List Su
     → wrong_object travels d summary flow ttl a.travel x
     ≡ wrong_object travels d summary flow ttl b.travel y
 wrong_object-same_travel travels d summary flow ttl a b x y ended same =
-    ap₂ (λ (w : Finding) (es : List Event). wrong_line d flow (flow_at d.topology flow) x.certainty ttl w es x.also
+    ap₂ (λ (w : Finding) (es : List Event). wrong_line d flow (flow_at d.topology flow) x.certainty
+    ttl w es x.also
     (behind_data d summary flow x.behind) (why_data d summary flow x.printed x.search) travels) ended.finding
     ended.events
     ∙ ap₂ (λ (c : Certainty) (past : Data). wrong_line d flow (flow_at d.topology flow) c ttl b.travel.finding
@@ -289,9 +292,12 @@ shown_trees_with-same_flights o d flow (FoundAtFlowTtl a b) (FoundAtTtl255 c) wa
 known_right-same : (whole : Bool) (x y : Examined) (known other : Bool) → is_certified x ≡ is_certified y
     → known ≡ other → known_right whole x known ≡ known_right whole y other
 known_right-same whole (examined_as.Certified xs) (examined_as.Certified ys) known other same is = refl
-known_right-same whole (examined_as.Certified xs) (examined_as.Found ttl travel) known other same is = absurd cc
-known_right-same whole (examined_as.Found ttl travel) (examined_as.Certified ys) known other same is = absurd cc
-known_right-same whole (examined_as.Found ttl travel) (examined_as.Found at other_travel) known other same is =
+known_right-same whole (examined_as.Certified xs) (examined_as.Found ttl travel) known other same is =
+    absurd cc
+known_right-same whole (examined_as.Found ttl travel) (examined_as.Certified ys) known other same is =
+    absurd cc
+known_right-same whole (examined_as.Found ttl travel) (examined_as.Found at other_travel) known
+    other same is =
     ap (λ (b : Bool). known_right whole (examined_as.Found ttl travel) b) is
 
 same_answer-flow_answers : (v : AuditedValue) (o : AuditOptions) (printed : List Tree) (flow : ℕ)
@@ -379,7 +385,8 @@ have_same_answers-flow_answers v o k printed (a ∷ xs) (b ∷ ys) ok size p q =
     subst (λ (ts : List Tree). AreAnswersFrom v o (suc k) ts ys) (sym (first.shown_trees printed))
     (are_answers_from-next v o k printed b ys q) in (
       first,
-      have_same_answers-flow_answers v o (suc k) (shown_trees_with o a.net printed a.examined a.wanted) xs ys ok
+      have_same_answers-flow_answers v o (suc k)
+          (shown_trees_with o a.net printed a.examined a.wanted) xs ys ok
           (omega (arith, size)) next more,
     )
 
@@ -476,7 +483,8 @@ HasOneListOfSummaries =
 -- one folder's files mean at most one of what hosts ask for
 abbrev HasOneOfAsked : Type 0
 HasOneOfAsked =
-    (all : Bool) (ignored : List (ℕ × ℕ)) (files : List FileText) (d : DomainValue) (a b : UnansweredWantsValue)
+    (all : Bool) (ignored : List (ℕ × ℕ)) (files : List FileText) (d : DomainValue)
+    (a b : UnansweredWantsValue)
     → IsDomain d → IsAskedOf all ignored files d a → IsAskedOf all ignored files d b → a ≡ b
 
 means_audited-unique : HasOneListOfSummaries → HasOneOfAsked → (o : AuditOptions) (left : LeftOutValue)
@@ -486,7 +494,8 @@ means_audited-unique one_list one_asked o left files v w p q =
     let read = files_with_exclusions left.routers files in
     let domain = FilesMeanDomain-unique read v.domain w.domain p.means q.means in
     let summary = one_list o.unlisted read v.domain.topology v.summary w.summary p.summary
-    (subst (λ (d : DomainValue). AreSummariesOf o.unlisted read d.topology w.summary) (sym domain) q.summary) in
+    (subst (λ (d : DomainValue). AreSummariesOf o.unlisted read d.topology w.summary) (sym domain)
+    q.summary) in
     let asked = one_asked o.unlisted left.groups read v.domain v.asked w.asked p.means.rules p.asked
     (subst (λ (d : DomainValue). IsAskedOf o.unlisted left.groups read d w.asked) (sym domain) q.asked) in
     let without = p.without ∙ sym q.without in

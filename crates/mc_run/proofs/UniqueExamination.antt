@@ -51,11 +51,10 @@ use Rattle.mc_explain.specs.declared.causes.explanation.Certainty.{Certainty}
 use Rattle.mc_explain.specs.declared.causes.explanation.ShownBy.{ShownBy}
 use Rattle.mc_explain.proofs.UniqueCauseLemmas.{causes-are_unique}
 use Rattle.mc_run.specs.AuditExplanation.{IsExplanation, IsSearchAt255, IsSearchIfMissed, also_missed}
-use Rattle.mc_run.specs.AuditExplanation.{IsBehindAt255, IsBehindIfStray, IsFoundAtFlowTtl, IsFoundAtFlowTtlIf}
-use Rattle.mc_run.specs.AuditExplanation.{IsFoundBelow, IsShownBy}
-use Rattle.mc_run.specs.AuditExplanation.{IsShownFromAt255, IsShownFromUnless, certain_finding, is_known_wrong}
-use Rattle.mc_run.specs.AuditExplanation.{search_context}
-use Rattle.mc_run.specs.AuditExplanation.{without_remedies}
+use Rattle.mc_run.specs.AuditExplanation.{IsBehindAt255, IsBehindIfStray, IsFoundAtFlowTtl}
+use Rattle.mc_run.specs.AuditExplanation.{IsFoundAtFlowTtlIf, IsFoundBelow, IsShownBy, IsShownFromAt255}
+use Rattle.mc_run.specs.AuditExplanation.{IsShownFromUnless, certain_finding, is_known_wrong}
+use Rattle.mc_run.specs.AuditExplanation.{search_context, without_remedies}
 use Rattle.mc_run.specs.AuditText.{Explanation}
 use Rattle.mc_run.specs.MakeRun.{IsExamined}
 
@@ -365,7 +364,8 @@ HaveSameBehind None None = ⊤
 HaveSameBehind (Some x) (Some y) = IsSameBehind x y
 HaveSameBehind _ _ = ⊥
 
-optional_finding-same_value : (s t : Option Finding) → optional_finding_value s ≡ optional_finding_value t → s ≡ t
+optional_finding-same_value : (s t : Option Finding)
+    → optional_finding_value s ≡ optional_finding_value t → s ≡ t
 optional_finding-same_value None None e = refl
 optional_finding-same_value None (Some y) e = absurd cc
 optional_finding-same_value (Some x) None e = absurd cc
@@ -390,9 +390,10 @@ is_behind-unique : (whole : Bool) (d : DomainValue) (flow : ℕ) (own : Interfac
 is_behind-unique whole d flow own x y p q =
     let n = net_of d flow in
     let same = ends_past_strays-unique n (start n 255) p.flight q.flight p.run q.run in
-    is_behind_in-unique whole (ttl_of d flow == 255) d.topology n own q.flight (first_double [] q.flight.carried) x y
-    (subst (λ (g : Flight). IsBehindIn whole (ttl_of d flow == 255) d.topology n own g (first_double [] g.carried) x)
-    same p.shows) q.shows
+    is_behind_in-unique whole (ttl_of d flow == 255) d.topology n own q.flight
+    (first_double [] q.flight.carried) x y
+    (subst (λ (g : Flight). IsBehindIn whole (ttl_of d flow == 255) d.topology n own g
+    (first_double [] g.carried) x) same p.shows) q.shows
 
 same_behind-none : (s t : Option Behind) → s ≡ None → t ≡ None → HaveSameBehind s t
 same_behind-none s t none other =
@@ -410,8 +411,10 @@ is_behind_if_stray-unique whole d flow (Stray router vif) (Some x) None p q = ab
 is_behind_if_stray-unique whole d flow (Stray router vif) (Some x) (Some y) p q =
     is_behind-unique whole d flow (router, vif) x y p q
 
-is_behind_at_255-unique : (whole : Bool) (d : DomainValue) (flow : ℕ) (a b : ExaminedFlights) (s t : Option Behind)
-    → HaveSameFlights a b → IsBehindAt255 whole d flow a s → IsBehindAt255 whole d flow b t → HaveSameBehind s t
+is_behind_at_255-unique : (whole : Bool) (d : DomainValue) (flow : ℕ) (a b : ExaminedFlights)
+    (s t : Option Behind)
+    → HaveSameFlights a b → IsBehindAt255 whole d flow a s → IsBehindAt255 whole d flow b t
+    → HaveSameBehind s t
 is_behind_at_255-unique whole d flow (Certified xs) (Certified ys) s t same p q = same_behind-none s t p q
 is_behind_at_255-unique whole d flow (FoundAtTtl255 a) (FoundAtTtl255 b) s t same p q =
     is_behind_if_stray-unique whole d flow b.travel.finding s t
@@ -534,5 +537,6 @@ is_explanation-unique d summary excluded whole flow a b x y ok same p q =
       behind = is_behind_at_255-unique whole d flow a b x.behind y.behind same p.behind q.behind;
       certainty = same_certainty x.certainty y.certainty
           (p.known ∙ is_known_wrong-same_search whole x.search y.search search ∙ sym q.known)
-          (is_shown_by-unique whole d flow a b x.certainty.shown_by y.certainty.shown_by ok same p.shown q.shown);
+          (is_shown_by-unique whole d flow a b x.certainty.shown_by y.certainty.shown_by ok same
+          p.shown q.shown);
     }

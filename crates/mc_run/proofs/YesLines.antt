@@ -9,8 +9,8 @@ use Rattle.mc_explain.proofs.LineFeedLemmas.{no_feed-from_list_all}
 use Rattle.mc_files.specs.Files.{FileText}
 use Rattle.mc_forward.specs.ListedTables.{facts}
 use Rattle.mc_run.specs.AuditEnd.{begin_lines, end_lines, verdict_line}
-use Rattle.mc_run.specs.AuditRun.{AreYesWords, IsAuditText, LeftOutValue, excluded, is_whole, is_yes, yes_object}
-use Rattle.mc_run.specs.AuditRun.{yes_words}
+use Rattle.mc_run.specs.AuditRun.{AreYesWords, IsAuditText, LeftOutValue, excluded, is_whole, is_yes}
+use Rattle.mc_run.specs.AuditRun.{yes_object, yes_words}
 use Rattle.mc_run.specs.CheckRun.{BundleKeepsHeadline, IsLineStart, IsVerdictText, SaysYes, WroteAtStart}
 use Rattle.mc_run.specs.CheckRun.{WroteYes}
 use Rattle.mc_run.specs.RunOutput.{IsOutputWritten}
@@ -178,7 +178,8 @@ audit_text-lines_and_verdict left files o all written a =
     let v = a.domain in
     let answers = a.holds.answers in
     a.holds.spelled
-    ∙ append-assoc_four (begin_lines o (facts v.domain) (excluded v) v.ignored) (flat_map (λ b. b.lines) answers)
+    ∙ append-assoc_four (begin_lines o (facts v.domain) (excluded v) v.ignored)
+    (flat_map (λ b. b.lines) answers)
     (end_lines o v.domain.topology v.summary v.asked (excluded v) (is_whole v) (is_yes v answers) answers)
     (verdict_line o.json (is_yes v answers))
     ∙ ap (λ every. text_before_verdict v o answers ++ verdict_line o.json every) (sym a.holds.answer)

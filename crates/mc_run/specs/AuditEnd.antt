@@ -1,6 +1,6 @@
 -- The lines before and after those of the flows: in JSON the domain and the words of the call; the
--- unlisted sources and groups of the caches, what hosts ask for and no flow answers, the excluded routers, and
--- the numbers of right, wrong and unknown flows.
+-- unlisted sources and groups of the caches, what hosts ask for and no flow answers, the excluded routers,
+-- and the numbers of right, wrong and unknown flows.
 use Rattle.std.specs.Prelude.{ℕ, ◌==◌, ◌+◌, ◌&&◌, not, Bool, List, [], ◌∷◌, ◌++◌, codes, decimal, filter}
 use Rattle.std.specs.Prelude.{flat_map, length, map, if◌then◌else◌, Option, Some, None, is_none, true, false}
 use Rattle.std.specs.List.{list_all, list_any}
@@ -150,8 +150,8 @@ begin_lines o d excluded ignored =
 
 -- as text, by the counts of flows and what hosts ask for, where all flows are right and no router is
 -- excluded, or not
-abbrev pub end_text : AuditOptions → TopologyValue → List SummaryValue → UnansweredWantsValue → (excluded : List Bool)
-    → (whole all : Bool) → (flows right wrong unknown unwanted : ℕ) → List ℕ
+abbrev pub end_text : AuditOptions → TopologyValue → List SummaryValue → UnansweredWantsValue
+    → (excluded : List Bool) → (whole all : Bool) → (flows right wrong unknown unwanted : ℕ) → List ℕ
 end_text o t summary asked excluded whole all flows right wrong unknown unwanted =
     unlisted_text o.unlisted t summary
     ++ (asked_lines false t (not whole) asked
@@ -174,8 +174,8 @@ end_text_or_objects o t summary asked excluded whole all flows right wrong unkno
     else end_text o t summary asked excluded whole all flows right wrong unknown unwanted
 
 -- by the flows themselves
-abbrev pub end_lines : AuditOptions → TopologyValue → List SummaryValue → UnansweredWantsValue → (excluded : List Bool)
-    → (whole all : Bool) → List FlowAnswer → List ℕ
+abbrev pub end_lines : AuditOptions → TopologyValue → List SummaryValue → UnansweredWantsValue
+    → (excluded : List Bool) → (whole all : Bool) → List FlowAnswer → List ℕ
 end_lines o t summary asked excluded whole all answers =
     end_text_or_objects o t summary asked excluded whole all (length answers) (count is_right answers)
     (count is_wrong answers)

@@ -127,7 +127,8 @@ certain_finding whole (Stray router vif) = Some (Stray router vif)
 
 -- the finding of the travel of a packet with the flow's TTL, in which the first waiting copy is handled each
 -- time
-pub record IsFoundAtFlowTtl (whole : Bool) (d : DomainValue) (flow : ℕ) (found : Option Finding) : Type 0 where
+pub record IsFoundAtFlowTtl (whole : Bool) (d : DomainValue) (flow : ℕ) (found : Option Finding)
+    : Type 0 where
   pub travel : Travel
   pub runs : IsFirstPickTravel d flow (ttl_of d flow) travel
   pub certain : found ≡ certain_finding whole travel.finding
@@ -160,7 +161,8 @@ IsBehindIfStray whole d flow (Loop lan) behind = behind ≡ None
 IsBehindIfStray whole d flow (Missed lan) behind = behind ≡ None
 
 -- A packet with the flow's own TTL makes no stray where one with TTL 255 makes none.
-abbrev pub IsBehindAt255 : (whole : Bool) → DomainValue → (flow : ℕ) → ExaminedFlights → Option Behind → Type 0
+abbrev pub IsBehindAt255 : (whole : Bool) → DomainValue → (flow : ℕ) → ExaminedFlights
+    → Option Behind → Type 0
 IsBehindAt255 whole d flow (Certified entries) behind = behind ≡ None
 IsBehindAt255 whole d flow (FoundAtTtl255 ended) behind =
     IsBehindIfStray whole d flow ended.travel.finding behind

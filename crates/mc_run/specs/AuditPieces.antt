@@ -23,8 +23,8 @@ use Rattle.mc_run.specs.AuditRun.{IsFlowAnswer, AuditedValue, LeftOutValue, excl
 use Rattle.mc_run.specs.AuditRun.{trees_shown}
 use Rattle.mc_run.specs.AuditText.{Explanation, behind_text, second_behind_text}
 use Rattle.mc_run.specs.AuditText.{explanation_lines, right_lines, searched_lines, wrong_lines}
-use Rattle.mc_run.specs.AuditFlowText.{right_flow_lines, shown_trees_with, status_of, status_of_right}
-use Rattle.mc_run.specs.AuditFlowText.{status_of_wrong, wrong_flow_lines}
+use Rattle.mc_run.specs.AuditFlowText.{is_hidden, right_flow_lines, shown_trees_with, status_of}
+use Rattle.mc_run.specs.AuditFlowText.{status_of_right, status_of_wrong, with_shown_tree, wrong_flow_lines}
 use Rattle.mc_cli.specs.declared.audit_options.AuditOptions.{AuditOptions}
 use Rattle.mc_run.specs.declared.audit.audited_domain.AuditedDomain.{AuditedDomain}
 use Rattle.mc_run.specs.declared.audit.audit_output.AuditAnswer.{AuditAnswer}
@@ -33,6 +33,7 @@ use Rattle.mc_run.specs.declared.fault.RunFault.{RunFault}
 use Rattle.mc_run.specs.declared.run_output.RunOutput.{RunOutput}
 use Rattle.mc_run.specs.declared.audit.flow_status.FlowStatus.{FlowStatus}
 use Rattle.mc_run.specs.declared.audit.flow_status.FlowCounts.{FlowCounts}
+use Rattle.mc_run.specs.declared.audit.reasons.Reasons.{Reasons}
 
 -- an audited domain as a value
 abbrev pub audited_value : AuditedDomain → AuditedValue
@@ -99,7 +100,8 @@ pub record IsFlowPushed (v : AuditedValue) (o : AuditOptions) (flow : ℕ) (flow
     (printed new_printed : List Tree) (old new : List ℕ) : Type 0 where
   pub answer : FlowAnswer
   pub is : IsFlowAnswer v o printed flow answer
-  pub matches : flow_status ≡ status_of (is_whole v) answer.examined is.explanation.certainty.known answer.wanted
+  pub matches : flow_status ≡ status_of (is_whole v) answer.examined is.explanation.certainty.known
+      answer.wanted
   pub shown_trees : new_printed ≡ shown_trees_with o answer.net printed answer.examined answer.wanted
   pub spelled : new ≡ old ++ answer.lines
 
@@ -118,9 +120,9 @@ pub record AreFlowsPushed (v : AuditedValue) (o : AuditOptions) (k : ℕ) (s : F
   pub spelled : new ≡ old ++ flat_map (λ a. a.lines) answers
 
 -- The lines of all flows were appended, and these are their counts.
-abbrev pub AreAllFlowsPushed : AuditedDomain → AuditOptions → FlowCounts → (old new : List ℕ) → Type 0
-AreAllFlowsPushed a o flow_counts old new = (printed : List Tree)
-    × AreFlowsPushed (audited_value a) o (length (audited_value a).domain.topology.flows)
+abbrev pub AreAllFlowsPushed : AuditedDomain → FlowCounts → (old new : List ℕ) → Type 0
+AreAllFlowsPushed a flow_counts old new = (printed : List Tree)
+    × AreFlowsPushed (audited_value a) a.options (length (audited_value a).domain.topology.flows)
     flow_counts printed old new
 
 -- ---- the lines of one flow, as they are appended
@@ -147,11 +149,15 @@ abbrev pub right_objects_of : AuditedDomain → (printed : List Tree) → (flow 
 right_objects_of a printed flow es wanted =
     right_objects (is_whole (audited_value a)) (facts (audited_value a).domain) printed flow es wanted
 
--- and as the options ask
-abbrev pub right_flow_lines_of : AuditedDomain → AuditOptions → (printed : List Tree) → (flow : ℕ) → Tree
-    → List ℕ
-right_flow_lines_of a o printed flow es = right_flow_lines o (is_whole (audited_value a))
+-- and as the options ask,
+abbrev pub right_flow_lines_of : AuditedDomain → (printed : List Tree) → (flow : ℕ) → Tree → List ℕ
+right_flow_lines_of a printed flow es = right_flow_lines a.options (is_whole (audited_value a))
     (facts (audited_value a).domain) printed flow es (lans_wanting_flow a flow)
+
+-- and the trees that are printed then
+abbrev pub shown_trees_with_right : AuditedDomain → (printed : List Tree) → (flow : ℕ) → Tree → List Tree
+shown_trees_with_right a printed flow es = with_shown_tree a.options.json
+    (is_hidden a.options.faults (lans_wanting_flow a flow)) printed (key_of_shown_tree a flow es)
 
 -- the context of the search for a LAN that the packet of a finished travel missed
 abbrev pub search_context_of : AuditedDomain → (flow : ℕ) → FinishedTravel → Search
@@ -170,7 +176,8 @@ second_behind_of a flow b = second_behind_text (facts (audited_value a).domain) 
 
 -- the lines of what is behind a stray, if the finding is one
 abbrev pub behind_lines_of : AuditedDomain → (flow : ℕ) → Option Behind → List ℕ
-behind_lines_of a flow behind = behind_text (facts (audited_value a).domain) (audited_value a).summary flow behind
+behind_lines_of a flow behind = behind_text (facts (audited_value a).domain)
+    (audited_value a).summary flow behind
 
 -- the lines that explain the finding of a finished travel
 abbrev pub explanation_lines_of : AuditedDomain → (flow : ℕ) → Explanation → List ℕ
@@ -178,28 +185,26 @@ explanation_lines_of a flow x =
     explanation_lines (facts (audited_value a).domain) (audited_value a).summary flow x
 
 -- a flow with a finding, by the finished travel that shows it, of a packet with this TTL: as text,
-abbrev pub wrong_lines_of : AuditedDomain → (travels : Bool) → (flow : ℕ) → Travel → Explanation → List ℕ
-wrong_lines_of a travels flow travel x =
-    wrong_lines travels (facts (audited_value a).domain) (audited_value a).summary flow travel x
+abbrev pub wrong_lines_of : AuditedDomain → (flow : ℕ) → Travel → Explanation → List ℕ
+wrong_lines_of a flow travel x =
+    wrong_lines a.options.travels (facts (audited_value a).domain) (audited_value a).summary flow travel x
 
 -- in JSON,
-abbrev pub wrong_object_of : AuditedDomain → (travels : Bool) → (flow ttl : ℕ) → Travel → Explanation
-    → List ℕ
-wrong_object_of a travels flow ttl travel x =
-    wrong_object travels (facts (audited_value a).domain) (audited_value a).summary flow ttl travel x
+abbrev pub wrong_object_of : AuditedDomain → (flow ttl : ℕ) → Travel → Explanation → List ℕ
+wrong_object_of a flow ttl travel x =
+    wrong_object a.options.travels (facts (audited_value a).domain) (audited_value a).summary
+    flow ttl travel x
 
 -- as the options ask,
-abbrev pub explained_lines_of : AuditedDomain → AuditOptions → (flow ttl : ℕ) → FinishedTravel → Explanation
-    → List ℕ
-explained_lines_of a o flow ttl ended x = wrong_flow_lines o (facts (audited_value a).domain)
+abbrev pub explained_lines_of : AuditedDomain → (flow ttl : ℕ) → FinishedTravel → Explanation → List ℕ
+explained_lines_of a flow ttl ended x = wrong_flow_lines a.options (facts (audited_value a).domain)
     (audited_value a).summary flow ttl ended.travel x
 
--- and with these causes, and by these
-abbrev pub wrong_flow_lines_of : AuditedDomain → AuditOptions → (flow ttl : ℕ) → FinishedTravel → List Cause
-    → Option LanSearch → Option Behind → ShownBy → List ℕ
-wrong_flow_lines_of a o flow ttl ended causes search behind shown_by = wrong_flow_lines o (facts (audited_value a).domain)
-    (audited_value a).summary flow ttl ended.travel
-    (explanation_in (is_whole (audited_value a)) ended causes search behind shown_by)
+-- and for these reasons
+abbrev pub wrong_flow_lines_of : AuditedDomain → (flow ttl : ℕ) → FinishedTravel → Reasons → List ℕ
+wrong_flow_lines_of a flow ttl ended reasons = explained_lines_of a flow ttl ended
+    (explanation_in (is_whole (audited_value a)) ended reasons.causes.items reasons.search reasons.behind
+    reasons.shown_by)
 
 -- the status of a flow with a finding, by the search for the LAN that its packet missed, if there was one
 abbrev pub status_of_wrong_flow : AuditedDomain → Option LanSearch → FlowStatus
@@ -208,20 +213,21 @@ status_of_wrong_flow a search = status_of_wrong (is_known_wrong (is_whole (audit
 -- ---- the lines after the flows, with these counts
 
 -- as text, where the verdict is yes or not,
-abbrev pub end_text_of : AuditedDomain → AuditOptions → FlowCounts → (all : Bool) → List ℕ
-end_text_of a o s all = end_text o (audited_value a).domain.topology (audited_value a).summary
+abbrev pub end_text_of : AuditedDomain → FlowCounts → (all : Bool) → List ℕ
+end_text_of a s all = end_text a.options (audited_value a).domain.topology (audited_value a).summary
     (audited_value a).asked a.excluded.now (is_whole (audited_value a)) all
     (length (audited_value a).domain.topology.flows) s.right s.wrong s.unknown s.unwanted
 
 -- in JSON,
-abbrev pub end_objects_of : AuditedDomain → AuditOptions → FlowCounts → List ℕ
-end_objects_of a o s = end_objects o (audited_value a).domain.topology (audited_value a).summary
+abbrev pub end_objects_of : AuditedDomain → FlowCounts → List ℕ
+end_objects_of a s = end_objects a.options (audited_value a).domain.topology (audited_value a).summary
     (audited_value a).asked a.excluded.now (is_whole (audited_value a)) s.right s.wrong s.unknown s.unwanted
 
 -- and as the options ask
-abbrev pub end_text_or_objects_of : AuditedDomain → AuditOptions → FlowCounts → (all : Bool) → List ℕ
-end_text_or_objects_of a o s all = end_text_or_objects o (audited_value a).domain.topology
-    (audited_value a).summary (audited_value a).asked a.excluded.now (is_whole (audited_value a)) all (length (audited_value a).domain.topology.flows) s.right s.wrong s.unknown s.unwanted
+abbrev pub end_text_or_objects_of : AuditedDomain → FlowCounts → (all : Bool) → List ℕ
+end_text_or_objects_of a s all = end_text_or_objects a.options (audited_value a).domain.topology
+    (audited_value a).summary (audited_value a).asked a.excluded.now (is_whole (audited_value a)) all
+    (length (audited_value a).domain.topology.flows) s.right s.wrong s.unknown s.unwanted
 
 -- ---- the output of an audit
 

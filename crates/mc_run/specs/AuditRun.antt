@@ -49,8 +49,8 @@ pub record LeftOutValue : Type 0 where
   pub routers : List (List ℕ)
   pub groups : List (ℕ × ℕ)
 
--- a domain, a summary of each router's cache, what hosts ask for and no flow answers, and what is left out: the
--- names of the excluded routers, and ranges of groups
+-- a domain, a summary of each router's cache, what hosts ask for and no flow answers, and what is left out:
+-- the names of the excluded routers, and ranges of groups
 pub record AuditedValue : Type 0 where
   pub domain : DomainValue
   pub summary : List SummaryValue
@@ -132,7 +132,8 @@ pub record MeansAudited (o : AuditOptions) (left : LeftOutValue) (files : List F
     (v : AuditedValue) : Type 0 where
   pub means : FilesMeanDomain (files_with_exclusions left.routers files) v.domain
   pub routers : AreRouterNames v.domain.topology left.routers
-  pub summary : AreSummariesOf o.unlisted (files_with_exclusions left.routers files) v.domain.topology v.summary
+  pub summary : AreSummariesOf o.unlisted (files_with_exclusions left.routers files)
+      v.domain.topology v.summary
   pub asked : IsAskedOf o.unlisted left.groups (files_with_exclusions left.routers files) v.domain v.asked
   pub without : v.without ≡ left.routers
   pub ignored : v.ignored ≡ left.groups

@@ -78,8 +78,8 @@ searched_lines d summary flow (Some found) =
     search_text d summary flow found.lines.items found.reach.sent_on.items
     found.reach.took_none.items
 
--- the second copy behind a stray, if there is one: what it shows, and after four spaces its causes and from which TTL
--- on packets show it
+-- the second copy behind a stray, if there is one: what it shows, and after four spaces its causes and from
+-- which TTL on packets show it
 abbrev pub deeper_shown_from_text : Option ℕ → List ℕ
 deeper_shown_from_text None = []
 deeper_shown_from_text (Some ttl) = codes "  " ++ shown_from_text (Some ttl)

@@ -109,7 +109,10 @@ enough_of strict (Err fault) = Err fault
 
 -- what the words leave out: the excluded routers, and the ranges of groups whose wants are left aside
 abbrev pub left_out_by : AuditWords → LeftOutValue
-left_out_by words = record { routers = map (λ name. name.now) words.without.items; groups = words.ignored.items }
+left_out_by words = record {
+  routers = map (λ name. name.now) words.without.items;
+  groups = words.ignored.items;
+}
 
 -- The answer and the text of an audit of the files, with these options and without what is left out.
 pub record IsAuditResult (o : AuditOptions) (left : LeftOutValue) (contents : Option (List FileText))

@@ -10,6 +10,7 @@ mod audit_wrong;
 mod audited_domain;
 mod flow_status;
 pub(crate) mod left_out;
+mod reasons;
 
 ghost use Rattle.std.specs.Prelude.{◌≡◌, ◌≢◌, ◌<◌, ◌==◌, ◌&&◌, IfErr, IfOk, IfSome, Err, false};
 ghost use Rattle.std.specs.Prelude.{length};
@@ -49,17 +50,16 @@ use std::alloc::Global;
 fn push_flows(
     alloc: Global,
     audited: &AuditedDomain<'_>,
-    options: AuditOptions,
     text: &mut String,
 ) -> Result<FlowCounts, NoMemory>
     requires valid { HasItsMarksAndInterfaces audited.now }
-    ensures appended { IfOk result (λ flow_counts. AreAllFlowsPushed audited.now options flow_counts
+    ensures appended { IfOk result (λ flow_counts. AreAllFlowsPushed audited.now flow_counts
         (string_bytes text.old) (string_bytes text.new)) }
 {
     let mut shown_trees = DistinctTrees::new(alloc);
     let mut flow_counts = FlowCounts::none();
     for flow in 0..audited.domain.topology().flows() {
-        let flow_status = push_flow(alloc, audited, flow, options, &mut shown_trees, text)?;
+        let flow_status = push_flow(alloc, audited, flow, &mut shown_trees, text)?;
         flow_counts = flow_counts.with(flow_status);
     }
     let _shown_trees = shown_trees.trees();
@@ -75,21 +75,18 @@ fn is_yes(audited: &AuditedDomain<'_>, flow_counts: FlowCounts) -> bool
 
 /// The text of a domain's audit: its flows, the unlisted sources and groups of the caches, and the
 /// verdict, which is no where routers are excluded.
-fn audit_all(
-    alloc: Global,
-    audited: &AuditedDomain<'_>,
-    options: AuditOptions,
-) -> Result<AuditOutput, NoMemory>
+fn audit_all(alloc: Global, audited: &AuditedDomain<'_>) -> Result<AuditOutput, NoMemory>
     requires valid { HasItsMarksAndInterfaces audited.now }
-    ensures text { IfOk result (λ audit. IsAudited (audited_value audited.now) options audit.run_output.yes
-        (string_bytes audit.run_output.text)) }
-    ensures counts { IfOk result (λ audit. HasCounts (audited_value audited.now) options audit.counts) }
+    ensures text { IfOk result (λ audit. IsAudited (audited_value audited.now) audited.now.options
+        audit.run_output.yes (string_bytes audit.run_output.text)) }
+    ensures counts { IfOk result (λ audit. HasCounts (audited_value audited.now) audited.now.options
+        audit.counts) }
 {
-    let mut text = begin_lines(alloc, audited, options)?;
-    let flow_counts = push_flows(alloc, audited, options, &mut text)?;
+    let mut text = begin_lines(alloc, audited)?;
+    let flow_counts = push_flows(alloc, audited, &mut text)?;
     let yes = is_yes(audited, flow_counts);
     let asked = count_asked(audited.asked)?;
-    push_end(alloc, &mut text, audited, options, flow_counts, asked, yes)?;
+    push_end(alloc, &mut text, audited, flow_counts, asked, yes)?;
     let counts = AuditCounts {
         unwanted: flow_counts.unwanted,
         asked,
@@ -123,8 +120,9 @@ fn audit_domain(
         without: left.without,
         ignored: left.ignored,
         excluded: &excluded,
+        options,
     };
-    audit_all(alloc, &audited, options)
+    audit_all(alloc, &audited)
 }
 
 /// The audit of the domain of a folder's files, without what is left out.
@@ -169,13 +167,14 @@ fn audit_files<F: PieceSource>(
 /// It reads the files, each at most 16,777,216 bytes, and checks each before it opens the next one.
 /// Tables are read piece by piece; of a cache it keeps the rows of listed flows, and a summary that
 /// explains how their packets are forwarded. Where hosts ask for what no flow answers, it reads tables and
-/// lists once more. Then it examines each flow of the topology, and checks each certificate list that results.
+/// lists once more. Then it examines each flow of the topology, and checks each certificate list that
+/// results.
 ///
 /// For each flow, in order, it writes the checker's yes with the number of copies and the LANs that
 /// want the flow, or that the flow is wrong, what a packet of it meets, from which TTL on packets show
-/// that, and why. After the flows come the unlisted sources and groups of the caches, what hosts ask for and no
-/// flow answers, and the numbers of right, wrong and unknown flows, and last `verdict yes` or `verdict no`. The
-/// options add lines, leave some away, or choose JSON, one object a line.
+/// that, and why. After the flows come the unlisted sources and groups of the caches, what hosts ask for
+/// and no flow answers, and the numbers of right, wrong and unknown flows, and last `verdict yes` or
+/// `verdict no`. The options add lines, leave some away, or choose JSON, one object a line.
 ///
 /// The routers of the names `left.without` are excluded: their files aren't opened, their tables aren't
 /// known, and the verdict is no, since a yes is only given for a whole domain. Of a flow without a finding,
@@ -212,8 +211,8 @@ pub fn run_audit<F: PieceSource, W: Output>(
     // router is excluded.
     ensures right { IsWrittenWhole (SaysWhichAreRight options (left_out left.now))
         (F.contents files.old) (yes_of result) (W.written output.old) (W.written output.new) }
-    // The answer has the number of flows without a finding that are wanted by no LAN, and that of the wants of
-    // LANs that no flow answers.
+    // The answer has the number of flows without a finding that are wanted by no LAN, and that of the wants
+    // of LANs that no flow answers.
     ensures counts { IfOk result (λ answer. IfSome (F.contents files.old)
         (MeansDomainWhere (MeansAudited options (left_out left.now))
         (λ v. HasCounts v options answer.counts))) }

@@ -2,9 +2,10 @@
 
 ghost use Rattle.std.specs.Prelude.{◌≡◌, ◌++◌, OnOk, Some, flat_map};
 ghost use Rattle.std.specs.String.{string_bytes};
-ghost use Rattle.mc_explain.specs.AskedText.{addresses_text, asked_more_text, asked_text_of, forwarding_words};
-ghost use Rattle.mc_explain.specs.AskedText.{is_ignored_by_routers, listed_text};
-ghost use Rattle.mc_explain.specs.AskedText.{service_text, services_text, some_services_text, ssm_text, what_text};
+ghost use Rattle.mc_explain.specs.AskedText.{addresses_text, asked_more_text, asked_text_of};
+ghost use Rattle.mc_explain.specs.AskedText.{forwarding_words, is_ignored_by_routers, listed_text};
+ghost use Rattle.mc_explain.specs.AskedText.{service_text, services_text, some_services_text, ssm_text};
+ghost use Rattle.mc_explain.specs.AskedText.{what_text};
 
 use crate::asked::routers_by_state::RoutersByState;
 use crate::shown::row_text::ShownAddress;

@@ -26,7 +26,8 @@ use mc_text::Memory;
 use mc_topology::{LanNo, RouterNo};
 use std::alloc::Global;
 
-/// What is behind a stray. Where a LAN carries two copies there, the lists of strays, routers and LANs are empty.
+/// What is behind a stray. Where a LAN carries two copies there, the lists of strays, routers and LANs are
+/// empty.
 #[derive(Debug, Drop)]
 pub struct Behind {
     /// The loop or the duplicate, if a LAN carries two copies.
@@ -39,7 +40,8 @@ pub struct Behind {
     pub strays: Vec<Stray>,
     /// The routers past which nothing is known: their only resolved rows for the flow are for every source.
     pub open_routers: Vec<RouterNo>,
-    /// The LANs that want the flow and carry no copy, if no such router and no excluded one may send them one.
+    /// The LANs that want the flow and carry no copy, if no such router and no excluded one may send them
+    /// one.
     pub missed: Vec<LanNo>,
 }
 
@@ -276,7 +278,8 @@ fn behind_with_second(
 
 // ---- none
 
-/// The LANs that want the flow and have no first copy, if no router's row isn't followed and none is excluded.
+/// The LANs that want the flow and have no first copy, if no router's row isn't followed and none is
+/// excluded.
 fn missed_unless_open(
     alloc: Global,
     view: &FlowView<'_>,
@@ -324,10 +327,10 @@ fn behind_without_second(
     })
 }
 
-/// What is behind the stray at this interface of a packet of the flow with this number, counted from 0, sent with
-/// TTL 255: the run that finds the stray goes on, its strays are collected, until a LAN carried two copies or no
-/// copy waits. `whole` says that no router is excluded. The time is that of such a run, and in proportion to the
-/// number of LANs.
+/// What is behind the stray at this interface of a packet of the flow with this number, counted from 0,
+/// sent with TTL 255: the run that finds the stray goes on, its strays are collected, until a LAN carried
+/// two copies or no copy waits. `whole` says that no router is excluded. The time is that of such a run,
+/// and in proportion to the number of LANs.
 ///
 /// # Errors
 ///

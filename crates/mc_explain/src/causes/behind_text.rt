@@ -56,8 +56,8 @@ fn push_missed_behind(text: &mut String, topology: &Topology, lans: &[LanNo]) ->
     Ok(())
 }
 
-/// Writes by which interfaces copies leave the known domain behind a stray, past which routers nothing is known, and
-/// which LANs are missed: a line each, with the first 8 names. `flow` counts from 0.
+/// Writes by which interfaces copies leave the known domain behind a stray, past which routers nothing is
+/// known, and which LANs are missed: a line each, with the first 8 names. `flow` counts from 0.
 ///
 /// # Errors
 ///

@@ -142,10 +142,10 @@ fn need_of_finding(
     }
 }
 
-/// The TTL from which on packets show the finding of a flow's travel at TTL 255: each packet that is sent with
-/// it or with more carries two copies on the LAN of a loop or a duplicate, or makes the stray, unless one of
-/// its copies is lost. None for a missed LAN, and where nothing is found. `flow` counts from 0. The time is
-/// in proportion to the number of LANs and of copies.
+/// The TTL from which on packets show the finding of a flow's travel at TTL 255: each packet that is sent
+/// with it or with more carries two copies on the LAN of a loop or a duplicate, or makes the stray, unless
+/// one of its copies is lost. None for a missed LAN, and where nothing is found. `flow` counts from 0. The
+/// time is in proportion to the number of LANs and of copies.
 ///
 /// # Errors
 ///

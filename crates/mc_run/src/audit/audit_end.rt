@@ -129,14 +129,11 @@ fn option_words(
 }
 
 /// The begin of the text: in JSON a line with the domain and the words of the call, else nothing.
-pub(crate) fn begin_lines(
-    alloc: Global,
-    audited: &AuditedDomain<'_>,
-    options: AuditOptions,
-) -> Result<String, NoMemory>
-    ensures { IfOk result (λ text. string_bytes text ≡ begin_lines options
+pub(crate) fn begin_lines(alloc: Global, audited: &AuditedDomain<'_>) -> Result<String, NoMemory>
+    ensures { IfOk result (λ text. string_bytes text ≡ begin_lines audited.now.options
         (facts (audited_value audited.now).domain) audited.now.excluded.now audited.now.ignored.now) }
 {
+    let options = audited.options;
     let mut text = String::new(alloc);
     if options.json {
         let topology = audited.domain.topology();
@@ -206,15 +203,15 @@ fn push_end_text(
     alloc: Global,
     text: &mut String,
     audited: &AuditedDomain<'_>,
-    options: AuditOptions,
     flow_counts: FlowCounts,
     asked: u64,
     all: bool,
 ) -> Result<(), NoMemory>
     requires asked { asked ≡ (audited_value audited.now).asked.count }
     ensures { OnOk result (string_bytes text.new ≡ string_bytes text.old
-        ++ end_text_of audited.now options flow_counts all) }
+        ++ end_text_of audited.now flow_counts all) }
 {
+    let options = audited.options;
     let topology = audited.domain.topology();
     let routers = list_excluded_routers(alloc, topology, audited.excluded)?;
     push_unlisted(alloc, text, topology, audited.summary, options.unlisted)?;
@@ -232,14 +229,14 @@ fn push_end_objects(
     alloc: Global,
     text: &mut String,
     audited: &AuditedDomain<'_>,
-    options: AuditOptions,
     flow_counts: FlowCounts,
     asked: u64,
 ) -> Result<(), NoMemory>
     requires asked { asked ≡ (audited_value audited.now).asked.count }
     ensures { OnOk result (string_bytes text.new ≡ string_bytes text.old
-        ++ end_objects_of audited.now options flow_counts) }
+        ++ end_objects_of audited.now flow_counts) }
 {
+    let options = audited.options;
     let topology = audited.domain.topology();
     let FlowCounts {
         right,
@@ -261,20 +258,21 @@ pub(crate) fn push_end(
     alloc: Global,
     text: &mut String,
     audited: &AuditedDomain<'_>,
-    options: AuditOptions,
     flow_counts: FlowCounts,
     asked: u64,
     all: bool,
 ) -> Result<(), NoMemory>
     requires asked { asked ≡ (audited_value audited.now).asked.count }
     ensures { OnOk result (string_bytes text.new ≡ string_bytes text.old
-        ++ (end_text_or_objects_of audited.now options flow_counts all ++ verdict_line options.json all)) }
+        ++ (end_text_or_objects_of audited.now flow_counts all
+        ++ verdict_line audited.now.options.json all)) }
 {
+    let options = audited.options;
     if options.json {
-        push_end_objects(alloc, text, audited, options, flow_counts, asked)?;
+        push_end_objects(alloc, text, audited, flow_counts, asked)?;
         push_verdict_line(alloc, text, all)
     } else {
-        push_end_text(alloc, text, audited, options, flow_counts, asked, all)?;
+        push_end_text(alloc, text, audited, flow_counts, asked, all)?;
         push_overall_verdict(text, all)
     }
 }

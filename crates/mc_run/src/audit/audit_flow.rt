@@ -12,11 +12,11 @@ ghost use Rattle.mc_run.specs.AuditRun.{is_whole};
 ghost use Rattle.mc_run.specs.MakeRun.{IsExamined};
 
 use crate::audit::audit_right::push_checked;
-use crate::audit::audit_wrong::{behind_if_stray, push_wrong, search_if_missed, shown_by};
+use crate::audit::audit_wrong::push_wrong;
 use crate::audit::audited_domain::AuditedDomain;
 use crate::audit::flow_status::FlowStatus;
+use crate::audit::reasons::{Reasons, behind_if_stray, search_if_missed, shown_by};
 use mc_cert::DistinctTrees;
-use mc_cli::AuditOptions;
 use mc_explain::{Cause, ShownBy, explain};
 use mc_forward::FlowView;
 use mc_maker::{ExaminedFlights, examine_to_end};
@@ -25,10 +25,10 @@ use mc_text::Memory as NoMemory;
 use std::alloc::Global;
 
 /// Whether a cause names an oif to remove.
-fn is_remedy(causes: &Cause) -> bool
-    ensures { result ≡ says_remedy causes.now }
+fn is_remedy(cause: &Cause) -> bool
+    ensures { result ≡ says_remedy cause.now }
 {
-    matches!(causes, Cause::TakeOut { .. })
+    matches!(cause, Cause::TakeOut { .. })
 }
 
 /// The causes; without remedies, unless the whole domain is known.
@@ -65,7 +65,6 @@ fn push_found_at_255(
     flow: u32,
     flights: &ExaminedFlights<'_>,
     ended: &FinishedTravel<'_>,
-    options: AuditOptions,
     text: &mut String,
 ) -> Result<FlowStatus, NoMemory>
     requires flow { flow < length (audited_value audited.now).domain.topology.flows }
@@ -75,16 +74,21 @@ fn push_found_at_255(
         (without_flights (audited_value audited.now).domain flow flights.now) }
     requires is { flights.now ≡ FoundAtTtl255 ended.now }
     ensures ok { IfOk result (λ flow_status. (shown_trees : List Tree)
-        → IsFlowPushed (audited_value audited.now) options
-        flow flow_status shown_trees shown_trees (string_bytes text.old) (string_bytes text.new)) }
+        → IsFlowPushed (audited_value audited.now)
+        audited.now.options flow flow_status shown_trees shown_trees (string_bytes text.old)
+        (string_bytes text.new)) }
 {
     let causes = causes_to_print(alloc, audited, flow, flights)?;
-    let found = search_if_missed(alloc, audited, flow, ended)?;
+    let search = search_if_missed(alloc, audited, flow, ended)?;
     let behind = behind_if_stray(alloc, audited, flow, ended.travel.finding)?;
     let shown_by = shown_by(alloc, audited, flow, ended)?;
-    push_wrong(
-        alloc, audited, flow, ended, 255, options, &causes, &found, &behind, shown_by, text,
-    )
+    let reasons = Reasons {
+        causes,
+        search,
+        behind,
+        shown_by,
+    };
+    push_wrong(alloc, audited, flow, ended, 255, &reasons, text)
 }
 
 /// Writes what a packet with the flow's TTL meets, and why. Returns the flow's status.
@@ -95,7 +99,6 @@ fn push_found_at_flow_ttl(
     flights: &ExaminedFlights<'_>,
     greatest: &FinishedTravel<'_>,
     least: &FinishedTravel<'_>,
-    options: AuditOptions,
     text: &mut String,
 ) -> Result<FlowStatus, NoMemory>
     requires flow { flow < length (audited_value audited.now).domain.topology.flows }
@@ -104,19 +107,23 @@ fn push_found_at_flow_ttl(
         (without_flights (audited_value audited.now).domain flow flights.now) }
     requires is { flights.now ≡ FoundAtFlowTtl greatest.now least.now }
     ensures ok { IfOk result (λ flow_status. (shown_trees : List Tree)
-        → IsFlowPushed (audited_value audited.now) options
-        flow flow_status shown_trees shown_trees (string_bytes text.old) (string_bytes text.new)) }
+        → IsFlowPushed (audited_value audited.now)
+        audited.now.options flow flow_status shown_trees shown_trees (string_bytes text.old)
+        (string_bytes text.new)) }
 {
     let view = FlowView::new(audited.domain, flow);
     let ttl = view.ttl();
     let causes = causes_to_print(alloc, audited, flow, flights)?;
-    let unsaid = ShownBy {
-        from: None,
-        at_flow_ttl: None,
+    let reasons = Reasons {
+        causes,
+        search: None,
+        behind: None,
+        shown_by: ShownBy {
+            from: None,
+            at_flow_ttl: None,
+        },
     };
-    push_wrong(
-        alloc, audited, flow, least, ttl, options, &causes, &None, &None, unsaid, text,
-    )
+    push_wrong(alloc, audited, flow, least, ttl, &reasons, text)
 }
 
 /// Writes the lines of a flow that was examined, and returns the flow's status.
@@ -125,7 +132,6 @@ fn push_examined(
     audited: &AuditedDomain<'_>,
     flow: u32,
     flights: &ExaminedFlights<'_>,
-    options: AuditOptions,
     shown_trees: &mut DistinctTrees,
     text: &mut String,
 ) -> Result<FlowStatus, NoMemory>
@@ -135,21 +141,19 @@ fn push_examined(
     requires flights { HasExaminedFlights (audited_value audited.now).domain flow flights.now }
     requires examined { IsExamined (audited_value audited.now).domain flow
         (without_flights (audited_value audited.now).domain flow flights.now) }
-    ensures ok { IfOk result (λ flow_status. IsFlowPushed (audited_value audited.now) options flow
-        flow_status shown_trees.old
-        shown_trees.new (string_bytes text.old) (string_bytes text.new)) }
+    ensures ok { IfOk result (λ flow_status. IsFlowPushed (audited_value audited.now)
+        audited.now.options flow flow_status shown_trees.old shown_trees.new (string_bytes text.old)
+        (string_bytes text.new)) }
 {
     match flights {
         ExaminedFlights::Certified(entries) => {
-            push_checked(alloc, audited, flow, entries, options, shown_trees, text)
+            push_checked(alloc, audited, flow, entries, shown_trees, text)
         }
         ExaminedFlights::FoundAtTtl255(ended) => {
-            push_found_at_255(alloc, audited, flow, flights, ended, options, text)
+            push_found_at_255(alloc, audited, flow, flights, ended, text)
         }
         ExaminedFlights::FoundAtFlowTtl { greatest, least } => {
-            push_found_at_flow_ttl(
-                alloc, audited, flow, flights, greatest, least, options, text,
-            )
+            push_found_at_flow_ttl(alloc, audited, flow, flights, greatest, least, text)
         }
     }
 }
@@ -160,17 +164,16 @@ pub(crate) fn push_flow(
     alloc: Global,
     audited: &AuditedDomain<'_>,
     flow: u32,
-    options: AuditOptions,
     shown_trees: &mut DistinctTrees,
     text: &mut String,
 ) -> Result<FlowStatus, NoMemory>
     requires flow { flow < length (audited_value audited.now).domain.topology.flows }
     requires ready { HasItsMarksAndInterfaces audited.now }
     requires room { length shown_trees.old < 4096 }
-    ensures ok { IfOk result (λ flow_status. IsFlowPushed (audited_value audited.now) options flow
-        flow_status shown_trees.old
-        shown_trees.new (string_bytes text.old) (string_bytes text.new)) }
+    ensures ok { IfOk result (λ flow_status. IsFlowPushed (audited_value audited.now)
+        audited.now.options flow flow_status shown_trees.old shown_trees.new (string_bytes text.old)
+        (string_bytes text.new)) }
 {
     let flights = examine_to_end(alloc, audited.domain, flow)?;
-    push_examined(alloc, audited, flow, &flights, options, shown_trees, text)
+    push_examined(alloc, audited, flow, &flights, shown_trees, text)
 }

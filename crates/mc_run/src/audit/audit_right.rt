@@ -14,16 +14,14 @@ ghost use Rattle.mc_json.specs.TreeKey.{tree_key};
 ghost use Rattle.mc_run.specs.AuditObjects.{tree_line};
 ghost use Rattle.mc_run.specs.AuditPieces.{audited_value, key_of_shown_tree, lans_wanting_flow};
 ghost use Rattle.mc_run.specs.AuditPieces.{right_flow_lines_of, right_lines_of, right_objects_of};
-ghost use Rattle.mc_run.specs.AuditPieces.{status_of_right_flow};
+ghost use Rattle.mc_run.specs.AuditPieces.{shown_trees_with_right, status_of_right_flow};
 ghost use Rattle.mc_run.specs.AuditText.{right_line};
-ghost use Rattle.mc_run.specs.AuditFlowText.{is_hidden, with_shown_tree};
 
 use crate::audit::audited_domain::AuditedDomain;
 use crate::audit::flow_status::FlowStatus;
 use crate::shown::verdict_text::{FlowWords, push_flow_verdict};
 use mc_cert::{DistinctTrees, Reached};
 use mc_check::{Verdict, check_flow};
-use mc_cli::AuditOptions;
 use mc_explain::{lans_wanting, push_wanted};
 use mc_forward::FlowView;
 use mc_json::{push_right_line, push_tree_line, tree_key};
@@ -105,12 +103,10 @@ fn push_right_objects(
     audited: &AuditedDomain<'_>,
     flow: u32,
     entries: &[Reached],
-    copies: u32,
     wanted: &[LanNo],
     shown_trees: &mut DistinctTrees,
 ) -> Result<(), NoMemory>
     requires flow { flow < length (audited_value audited.now).domain.topology.flows }
-    requires copies { copies ≡ length entries.now }
     requires room { length shown_trees.old < 4096 }
     ensures shown_trees { OnOk result
         (shown_trees.new ≡ with_tree shown_trees.old (key_of_shown_tree audited.now flow entries.now)) }
@@ -120,7 +116,7 @@ fn push_right_objects(
     let topology = audited.domain.topology();
     let view = FlowView::new(audited.domain, flow);
     let whole = audited.without.is_empty();
-    let copies = copies as usize;
+    let copies = entries.len();
     let number = push_tree_once(alloc, text, &view, shown_trees, entries)?;
     push_right_line(alloc, text, topology, whole, flow, copies, number, wanted)
 }
@@ -149,7 +145,6 @@ fn push_right(
     flow: u32,
     entries: &[Reached],
     copies: u32,
-    options: AuditOptions,
     shown_trees: &mut DistinctTrees,
     text: &mut String,
 ) -> Result<FlowStatus, NoMemory>
@@ -158,28 +153,19 @@ fn push_right(
     requires room { length shown_trees.old < 4096 }
     ensures flow_status { IfOk result (λ flow_status.
         flow_status ≡ status_of_right_flow audited.now flow) }
-    ensures shown_trees { OnOk result (shown_trees.new ≡ with_shown_tree options.json
-        (is_hidden options.faults (lans_wanting_flow audited.now flow)) shown_trees.old
-        (key_of_shown_tree audited.now flow entries.now)) }
+    ensures shown_trees { OnOk result
+        (shown_trees.new ≡ shown_trees_with_right audited.now shown_trees.old flow entries.now) }
     ensures lines { OnOk result (string_bytes text.new ≡ string_bytes text.old
-        ++ right_flow_lines_of audited.now options shown_trees.old flow entries.now) }
+        ++ right_flow_lines_of audited.now shown_trees.old flow entries.now) }
 {
+    let options = audited.options;
     let wanted = lans_wanting_flow(alloc, audited, flow)?;
     let flow_status = FlowStatus::of_right(audited.without.is_empty(), &wanted);
     if options.faults && !wanted.is_empty() {
         return Ok(flow_status);
     }
     if options.json {
-        push_right_objects(
-            alloc,
-            text,
-            audited,
-            flow,
-            entries,
-            copies,
-            &wanted,
-            shown_trees,
-        )?;
+        push_right_objects(alloc, text, audited, flow, entries, &wanted, shown_trees)?;
     } else {
         push_right_lines(text, audited, flow, copies, &wanted)?;
     }
@@ -193,7 +179,6 @@ fn push_with_verdict(
     flow: u32,
     entries: &[Reached],
     answer: Result<Verdict, NoMemory>,
-    options: AuditOptions,
     shown_trees: &mut DistinctTrees,
     text: &mut String,
 ) -> Result<FlowStatus, NoMemory>
@@ -203,24 +188,14 @@ fn push_with_verdict(
     ensures answered { OnOk result (IsOkAnd answer (λ verdict. verdict ≡ is_yes (length entries.now))) }
     ensures flow_status { IfOk result (λ flow_status.
         flow_status ≡ status_of_right_flow audited.now flow) }
-    ensures shown_trees { OnOk result (shown_trees.new ≡ with_shown_tree options.json
-        (is_hidden options.faults (lans_wanting_flow audited.now flow)) shown_trees.old
-        (key_of_shown_tree audited.now flow entries.now)) }
+    ensures shown_trees { OnOk result
+        (shown_trees.new ≡ shown_trees_with_right audited.now shown_trees.old flow entries.now) }
     ensures lines { OnOk result (string_bytes text.new ≡ string_bytes text.old
-        ++ right_flow_lines_of audited.now options shown_trees.old flow entries.now) }
+        ++ right_flow_lines_of audited.now shown_trees.old flow entries.now) }
 {
     match answer {
         Ok(Verdict::Yes { copies }) => {
-            push_right(
-                alloc,
-                audited,
-                flow,
-                entries,
-                copies,
-                options,
-                shown_trees,
-                text,
-            )
+            push_right(alloc, audited, flow, entries, copies, shown_trees, text)
         }
         Ok(Verdict::No(_)) => Ok(FlowStatus::of_wrong(true)),
         Err(_) => Err(NoMemory),
@@ -233,7 +208,6 @@ pub(crate) fn push_checked(
     audited: &AuditedDomain<'_>,
     flow: u32,
     entries: &[Reached],
-    options: AuditOptions,
     shown_trees: &mut DistinctTrees,
     text: &mut String,
 ) -> Result<FlowStatus, NoMemory>
@@ -245,21 +219,11 @@ pub(crate) fn push_checked(
         (HeadlineHolds (net_of (audited_value audited.now).domain flow) (length entries.now)) }
     ensures flow_status { IfOk result (λ flow_status.
         flow_status ≡ status_of_right_flow audited.now flow) }
-    ensures shown_trees { OnOk result (shown_trees.new ≡ with_shown_tree options.json
-        (is_hidden options.faults (lans_wanting_flow audited.now flow)) shown_trees.old
-        (key_of_shown_tree audited.now flow entries.now)) }
+    ensures shown_trees { OnOk result
+        (shown_trees.new ≡ shown_trees_with_right audited.now shown_trees.old flow entries.now) }
     ensures lines { OnOk result (string_bytes text.new ≡ string_bytes text.old
-        ++ right_flow_lines_of audited.now options shown_trees.old flow entries.now) }
+        ++ right_flow_lines_of audited.now shown_trees.old flow entries.now) }
 {
     let answer = check_flow(alloc, audited.domain, flow, entries);
-    push_with_verdict(
-        alloc,
-        audited,
-        flow,
-        entries,
-        answer,
-        options,
-        shown_trees,
-        text,
-    )
+    push_with_verdict(alloc, audited, flow, entries, answer, shown_trees, text)
 }

@@ -2,160 +2,30 @@
 
 ghost use Rattle.std.specs.Prelude.{◌≡◌, ◌<◌, ◌++◌, IfOk, OnOk, length};
 ghost use Rattle.std.specs.String.{string_bytes};
-ghost use Rattle.mc_maker.specs.ExaminedFlights.{IsFinishedTravelOf};
-ghost use Rattle.mc_maker.specs.declared.examined_flights.ExaminedFlights.TheVariants.{FoundAtTtl255};
-ghost use Rattle.mc_run.specs.AuditPieces.{HasItsMarksAndInterfaces, audited_value, explanation_lines_of};
-ghost use Rattle.mc_run.specs.AuditPieces.{explanation_value, search_context_of, searched_lines_of};
-ghost use Rattle.mc_run.specs.AuditPieces.{explained_lines_of, status_of_wrong_flow, wrong_flow_lines_of};
-ghost use Rattle.mc_run.specs.AuditPieces.{behind_lines_of, second_behind_of, wrong_lines_of, wrong_object_of};
-ghost use Rattle.mc_run.specs.AuditExplanation.{IsBehindIfStray, IsFoundBelow, IsSearchIfMissed, IsShownBy};
-ghost use Rattle.mc_run.specs.AuditExplanation.{IsShownFromAt255};
-ghost use Rattle.mc_run.specs.AuditExplanation.{certain_finding, is_known_wrong as says_known_wrong};
-ghost use Rattle.mc_run.specs.AuditRun.{is_whole};
+ghost use Rattle.mc_run.specs.AuditPieces.{audited_value, explanation_lines_of, explanation_value};
+ghost use Rattle.mc_run.specs.AuditPieces.{searched_lines_of, explained_lines_of, status_of_wrong_flow};
+ghost use Rattle.mc_run.specs.AuditPieces.{wrong_flow_lines_of, behind_lines_of, second_behind_of};
+ghost use Rattle.mc_run.specs.AuditPieces.{wrong_lines_of, wrong_object_of};
 ghost use Rattle.mc_run.specs.AuditText.{at_flow_ttl_text, deeper_shown_from_text, events_if_shown};
 ghost use Rattle.mc_run.specs.AuditText.{found_flow_line, known_word};
 ghost use Rattle.mc_run.specs.AuditText.{shown_by_text, shown_from_text};
 
 use crate::audit::audited_domain::AuditedDomain;
 use crate::audit::flow_status::FlowStatus;
+use crate::audit::reasons::Reasons;
 use crate::shown::travel_text::push_events;
 use crate::shown::verdict_text::FlowWords;
-use mc_cli::AuditOptions;
 use mc_explain::{
-    Behind, Cause, Certainty, Explanation, LanSearch, ShownBy, behind_stray, missed_besides,
-    push_also_missed, push_leaks_behind, search, shown_from,
+    Behind, Certainty, Explanation, LanSearch, ShownBy, missed_besides, push_also_missed,
+    push_leaks_behind,
 };
-use mc_forward::{FlowView, Stray};
+use mc_forward::FlowView;
 use mc_json::push_wrong_line;
 use mc_lines::{push_causes, push_deeper_causes, push_search};
-use mc_replay::{Finding, FinishedTravel, First, Travel, replay};
+use mc_replay::{Finding, FinishedTravel, Travel};
 use mc_text::Memory as NoMemory;
 use mc_topology::{Flow, Topology};
 use std::alloc::Global;
-
-/// Searches why a packet with TTL 255 missed a LAN, if it missed one.
-pub(crate) fn search_if_missed(
-    alloc: Global,
-    audited: &AuditedDomain<'_>,
-    flow: u32,
-    ended: &FinishedTravel<'_>,
-) -> Result<Option<LanSearch>, NoMemory>
-    requires flow { flow < length (audited_value audited.now).domain.topology.flows }
-    requires ready { HasItsMarksAndInterfaces audited.now }
-    requires ended { IsFinishedTravelOf (audited_value audited.now).domain flow 255 ended.now }
-    ensures search { IfOk result (IsSearchIfMissed (search_context_of audited.now flow ended.now)
-        ended.now.travel.events.items ended.now.travel.finding) }
-{
-    let Finding::Missed(lan) = ended.travel.finding else {
-        return Ok(None);
-    };
-    let found = search(
-        alloc,
-        audited.domain,
-        audited.summary,
-        audited.excluded,
-        audited.interfaces,
-        &ended.flight,
-        &ended.travel.events,
-        flow,
-        lan,
-    )?;
-    Ok(Some(found))
-}
-
-/// The TTL from which on packets show the finding of the travel at TTL 255. None is said where the flow's own
-/// TTL is 255.
-fn shown_from_if_less(
-    alloc: Global,
-    audited: &AuditedDomain<'_>,
-    flow: u32,
-    ended: &FinishedTravel<'_>,
-) -> Result<Option<u8>, NoMemory>
-    requires flow { flow < length (audited_value audited.now).domain.topology.flows }
-    requires ended { IsFinishedTravelOf (audited_value audited.now).domain flow 255 ended.now }
-    ensures shown { IfOk result (λ shown_from. IsShownFromAt255 (audited_value audited.now).domain flow
-        (FoundAtTtl255 ended.now) shown_from) }
-{
-    let view = FlowView::new(audited.domain, flow);
-    let ttl = view.ttl();
-    if ttl == 255 {
-        return Ok(None);
-    }
-    shown_from(alloc, audited.domain, flow, ended)
-}
-
-/// A finding of a packet with the flow's own TTL; without the whole domain, only if no tables of the excluded
-/// routers take it away.
-fn certain_finding(whole: bool, finding: Finding) -> Option<Finding>
-    ensures { result ≡ certain_finding whole finding }
-{
-    match finding {
-        Finding::Clean | Finding::Missed(_) => { if whole { Some(finding) } else { None } }
-        Finding::Duplicate(_) | Finding::Loop(_) | Finding::Stray(_, _) => Some(finding),
-    }
-}
-
-/// What a packet with the flow's own TTL meets, where packets show the finding at TTL 255 only from a greater
-/// one on.
-fn found_below(
-    alloc: Global,
-    audited: &AuditedDomain<'_>,
-    flow: u32,
-    shown_from: Option<u8>,
-) -> Result<Option<Finding>, NoMemory>
-    requires flow { flow < length (audited_value audited.now).domain.topology.flows }
-    ensures found { IfOk result (IsFoundBelow (is_whole (audited_value audited.now))
-        (audited_value audited.now).domain flow shown_from) }
-{
-    let ttl = audited.domain.topology().flow(flow).ttl;
-    let Some(from) = shown_from else {
-        return Ok(None);
-    };
-    if from <= ttl {
-        return Ok(None);
-    }
-    let travel = replay(alloc, audited.domain, flow, ttl, &mut First)?;
-    Ok(certain_finding(audited.without.is_empty(), travel.finding))
-}
-
-/// Which packets show the finding of the travel at TTL 255.
-pub(crate) fn shown_by(
-    alloc: Global,
-    audited: &AuditedDomain<'_>,
-    flow: u32,
-    ended: &FinishedTravel<'_>,
-) -> Result<ShownBy, NoMemory>
-    requires flow { flow < length (audited_value audited.now).domain.topology.flows }
-    requires ended { IsFinishedTravelOf (audited_value audited.now).domain flow 255 ended.now }
-    ensures shown { IfOk result (IsShownBy (is_whole (audited_value audited.now))
-        (audited_value audited.now).domain flow (FoundAtTtl255 ended.now)) }
-{
-    let from = shown_from_if_less(alloc, audited, flow, ended)?;
-    let at_flow_ttl = found_below(alloc, audited, flow, from)?;
-    Ok(ShownBy { from, at_flow_ttl })
-}
-
-/// What is behind a stray of a packet with TTL 255, if its finding is one.
-pub(crate) fn behind_if_stray(
-    alloc: Global,
-    audited: &AuditedDomain<'_>,
-    flow: u32,
-    finding: Finding,
-) -> Result<Option<Behind>, NoMemory>
-    requires flow { flow < length (audited_value audited.now).domain.topology.flows }
-    ensures behind { IfOk result (IsBehindIfStray (is_whole (audited_value audited.now))
-        (audited_value audited.now).domain flow finding) }
-{
-    match finding {
-        Finding::Stray(router, vif) => {
-            let own = Stray { router, vif };
-            let whole = audited.without.is_empty();
-            let behind = behind_stray(alloc, audited.domain, whole, flow, own)?;
-            Ok(Some(behind))
-        }
-        Finding::Clean | Finding::Duplicate(_) | Finding::Loop(_) | Finding::Missed(_) => Ok(None),
-    }
-}
 
 // ---- as text
 
@@ -298,7 +168,8 @@ fn push_found_flow(
     let words = FlowWords { flow };
     let known = known_word(known);
     let finding = finding.shown(topology);
-    writeln!(text, "{words} {known}: {finding}").map_err(|_| NoMemory)
+    writeln!(text, "{words} {known}: {finding}")?;
+    Ok(())
 }
 
 /// Writes from which TTL on packets show a finding, if that is said.
@@ -306,7 +177,7 @@ fn push_shown_from(text: &mut String, shown_from: Option<u8>) -> Result<(), NoMe
     ensures { OnOk result (string_bytes text.new ≡ string_bytes text.old ++ shown_from_text shown_from) }
 {
     if let Some(ttl) = shown_from {
-        writeln!(text, "  shown by packets sent with ttl {ttl} or more").map_err(|_| NoMemory)?;
+        writeln!(text, "  shown by packets sent with ttl {ttl} or more")?;
     }
     Ok(())
 }
@@ -350,12 +221,11 @@ fn push_wrong_lines(
     audited: &AuditedDomain<'_>,
     flow: u32,
     travel: &Travel,
-    travels: bool,
     explanation: &Explanation<'_>,
 ) -> Result<(), NoMemory>
     requires flow { flow < length (audited_value audited.now).domain.topology.flows }
     ensures added { OnOk result (string_bytes text.new ≡ string_bytes text.old
-        ++ wrong_lines_of audited.now travels flow travel.now (explanation_value explanation.now)) }
+        ++ wrong_lines_of audited.now flow travel.now (explanation_value explanation.now)) }
 {
     let view = FlowView::new(audited.domain, flow);
     let listed = view.flow();
@@ -364,7 +234,7 @@ fn push_wrong_lines(
     push_found_flow(text, topology, &listed, known, travel.finding)?;
     push_shown_by(text, topology, listed.ttl, shown_by)?;
     push_explanation(alloc, text, audited, flow, explanation)?;
-    push_travel(text, topology, travels, travel)
+    push_travel(text, topology, audited.options.travels, travel)
 }
 
 // ---- in JSON
@@ -377,16 +247,16 @@ fn push_wrong_object(
     flow: u32,
     travel: &Travel,
     ttl: u8,
-    travels: bool,
     explanation: &Explanation<'_>,
 ) -> Result<(), NoMemory>
     requires flow { flow < length (audited_value audited.now).domain.topology.flows }
     ensures added { OnOk result (string_bytes text.new ≡ string_bytes text.old
-        ++ wrong_object_of audited.now travels flow ttl travel.now (explanation_value explanation.now)) }
+        ++ wrong_object_of audited.now flow ttl travel.now (explanation_value explanation.now)) }
 {
     let AuditedDomain {
         domain,
         summary,
+        options,
         ..
     } = *audited;
     push_wrong_line(
@@ -397,7 +267,7 @@ fn push_wrong_object(
         flow,
         travel,
         ttl,
-        travels,
+        options.travels,
         explanation,
     )
 }
@@ -411,40 +281,19 @@ fn push_explained(
     flow: u32,
     ended: &FinishedTravel<'_>,
     ttl: u8,
-    options: AuditOptions,
     explanation: &Explanation<'_>,
     text: &mut String,
 ) -> Result<(), NoMemory>
     requires flow { flow < length (audited_value audited.now).domain.topology.flows }
     ensures added { OnOk result (string_bytes text.new ≡ string_bytes text.old
-        ++ explained_lines_of audited.now options flow ttl ended.now (explanation_value explanation.now)) }
+        ++ explained_lines_of audited.now flow ttl ended.now (explanation_value explanation.now)) }
 {
-    let travels = options.travels;
+    let options = audited.options;
     let travel = &ended.travel;
     if options.json {
-        push_wrong_object(
-            alloc,
-            text,
-            audited,
-            flow,
-            travel,
-            ttl,
-            travels,
-            explanation,
-        )
+        push_wrong_object(alloc, text, audited, flow, travel, ttl, explanation)
     } else {
-        push_wrong_lines(alloc, text, audited, flow, travel, travels, explanation)
-    }
-}
-
-/// Whether it is known that a flow with a finding isn't right, by the search for the LAN that its packet
-/// missed, if there was one.
-fn is_known_wrong(whole: bool, found: &Option<LanSearch>) -> bool
-    ensures { result ≡ says_known_wrong whole found.now }
-{
-    match found {
-        Some(found) => whole || !found.names_excluded_router(),
-        None => true,
+        push_wrong_lines(alloc, text, audited, flow, travel, explanation)
     }
 }
 
@@ -455,39 +304,28 @@ pub(crate) fn push_wrong(
     flow: u32,
     ended: &FinishedTravel<'_>,
     ttl: u8,
-    options: AuditOptions,
-    causes: &[Cause],
-    found: &Option<LanSearch>,
-    behind: &Option<Behind>,
-    shown_by: ShownBy,
+    reasons: &Reasons,
     text: &mut String,
 ) -> Result<FlowStatus, NoMemory>
     requires flow { flow < length (audited_value audited.now).domain.topology.flows }
     ensures flow_status { IfOk result (λ flow_status.
-        flow_status ≡ status_of_wrong_flow audited.now found.now) }
+        flow_status ≡ status_of_wrong_flow audited.now reasons.now.search) }
     ensures added { OnOk result (string_bytes text.new ≡ string_bytes text.old
-        ++ wrong_flow_lines_of audited.now options flow ttl ended.now causes.now found.now behind.now
-        shown_by) }
+        ++ wrong_flow_lines_of audited.now flow ttl ended.now reasons.now) }
 {
     let also = missed_besides(alloc, &ended.flight, ended.travel.finding)?;
     let whole = audited.without.is_empty();
-    let known = is_known_wrong(whole, found);
+    let known = reasons.is_known_wrong(whole);
     let explanation = Explanation {
-        causes,
-        search: found,
+        causes: &reasons.causes,
+        search: &reasons.search,
         also: &also,
-        behind,
-        certainty: Certainty { known, shown_by },
+        behind: &reasons.behind,
+        certainty: Certainty {
+            known,
+            shown_by: reasons.shown_by,
+        },
     };
-    push_explained(
-        alloc,
-        audited,
-        flow,
-        ended,
-        ttl,
-        options,
-        &explanation,
-        text,
-    )?;
+    push_explained(alloc, audited, flow, ended, ttl, &explanation, text)?;
     Ok(FlowStatus::of_wrong(known))
 }

@@ -1,5 +1,6 @@
 //! The domain that is audited.
 
+use mc_cli::AuditOptions;
 use mc_explain::InterfacesOfLans;
 use mc_forward::Domain;
 use mc_input::UnansweredWants;
@@ -21,4 +22,6 @@ pub(crate) struct AuditedDomain<'d> {
     pub(crate) ignored: &'d [GroupRange],
     /// A mark for each router: whether it is excluded.
     pub(crate) excluded: &'d [bool],
+    /// What is shown of it, and how.
+    pub(crate) options: AuditOptions,
 }

@@ -63,24 +63,6 @@ fn with_certificate(alloc: Global, read: BundleDomain) -> Result<DomainWithCerti
     })
 }
 
-/// Reads the domain and the certificate of an input's bundle.
-fn read_certified<R: Input>(alloc: Global, input: &mut R) -> Result<DomainWithCertificate, RunFault>
-    requires failures { R.failed input.old < u64.MAX }
-    ensures same { R.borrows input.new ≡ R.borrows input.old }
-    ensures means { IfOk result (λ read. IfSome (R.remaining input.old) (λ text.
-        MeansCertified text read.domain read.certificate)) }
-    ensures belongs { IfOk result (λ read. BelongsTo read.domain.topology read.certificate) }
-    ensures refused { IfErr result (λ fault.
-        IfSome (R.remaining input.old) (λ text. IsRefusedFor true text fault)) }
-    ensures consumed { ConsumesUpTo max_input (R.remaining input.old) (R.remaining input.new) }
-    ensures no_write { IfErr result (λ fault. is_write fault ≡ false) }
-    ensures faults { IfErr result IsFaultOfCheck }
-    ensures failures { R.failed input.new ≡ failures_after is_read result (R.failed input.old) }
-{
-    let read = read_bundle_domain(alloc, input, true)?;
-    with_certificate(alloc, read)
-}
-
 /// The text of the verdicts on a domain's flows, by its certificate, and whether all verdicts are yes.
 fn verdicts_of_domain(alloc: Global, read: &DomainWithCertificate) -> Result<RunOutput, NoMemory>
     requires valid { BelongsTo read.now.domain.topology read.now.certificate }
@@ -110,9 +92,10 @@ fn verdicts_of_input<R: Input>(alloc: Global, input: &mut R) -> Result<RunOutput
     ensures faults { IfErr result IsFaultOfCheck }
     ensures failures { R.failed input.new ≡ failures_after is_read result (R.failed input.old) }
 {
-    let read = read_certified(alloc, input)?;
-    let run_output = verdicts_of_domain(alloc, &read);
-    drop(read);
+    let read = read_bundle_domain(alloc, input, true)?;
+    let certified = with_certificate(alloc, read)?;
+    let run_output = verdicts_of_domain(alloc, &certified);
+    drop(certified);
     match run_output {
         Ok(run_output) => Ok(run_output),
         Err(_) => Err(RunFault::Memory),

@@ -3,8 +3,7 @@
 ghost use Rattle.std.specs.Prelude.{◌≡◌, ◌≢◌, ◌<◌, IfErr};
 ghost use Rattle.mc_text.specs.Device.{failures_after};
 ghost use Rattle.mc_run.specs.Failures.{is_read, is_write};
-ghost use Rattle.mc_run.specs.TaskRuns.{IsAuditResult, IsAuditRun, IsPackRun, enough_of, left_out_by};
-ghost use Rattle.mc_run.specs.TaskRuns.{is_enough};
+ghost use Rattle.mc_run.specs.TaskRuns.{IsAuditRun, IsPackRun, enough_of, is_enough};
 
 use crate::audit::audit_output::{AuditAnswer, AuditCounts};
 use crate::audit::left_out::LeftOut;
@@ -39,8 +38,8 @@ pub(crate) fn pack_task<F: PieceSource, W: Output>(
     }
 }
 
-/// Whether an audit's answer is enough: it is yes and, with `strict`, no right flow is wanted by nobody, and a
-/// flow answers each want.
+/// Whether an audit's answer is enough: it is yes and, with `strict`, no right flow is wanted by nobody,
+/// and a flow answers each want.
 fn is_enough(answer: AuditAnswer, strict: bool) -> bool
     ensures { result ≡ is_enough strict answer }
 {
@@ -56,30 +55,6 @@ fn enough_of(audited: Result<AuditAnswer, RunFault>, strict: bool) -> Result<boo
         Ok(answer) => Ok(is_enough(answer, strict)),
         Err(fault) => Err(fault),
     }
-}
-
-/// `mcaudit audit`, with the audit's own answer.
-fn audit_with_words<F: PieceSource, W: Output>(
-    alloc: Global,
-    words: &AuditWords<'_>,
-    files: &mut F,
-    output: &mut W,
-) -> Result<AuditAnswer, RunFault>
-    requires reads { F.failed files.old < u64.MAX }
-    requires writes { W.failed output.old < u64.MAX }
-    ensures files_same { F.borrows files.new ≡ F.borrows files.old }
-    ensures output_same { W.borrows output.new ≡ W.borrows output.old }
-    ensures answered { IsAuditResult words.now.options (left_out_by words.now)
-        (F.contents files.old) result (W.written output.old) (W.written output.new) }
-    ensures unwritten { IfErr result (λ fault. fault ≢ RunFault.Write → output.new ≡ output.old) }
-    ensures read_failures { F.failed files.new ≡ failures_after is_read result (F.failed files.old) }
-    ensures write_failures { W.failed output.new ≡ failures_after is_write result (W.failed output.old) }
-{
-    let left = LeftOut {
-        without: &words.without,
-        ignored: &words.ignored,
-    };
-    run_audit(alloc, files, words.options, &left, output)
 }
 
 /// `mcaudit audit`, which returns whether the audit's answer is enough.
@@ -99,6 +74,10 @@ pub(crate) fn audit_task<F: PieceSource, W: Output>(
     ensures read_failures { F.failed files.new ≡ failures_after is_read result (F.failed files.old) }
     ensures write_failures { W.failed output.new ≡ failures_after is_write result (W.failed output.old) }
 {
-    let audited = audit_with_words(alloc, words, files, output);
+    let left = LeftOut {
+        without: &words.without,
+        ignored: &words.ignored,
+    };
+    let audited = run_audit(alloc, files, words.options, &left, output);
     enough_of(audited, words.options.strict)
 }

@@ -34,7 +34,8 @@ returns-clause-reached_with c = reaches_as_much-from_remedy
 pub returns-clause-carried : goal.returns-clause-carried
 returns-clause-carried c = λ d flow router vif t qs ps x.
     carries_as_much-from_reached (net_of d flow) (router, vif) t qs ps
-    (is_net-net_of d flow x.reported.of_flow.examined.domain) (reaches_as_much-from_remedy d flow router vif t x)
+    (is_net-net_of d flow x.reported.of_flow.examined.domain)
+    (reaches_as_much-from_remedy d flow router vif t x)
 
 pub returns-clause-unsent : goal.returns-clause-unsent
 returns-clause-unsent c = are_not_sent_by-run

@@ -23,12 +23,16 @@ use Rattle.mc_json.proofs.wrong_line.push_wrong_line.Goals as goal
 -- the object of a flow by its view, and its explanation there
 abbrev value_in : (summary : List SummaryValue) (flow found_ttl : ℕ) (travel : Travel) (certainty : Certainty)
     (also : List ℕ) (behind : Data) (why : List Data) (asked : Bool) → DomainValue → Data
-value_in summary flow found_ttl travel certainty also behind why asked d = wrong_data flow (flow_at d.topology flow)
-    (wrong_flow_of (facts d) flow certainty found_ttl travel.finding travel.events.items also behind why asked)
+value_in summary flow found_ttl travel certainty also behind why asked d =
+    wrong_data flow (flow_at d.topology flow)
+    (wrong_flow_of (facts d) flow certainty found_ttl travel.finding travel.events.items also
+    behind why asked)
 
 -- the line by the view of a flow is that of the domain's flow
-wrong_line-of_view : (d : DomainValue) (summary : List SummaryValue) (flow found_ttl : ℕ) (view : FlowOfDomain)
-    (travel : Travel) (certainty : Certainty) (also : List ℕ) (causes : List Cause) (search : Option LanSearch)
+wrong_line-of_view : (d : DomainValue) (summary : List SummaryValue) (flow found_ttl : ℕ)
+    (view : FlowOfDomain)
+    (travel : Travel) (certainty : Certainty) (also : List ℕ) (causes : List Cause)
+    (search : Option LanSearch)
     (past : Option Behind) (behind : Data) (why : List Data) (asked : Bool) (value : Data) (old new : List ℕ)
     → view ≡ record { domain = d; flow = flow }
     → behind ≡ behind_data (facts view.domain) summary view.flow past
@@ -38,13 +42,16 @@ wrong_line-of_view : (d : DomainValue) (summary : List SummaryValue) (flow found
     → new ≡ old ++ wrong_line (facts d) flow (flow_at d.topology flow) certainty found_ttl travel.finding
     travel.events.items also (behind_data (facts d) summary flow past)
     (why_data (facts d) summary flow causes search) asked
-wrong_line-of_view d summary flow found_ttl view travel certainty also causes search past behind why asked value
+wrong_line-of_view d summary flow found_ttl view travel certainty also causes search past behind
+    why asked value
     old new same further because is puts =
     puts ∙ ap (λ (x : Data). old ++ line_of x) is
-    ∙ ap₂ (λ (b : Data) (lines : List Data). old ++ line_of (value_in summary flow found_ttl travel certainty also
+    ∙ ap₂ (λ (b : Data) (lines : List Data). old ++ line_of
+    (value_in summary flow found_ttl travel certainty also
     b lines asked view.domain)) further because
     ∙ ap (λ (v : FlowOfDomain). old ++ line_of (value_in summary flow found_ttl travel certainty also
-    (behind_data (facts v.domain) summary v.flow past) (why_data (facts v.domain) summary v.flow causes search)
+    (behind_data (facts v.domain) summary v.flow past)
+    (why_data (facts v.domain) summary v.flow causes search)
     asked v.domain)) same
 
 pub push_line-requires : goal.push_line-requires
@@ -59,14 +66,17 @@ push_line-requires c = record {
       travel.finding travel.events.items c.args.explanation.now.also.now
       (data_of c.in_ok-behind.behind) (map data_of c.in_ok-why.why.items) c.args.events_asked
       (ap has_float c.in_ok-behind.ensures ∙ no_float-behind_data (facts d) c.args.summary.now view.flow
-      c.args.explanation.now.behind.now) (subst HaveNoFloat (sym c.in_ok-why.ensures) (no_float-why_data (facts d)
+      c.args.explanation.now.behind.now)
+      (subst HaveNoFloat (sym c.in_ok-why.ensures) (no_float-why_data (facts d)
       c.args.summary.now view.flow c.args.explanation.now.causes.now c.args.explanation.now.search.now)));
 }
 
 pub returns : goal.returns
 returns c = record {
-  line = wrong_line-of_view c.args.domain.now c.args.summary.now c.args.flow c.args.found_ttl c.new-view.result
-      c.args.travel.now c.args.explanation.now.certainty c.args.explanation.now.also.now
-      c.args.explanation.now.causes.now c.args.explanation.now.search.now c.args.explanation.now.behind.now _ _
-      c.args.events_asked _ _ _ c.new-view.ensures.flow c.in_ok-behind.ensures c.in_ok-why.ensures c.in_ok-value.ensures.value c.in_ok-push_line.ensures.added;
+  line = wrong_line-of_view c.args.domain.now c.args.summary.now c.args.flow c.args.found_ttl
+      c.new-view.result c.args.travel.now c.args.explanation.now.certainty c.args.explanation.now.also.now
+      c.args.explanation.now.causes.now c.args.explanation.now.search.now
+      c.args.explanation.now.behind.now _ _
+      c.args.events_asked _ _ _ c.new-view.ensures.flow c.in_ok-behind.ensures c.in_ok-why.ensures
+      c.in_ok-value.ensures.value c.in_ok-push_line.ensures.added;
 }

@@ -2,5 +2,6 @@ use Rattle.std.proofs.Common.{refl}
 use Rattle.mc_json.proofs.wrong_line.wrong_fields.Goals as goal
 
 pub returns : goal.returns
-returns c = c.list-2.ensures _ _ (c.list.ensures _ _ (c.with_shown_from.ensures _ (c.with_wrong_mark-fields.ensures _
+returns c = c.list-2.ensures _ _
+    (c.list.ensures _ _ (c.with_shown_from.ensures _ (c.with_wrong_mark-fields.ensures _
     (c.count-fields.ensures _ c.flow_fields.ensures))) refl) refl

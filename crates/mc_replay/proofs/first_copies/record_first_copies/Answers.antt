@@ -10,10 +10,6 @@ use Rattle.mc_replay.proofs.FirstLemmas.{second_copy_so_far-found_before}
 use Rattle.mc_replay.proofs.FirstLemmas.{second_copy_so_far-first_on_lan, get_or-take_drop}
 use Rattle.mc_replay.proofs.FirstLemmas.{length-take_drop_end}
 use Rattle.mc_replay.proofs.first_copies.record_first_copies.Goals as goal
-use Rattle.mc_replay.proofs.first_copies.record_first_copies.Goals.{then-not-put_first+then-is_none}
-use Rattle.mc_replay.proofs.first_copies.record_first_copies.Goals.{else-not-put_first}
-use Rattle.mc_replay.proofs.first_copies.record_first_copies.Goals.{else-not-put_first-via-then-not-put_first+else-is_none}
-use Rattle.mc_replay.proofs.first_copies.record_first_copies.Goals.{else-not-put_first-via-else-not-put_first}
 
 pub loop-copy-init : goal.loop-copy-init
 loop-copy-init c =
@@ -39,15 +35,15 @@ loop-copy-preserved c =
     (c.requires.lans k x item.0) in
     let found : c.if-not-put_first.second ≡ second_copy_so_far second (not put) x =
     elim c.if-not-put_first.branch [
-      | then-not-put_first+then-is_none w ↦ (let none : is_some second ≡ false =
+      | goal.then-not-put_first+then-is_none w ↦ (let none : is_some second ≡ false =
           grind arith in w.second-is ∙ ap Some c.copy.view_is
           ∙ sym (second_copy_so_far-found_now second (not put) x (ap not w.if-not-put_first.true)
           none))
-      | else-not-put_first w ↦ elim w.else-not-put_first.branch [
-        | else-not-put_first-via-then-not-put_first+else-is_none v ↦ (let some : is_some second ≡ true =
+      | goal.else-not-put_first w ↦ elim w.else-not-put_first.branch [
+        | goal.else-not-put_first-via-then-not-put_first+else-is_none v ↦ (let some : is_some second ≡ true =
             v.if-is_none.ensures in w.second-is ∙ sym (second_copy_so_far-found_before second
             (not put) x some))
-        | else-not-put_first-via-else-not-put_first v ↦ w.second-is
+        | goal.else-not-put_first-via-else-not-put_first v ↦ w.second-is
             ∙ sym (second_copy_so_far-first_on_lan second (not put) x (ap not v.if-not-put_first.false))
       ]
     ] in

@@ -4,7 +4,8 @@ use Rattle.mc_theory.specs.Flights.{Copy}
 use Rattle.mc_forward.specs.Domains.{net_of}
 use Rattle.mc_forward.specs.PerLan.{HoldsFirstOfEachKey}
 use Rattle.mc_replay.specs.PastStrays.{goes_on}
-use Rattle.mc_replay.proofs.PastRunLemmas.{goes_on-by_counts, room_left-step, run_so_far-start, run_so_far-step}
+use Rattle.mc_replay.proofs.PastRunLemmas.{goes_on-by_counts, room_left-step, run_so_far-start}
+use Rattle.mc_replay.proofs.PastRunLemmas.{run_so_far-step}
 use Rattle.mc_replay.proofs.PastStraysLemmas.{goes_on-once}
 use Rattle.mc_replay.proofs.TravelLemmas.{first_copies_recorded-next, first_copies_recorded-none}
 use Rattle.mc_replay.proofs.TravelLemmas.{flight-step_in_domain}
@@ -27,8 +28,8 @@ run-smaller c =
     let goes : goes_on f ≡ true = goes_on-by_counts f c.record_first_copies-second.result _ _
     c.record_first_copies-second.ensures.second c.copies-copies.ensures.copies (grind arith) c.waiting.ensures
     c.if-waiting-eq0.false in
-    let next = flight-step_in_domain d c.args.view.now.flow 0 c.run.flight c.handle.new.self inv.domain inv.flow
-    c.in_ok-_event.ensures.ok in
+    let next = flight-step_in_domain d c.args.view.now.flow 0 c.run.flight c.handle.new.self
+    inv.domain inv.flow c.in_ok-_event.ensures.ok in
     room_left-step n c.args.flight.now.flight f c.handle.new.self.flight inv.so_far goes next.2
 
 pub run-preserved : goal.run-preserved
@@ -40,8 +41,8 @@ run-preserved c =
     let goes : goes_on f ≡ true = goes_on-by_counts f c.record_first_copies-second.result _ _
     c.record_first_copies-second.ensures.second c.copies-copies.ensures.copies (grind arith) c.waiting.ensures
     c.if-waiting-eq0.false in
-    let next = flight-step_in_domain d c.args.view.now.flow 0 c.run.flight c.handle.new.self inv.domain inv.flow
-    c.in_ok-_event.ensures.ok in
+    let next = flight-step_in_domain d c.args.view.now.flow 0 c.run.flight c.handle.new.self
+    inv.domain inv.flow c.in_ok-_event.ensures.ok in
     let filled = subst (HoldsFirstOfEachKey (λ (x : Copy). x.lan) c.record_first_copies-second.new.firsts)
     c.copies-copies.ensures.copies c.record_first_copies-second.ensures.firsts in
     record {

@@ -5,7 +5,8 @@ use Rattle.mc_run.proofs.audit.audit_all.Goals as goal
 
 pub returns-clause-text : goal.returns-clause-text
 returns-clause-text c =
-    is_audited-all_pushed (audited_value c.args.audited.now) c.args.options c.in_ok-flow_counts.flow_counts
+    is_audited-all_pushed (audited_value c.args.audited.now) c.args.audited.now.options
+    c.in_ok-flow_counts.flow_counts
     c.in_ok-flow_counts.ensures.appended.0 c.args.audited.now.excluded.now _ _ _ _ _ c.requires.valid.excluded
     (length-map c.args.audited.now.without.now (λ name. name.now)) c.in_ok-text.ensures
     c.in_ok-flow_counts.ensures.appended.1 c.is_yes-yes.ensures c.in_ok-push_end.ensures

@@ -17,7 +17,8 @@ returns-in-Ok-audit-clause-text g c =
     let all = c.in-Ok-audit.audit.run_output.yes in
     let written = string_bytes c.in-Ok-audit.audit.run_output.text in
     let read = c.in_ok-read.read in
-    of_domain-means_audited (λ v. IsAudited v o all written) o left contents read.domain read.summary.items read.asked
+    of_domain-means_audited (λ v. IsAudited v o all written) o left contents read.domain
+    read.summary.items read.asked
     c.in_ok-read.ensures.means c.in_ok-read.ensures.routers c.in_ok-read.ensures.summary
     (subst (λ (groups : List (ℕ × ℕ)). IfSome contents (λ files.
     IsAskedOf o.unlisted groups (files_with_exclusions left.routers files) read.domain read.asked))
@@ -30,7 +31,8 @@ returns-in-Ok-audit-clause-counts g c =
     let contents = g.F.FileSource.contents c.args.files.now in
     let counts = c.in-Ok-audit.audit.counts in
     let read = c.in_ok-read.read in
-    of_domain-means_audited (λ v. HasCounts v o counts) o left contents read.domain read.summary.items read.asked
+    of_domain-means_audited (λ v. HasCounts v o counts) o left contents read.domain
+    read.summary.items read.asked
     c.in_ok-read.ensures.means c.in_ok-read.ensures.routers c.in_ok-read.ensures.summary
     (subst (λ (groups : List (ℕ × ℕ)). IfSome contents (λ files.
     IsAskedOf o.unlisted groups (files_with_exclusions left.routers files) read.domain read.asked))

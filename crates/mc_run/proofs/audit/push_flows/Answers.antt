@@ -31,7 +31,7 @@ push_flow-requires-clause-room c =
 
 pub loop-flow-preserved : goal.loop-flow-preserved
 loop-flow-preserved c =
-    are_flows_pushed-more (audited_value c.args.audited.now) c.args.options c.loop-flow.flow
+    are_flows_pushed-more (audited_value c.args.audited.now) c.args.audited.now.options c.loop-flow.flow
     c.loop-flow.flow_counts
     c.in_ok-flow_status.flow_status c.with-flow_counts.result _ _ _ _ _ c.loop-flow.invariant
     c.in_ok-flow_status.ensures.ok c.with-flow_counts.ensures.value

@@ -3,6 +3,7 @@ use Rattle.mc_explain.proofs.causes.behind.behind_stray.Goals as goal
 
 pub behind_with_second-requires-clause-bounded : goal.behind_with_second-requires-clause-bounded
 behind_with_second-requires-clause-bounded c =
-    need_of_second-of_view c.args.domain.now c.args.flow c.new-view.result c.in_ok-past.past c.copies.result.now
+    need_of_second-of_view c.args.domain.now c.args.flow c.new-view.result c.in_ok-past.past
+    c.copies.result.now
     c.in_ok-first_copies.first_copies.second c.in-Some.second c.new-view.ensures.flow c.new-view.ensures.rules
     c.in_ok-past.ensures.run c.copies.ensures.copies c.in_ok-first_copies.ensures.second c.in-Some.is

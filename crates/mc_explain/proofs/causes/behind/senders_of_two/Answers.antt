@@ -13,7 +13,8 @@ returns c =
     let cs = c.args.copies.now in
     let lan = c.second.inside.lan in
     let same : lan ≡ c.args.second.now.lan = ap (λ (x : Copy). x.lan) c.second.view_is in
-    causes-two_senders_alone lan c.args.second.now.lan (sender_on cs c.args.second.now.lan) c.args.second.now.sender
+    causes-two_senders_alone lan c.args.second.now.lan (sender_on cs c.args.second.now.lan)
+    c.args.second.now.sender
     c.sender_on.result c.second.inside.sender c.new-causes.result.items _ _ c.new-causes.ensures.items
     c.in_ok-add_sender.ensures c.in_ok-add_sender-2.ensures same
     (c.sender_on.ensures ∙ (ap (option_and_then (λ (x : Copy). x.sender))

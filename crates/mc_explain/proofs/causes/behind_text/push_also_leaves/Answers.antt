@@ -8,4 +8,5 @@ pub returns-in_ok-writeln : goal.returns-in_ok-writeln
 returns-in_ok-writeln c =
     c.in_ok-writeln.ensures.bytes
     ∙ ap (λ (line : List ℕ). string_bytes c.args.text.now ++ line)
-    (also_leaves_text-some_leak (facts c.args.view.now.domain) c.args.strays.now (sym c.is_empty.ensures ∙ c.if-not-is_empty.true))
+    (also_leaves_text-some_leak (facts c.args.view.now.domain) c.args.strays.now (sym c.is_empty.ensures
+    ∙ c.if-not-is_empty.true))

@@ -7,4 +7,5 @@ pub returns-in_ok-writeln : goal.returns-in_ok-writeln
 returns-in_ok-writeln c =
     c.in_ok-writeln.ensures.bytes
     ∙ ap (λ (line : List ℕ). string_bytes c.args.text.now ++ line)
-    (missed_behind_text-some_lan c.args.topology.now c.args.lans.now (sym c.is_empty.ensures ∙ c.if-not-is_empty.true))
+    (missed_behind_text-some_lan c.args.topology.now c.args.lans.now (sym c.is_empty.ensures
+    ∙ c.if-not-is_empty.true))

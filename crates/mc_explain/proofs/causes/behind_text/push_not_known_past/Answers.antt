@@ -7,4 +7,5 @@ pub returns-in_ok-writeln : goal.returns-in_ok-writeln
 returns-in_ok-writeln c =
     c.in_ok-writeln.ensures.bytes
     ∙ ap (λ (line : List ℕ). string_bytes c.args.text.now ++ line)
-    (not_known_past_text-some_router c.args.topology.now c.args.routers.now (sym c.is_empty.ensures ∙ c.if-not-is_empty.true))
+    (not_known_past_text-some_router c.args.topology.now c.args.routers.now (sym c.is_empty.ensures
+    ∙ c.if-not-is_empty.true))

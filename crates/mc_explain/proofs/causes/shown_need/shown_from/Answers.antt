@@ -4,8 +4,8 @@ use Rattle.mc_explain.proofs.causes.shown_need.shown_from.Goals as goal
 
 pub need_of_finding-requires-clause-bounded : goal.need_of_finding-requires-clause-bounded
 need_of_finding-requires-clause-bounded c =
-    (is_need_up_to-view c.args.domain.now c.args.flow c.new-view.result c.args.ended.now c.new-view.ensures.flow
-    c.new-view.ensures.rules c.requires.ended).bounded
+    (is_need_up_to-view c.args.domain.now c.args.flow c.new-view.result c.args.ended.now
+    c.new-view.ensures.flow c.new-view.ensures.rules c.requires.ended).bounded
 
 pub returns : goal.returns
 returns c = record {

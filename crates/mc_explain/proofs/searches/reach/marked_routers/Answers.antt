@@ -4,7 +4,8 @@ use Rattle.std.proofs.Common.{sym, ap, subst, ◌∙◌}
 use Rattle.mc_topology.specs.declared.number.RouterNo.{RouterNo}
 use Rattle.mc_explain.proofs.ReachLemmas.{filter-take_more}
 use Rattle.mc_explain.proofs.searches.reach.marked_routers.Goals as goal
-use Rattle.mc_explain.proofs.searches.reach.marked_routers.Goals.{then-marks-router+in_ok-push, else-marks-router}
+use Rattle.mc_explain.proofs.searches.reach.marked_routers.Goals.{then-marks-router+in_ok-push}
+use Rattle.mc_explain.proofs.searches.reach.marked_routers.Goals.{else-marks-router}
 
 pub loop-router-preserved : goal.loop-router-preserved
 loop-router-preserved c = λ p marked_routers.

@@ -2,7 +2,6 @@ use Rattle.std.proofs.Common.{◌≡◌, ◌<◌, ℕ, List, length, Some, slice
 use Rattle.std.specs.Prelude.{not}
 use Rattle.mc_asked.specs.Forwarding.{routers_in}
 use Rattle.mc_asked.specs.ListWants.{Want}
-use Rattle.mc_asked.specs.declared.forwarding.RouterState.{RouterState}
 use Rattle.mc_asked.specs.declared.forwarding.RouterState.TheVariants.{EverySource, NoneOut, Forwards}
 use Rattle.mc_explain.specs.AskedText.{listed_sources}
 use Rattle.mc_forward.proofs.IndexLemmas.{slice_get-from_read}
@@ -42,7 +41,7 @@ returns c =
     ∙ (λ i. listed_sources (flow_pairs ((same i).flows)) ((c.pair.ensures i).0)) in
     appended-same c.push_line.result _ _ _ _
     (line-by_number c.args.json t v.domain.topology (not (is_whole v)) v.asked number line _ at same
-    (ap not (c.is_empty.ensures ∙ is_whole-no_names c.args.audited.now)) c.pair-2.ensures c.lans.ensures listed
-    (c.in_ok-routers.ensures.none_out ∙ ap (routers_in NoneOut) states)
+    (ap not (c.is_empty.ensures ∙ is_whole-no_names c.args.audited.now)) c.pair-2.ensures
+    c.lans.ensures listed (c.in_ok-routers.ensures.none_out ∙ ap (routers_in NoneOut) states)
     (c.in_ok-routers.ensures.forwards ∙ ap (routers_in Forwards) states)
     (c.in_ok-routers.ensures.every_source ∙ ap (routers_in EverySource) states)) c.push_line.ensures

@@ -14,5 +14,6 @@ pub loop-router-preserved : goal.loop-router-preserved
 loop-router-preserved c =
     let state = λ (r : ℕ). state_at c.args.number (slice_get c.args.states.now r) in
     c.in_ok-push.ensures.items
-    ∙ ap₂ (λ (own : List RouterState) (s : RouterState). own ++ s ∷ []) c.loop-router.invariant c.state_at.ensures
+    ∙ ap₂ (λ (own : List RouterState) (s : RouterState). own ++ s ∷ []) c.loop-router.invariant
+    c.state_at.ensures
     ∙ sym (map_below-more state c.loop-router.router)

@@ -6,10 +6,11 @@ use Rattle.mc_run.proofs.audit.audit_end.push_end_objects.Goals as goal
 
 pub returns : goal.returns
 returns c =
-    end_objects-parts c.args.options c.topology-topology.result.now
+    end_objects-parts c.args.audited.now.options c.topology-topology.result.now
     (audited_value c.args.audited.now).domain.topology (audited_value c.args.audited.now).summary
     (audited_value c.args.audited.now).asked c.args.audited.now.excluded.now
-    (is_whole (audited_value c.args.audited.now)) c.deref.result.now _ _ _ _ _ c.push_summary_line.result _ _ _ _ _
+    (is_whole (audited_value c.args.audited.now)) c.deref.result.now _ _ _ _ _
+    c.push_summary_line.result _ _ _ _ _
     c.topology-topology.ensures.topology (c.deref.ensures.value ∙ c.in_ok-routers.ensures) c.requires.asked
     c.in_ok-push_unlisted_lines.ensures.lines c.in_ok-push_asked_lines.ensures
     c.in_ok-push_without_line.ensures c.push_summary_line.ensures.line

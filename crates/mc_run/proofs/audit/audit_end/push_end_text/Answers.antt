@@ -6,7 +6,7 @@ use Rattle.mc_run.proofs.audit.audit_end.push_end_text.Goals as goal
 
 pub returns : goal.returns
 returns c =
-    end_text-parts c.args.options c.topology-topology.result.now
+    end_text-parts c.args.audited.now.options c.topology-topology.result.now
     (audited_value c.args.audited.now).domain.topology (audited_value c.args.audited.now).summary
     (audited_value c.args.audited.now).asked c.args.audited.now.excluded.now c.deref.result.now
     c.deref-2.result.now (is_whole (audited_value c.args.audited.now)) c.args.all _ _ _ _ _ _

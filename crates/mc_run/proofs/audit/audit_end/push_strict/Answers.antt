@@ -1,4 +1,4 @@
-use Rattle.std.proofs.Common.{◌≡◌, Bool, ◌++◌, List, ℕ, ap, sym, ◌∙◌}
+use Rattle.std.proofs.Common.{◌≡◌, Bool, ◌++◌, ap, sym, ◌∙◌}
 use Rattle.std.specs.Prelude.{◌&&◌, codes}
 use Rattle.mc_run.specs.AuditEnd.{strict_line}
 use Rattle.mc_run.proofs.AuditAskedLemmas.{appended-same, appended-two}
@@ -10,7 +10,8 @@ returns c =
     let fails : c.if-strict.fails ≡ (c.args.strict && c.args.all) = elim c.if-strict.branch as
     (λ _. c.if-strict.fails ≡ (c.args.strict && c.args.all)) [
       | then-strict w ↦ w.fails-is ∙ sym (ap (λ (b : Bool). b && c.args.all) w.if-strict.true)
-      | else-strict w ↦ w.fails-is ∙ w.if-strict.false ∙ sym (ap (λ (b : Bool). b && c.args.all) w.if-strict.false)
+      | else-strict w ↦ w.fails-is ∙ w.if-strict.false
+          ∙ sym (ap (λ (b : Bool). b && c.args.all) w.if-strict.false)
     ] in
     appended-same c.push_strict_line-2.result _ _ _ _
     (λ i. strict_line (fails i) (c.from.ensures i) (codes " flows that nobody wants")

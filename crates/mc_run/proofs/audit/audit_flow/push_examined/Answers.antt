@@ -5,7 +5,8 @@ use Rattle.mc_run.proofs.audit.audit_flow.push_examined.Goals as goal
 pub returns-in-Certified : goal.returns-in-Certified
 returns-in-Certified c = record {
   ok = (
-      is_flow_pushed-right (audited_value c.args.audited.now) c.args.options c.args.flow c.push_checked.result
+      is_flow_pushed-right (audited_value c.args.audited.now) c.args.audited.now.options c.args.flow
+      c.push_checked.result
       c.args.flights.now c.in-Certified.entries c.deref.result.now _ _ _ _ c.requires.flow
       c.requires.flights c.requires.examined c.in-Certified.is c.deref.ensures.value
       c.push_checked.ensures.headline c.push_checked.ensures.flow_status c.push_checked.ensures.shown_trees
@@ -15,7 +16,7 @@ returns-in-Certified c = record {
 pub returns-in-FoundAtTtl255 : goal.returns-in-FoundAtTtl255
 returns-in-FoundAtTtl255 c = record {
   ok = (
-      is_flow_pushed-any_shown_trees (audited_value c.args.audited.now) c.args.options c.args.flow
+      is_flow_pushed-any_shown_trees (audited_value c.args.audited.now) c.args.audited.now.options c.args.flow
       c.push_found_at_255.result _ _
       c.args.shown_trees.now c.push_found_at_255.ensures.ok);
 }
@@ -23,7 +24,7 @@ returns-in-FoundAtTtl255 c = record {
 pub returns-in-FoundAtFlowTtl : goal.returns-in-FoundAtFlowTtl
 returns-in-FoundAtFlowTtl c = record {
   ok = (
-      is_flow_pushed-any_shown_trees (audited_value c.args.audited.now) c.args.options c.args.flow
+      is_flow_pushed-any_shown_trees (audited_value c.args.audited.now) c.args.audited.now.options c.args.flow
       c.push_found_at_flow_ttl.result _ _
       c.args.shown_trees.now c.push_found_at_flow_ttl.ensures.ok);
 }

@@ -1,9 +1,10 @@
 use Rattle.std.proofs.Common.{ap}
 use Rattle.mc_maker.specs.ExaminedFlights.{without_flights}
-use Rattle.mc_run.specs.AuditPieces.{audited_value, explanation_in, status_of_wrong_flow, wrong_flow_lines_of}
+use Rattle.mc_forward.specs.ListedTables.{facts}
+use Rattle.mc_run.specs.AuditFlowText.{wrong_flow_lines}
+use Rattle.mc_run.specs.AuditPieces.{audited_value, explanation_in, status_of_wrong_flow}
 use Rattle.mc_run.specs.AuditRun.{is_whole}
 use Rattle.mc_run.proofs.AuditFlows.{is_flow_pushed-added, is_flow_pushed-status, is_flow_pushed-wrong}
-use Rattle.mc_run.proofs.AuditFlows.{wrong_flow_lines-same_causes}
 use Rattle.mc_run.proofs.ExplanationLemmas.{is_finished_travel-at_255, is_explanation-at_255}
 use Rattle.mc_run.proofs.audit.audit_flow.push_found_at_255.Goals as goal
 
@@ -24,23 +25,22 @@ returns c = record {
   ok = (
       let a = c.args.audited.now in
       let v = audited_value a in
-      let o = c.args.options in
+      let o = a.options in
       let ended = c.args.ended.now in
       let causes = c.in_ok-causes.causes.items in
-      let found = c.in_ok-found.found in
+      let found = c.in_ok-search.search in
       let behind = c.in_ok-behind.behind in
       let shown = c.in_ok-shown_by.shown_by in
+      let x = explanation_in (is_whole v) ended causes found behind shown in
       is_flow_pushed-status v o c.args.flow c.push_wrong.result (status_of_wrong_flow a found) _ _
       c.push_wrong.ensures.flow_status
       (is_flow_pushed-added v o c.args.flow c.push_wrong.result (status_of_wrong_flow a found) _ _
-      (wrong_flow_lines_of a o c.args.flow 255 ended c.deref.result.now found behind shown)
-      (λ written puts. is_flow_pushed-wrong v o c.args.flow c.args.flights.now 255 ended.travel
-      (explanation_in (is_whole v) ended causes found behind shown) _ written c.requires.flow c.requires.flights
+      (wrong_flow_lines o (facts v.domain) v.summary c.args.flow 255 ended.travel x)
+      (λ written puts. is_flow_pushed-wrong v o c.args.flow c.args.flights.now 255 ended.travel x _ written
+      c.requires.flow c.requires.flights
       c.requires.examined (ap (without_flights v.domain c.args.flow) c.requires.is)
       (is_explanation-at_255 v c.args.flow c.args.flights.now ended causes found behind shown
-      c.requires.is c.requires.flights c.in_ok-causes.ensures.causes c.in_ok-found.ensures.search
-      c.in_ok-behind.ensures.behind c.in_ok-shown_by.ensures.shown)
-      (wrong_flow_lines-same_causes v o c.args.flow 255 ended c.deref.result.now causes found behind shown _ written
-      c.deref.ensures.value puts))
+      c.requires.is c.requires.flights c.in_ok-causes.ensures.causes c.in_ok-search.ensures.search
+      c.in_ok-behind.ensures.behind c.in_ok-shown_by.ensures.shown) puts)
       c.push_wrong.ensures.added));
 }

@@ -1,4 +1,4 @@
-use Rattle.std.proofs.Common.{◌∙◌}
+use Rattle.std.proofs.Common.{refl, ◌∙◌}
 use Rattle.mc_run.specs.AuditPieces.{audited_value}
 use Rattle.mc_run.specs.AuditRun.{is_whole}
 use Rattle.mc_run.proofs.ShownTrees.{is_whole-no_names, right_objects-pushed, shown_trees-pushed}
@@ -17,5 +17,5 @@ returns-clause-lines c =
     c.in_ok-number.number c.new-view.result c.topology-topology.result.now c.args.entries.now
     c.args.wanted.now c.args.shown_trees.now c.push_tree_once.new.shown_trees c.push_right_line.result _ _ _
     c.new-view.ensures.flow c.topology-topology.ensures.topology
-    (c.is_empty-whole.ensures ∙ is_whole-no_names a) c.requires.copies c.in_ok-number.ensures.shown_trees
+    (c.is_empty-whole.ensures ∙ is_whole-no_names a) refl c.in_ok-number.ensures.shown_trees
     c.in_ok-number.ensures.number c.in_ok-number.ensures.line c.push_right_line.ensures.line

@@ -10,5 +10,6 @@ returns-in_ok-writeln c =
     let ttl = c.args.ttl in
     c.in_ok-writeln.ensures.bytes
     ∙ ap (λ (line : List ℕ). string_bytes c.args.text.now ++ line)
-    (ap₂ (λ (t : TopologyValue) (x : Finding). at_flow_ttl_text t ttl (Some x)) c.shown-finding.ensures.topology
+    (ap₂ (λ (t : TopologyValue) (x : Finding). at_flow_ttl_text t ttl (Some x))
+    c.shown-finding.ensures.topology
     c.shown-finding.ensures.finding ∙ ap (at_flow_ttl_text c.args.topology.now ttl) (sym c.in-Some.is))

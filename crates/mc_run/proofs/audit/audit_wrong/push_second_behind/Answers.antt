@@ -1,4 +1,4 @@
-use Rattle.std.proofs.Common.{sym, ◌∙◌}
+use Rattle.std.proofs.Common.{◌∙◌}
 use Rattle.mc_forward.specs.ListedTables.{facts}
 use Rattle.mc_run.specs.AuditPieces.{audited_value}
 use Rattle.mc_run.proofs.ExplanationLemmas.{second_behind-pushed}
@@ -10,8 +10,10 @@ returns c = record {
       let v = audited_value c.args.audited.now in
       second_behind-pushed (facts v.domain) v.summary c.args.flow c.args.behind.now
       c.shown-finding.result.topology.now
-      c.in-Some.finding c.shown-finding.result.finding c.deref.result.now c.push_deeper_shown_from.result _ _ _ _
-      (c.shown-finding.ensures.topology ∙ c.topology.ensures.topology) c.shown-finding.ensures.finding c.in-Some.is
+      c.in-Some.finding c.shown-finding.result.finding c.deref.result.now
+      c.push_deeper_shown_from.result _ _ _ _
+      (c.shown-finding.ensures.topology ∙ c.topology.ensures.topology)
+      c.shown-finding.ensures.finding c.in-Some.is
       c.deref.ensures.value c.in_ok-writeln.ensures.bytes c.in_ok-push_deeper_causes.ensures.lines
       c.push_deeper_shown_from.ensures);
 }

@@ -8,8 +8,8 @@ use Rattle.mc_run.proofs.audit.audit_wrong.push_wrong_lines.Goals as goal
 pub returns : goal.returns
 returns c = record {
   added = (
-      wrong_lines-pushed (audited_value c.args.audited.now) c.args.flow c.args.travels
-      c.args.travel.now (explanation_value c.args.explanation.now)
+      wrong_lines-pushed (audited_value c.args.audited.now) c.args.flow
+      c.args.audited.now.options.travels c.args.travel.now (explanation_value c.args.explanation.now)
       c.topology-topology.result.now c.flow-listed.result c.push_travel.result _ _ _ _ _
       c.topology-topology.ensures.topology
       (c.flow-listed.ensures

@@ -1,32 +1,56 @@
 use Rattle.std.proofs.Common.{ℕ, List, Option, Some, None, true}
 use Rattle.std.specs.Prelude.{IfSome}
+use Rattle.std.proofs.lemmas.Option.{IfSome_then}
 use Rattle.std.proofs.lemmas.Result.{err_from_is_err_and}
-use Rattle.mc_run.specs.InputMeaning.{IsRefusedFor, MeansWithLists}
+use Rattle.mc_input.specs.InputView.{certificate_text}
+use Rattle.mc_input.specs.Meaning.{MeansDomain, MeansDomainWhere}
+use Rattle.mc_input.specs.declared.domain.BundleDomain.{BundleDomain}
+use Rattle.mc_run.specs.InputMeaning.{CertifiedDomain, IsRefusedFor, MeansCertified, MeansWithLists}
+use Rattle.mc_run.specs.RunFault.{from_source_fault}
+use Rattle.mc_run.specs.declared.commands.check.DomainWithCertificate.{DomainWithCertificate}
 use Rattle.mc_run.specs.declared.fault.RunFault.TheVariants.{Memory}
 use Rattle.std.specs.String.{string_bytes}
 use Rattle.mc_run.specs.CheckRun.{IsTextOfVerdicts, KeepsHeadline}
+use Rattle.mc_run.proofs.FaultLemmas.{is_fault_of_check-make, is_fault_of_make-source_fault}
 use Rattle.mc_run.proofs.RunLemmas.{of_domain-meant}
 use Rattle.mc_run.proofs.commands.check.verdicts_of_input.Goals as goal
 
+-- what holds of the domain and the lists that were read holds of those that the bundle means
+of_certified-meant : (Holds : CertifiedDomain → Type 0) (contents : Option (List ℕ)) (read : BundleDomain)
+    (certified : DomainWithCertificate)
+    → IfSome contents (λ text. MeansDomain text (certificate_text read.certificate) read.domain)
+    → ((text : List ℕ) → MeansDomain text (certificate_text read.certificate) read.domain
+    → MeansCertified text certified.domain certified.certificate)
+    → Holds (record { domain = certified.domain; lists = certified.certificate })
+    → IfSome contents (MeansDomainWhere MeansWithLists Holds)
+of_certified-meant Holds contents read certified means follows =
+    let both : CertifiedDomain = record { domain = certified.domain; lists = certified.certificate } in
+    of_domain-meant MeansWithLists Holds contents both (IfSome_then contents
+    {P = λ text. MeansDomain text (certificate_text read.certificate) read.domain}
+    {Q = λ text. MeansWithLists text both} means follows)
+
 pub returns-in-Ok-clause-text : goal.returns-in-Ok-clause-text
 returns-in-Ok-clause-text g c =
-    let read = c.in_ok-read.read in
     let written = string_bytes c.in-Ok.run_output.text in
-    of_domain-meant MeansWithLists (λ r. IsTextOfVerdicts r.domain r.lists c.in-Ok.run_output.yes written)
-    (g.R.Input.remaining c.args.input.now) (record { domain = read.domain; lists = read.certificate })
-    c.in_ok-read.ensures.means c.in-Ok.ensures.text
+    of_certified-meant (λ r. IsTextOfVerdicts r.domain r.lists c.in-Ok.run_output.yes written)
+    (g.R.Input.remaining c.args.input.now) c.in_ok-read.read c.in_ok-certified.certified
+    c.in_ok-read.ensures.means c.in_ok-certified.ensures.means c.in-Ok.ensures.text
 
 pub returns-in-Ok-clause-headline : goal.returns-in-Ok-clause-headline
 returns-in-Ok-clause-headline g c = λ all.
-    let read = c.in_ok-read.read in
-    of_domain-meant MeansWithLists (λ r. KeepsHeadline r.domain r.lists)
-    (g.R.Input.remaining c.args.input.now) (record { domain = read.domain; lists = read.certificate })
-    c.in_ok-read.ensures.means (c.in-Ok.ensures.headline all)
+    of_certified-meant (λ r. KeepsHeadline r.domain r.lists)
+    (g.R.Input.remaining c.args.input.now) c.in_ok-read.read c.in_ok-certified.certified
+    c.in_ok-read.ensures.means c.in_ok-certified.ensures.means (c.in-Ok.ensures.headline all)
 
-pub returns-in_err-read-clause-refused : goal.returns-in_err-read-clause-refused
-returns-in_err-read-clause-refused g c =
-    let p = err_from_is_err_and c.from_residual.result c.from_residual.ensures.1 in
-    rw (p.1, p.2) c.in_err-read.ensures.refused
+pub returns-in_err-certified-clause-refused : goal.returns-in_err-certified-clause-refused
+returns-in_err-certified-clause-refused g c =
+    let read = c.in_ok-read.read in
+    let p = err_from_is_err_and c.from_residual-in_err-certified.result
+    c.from_residual-in_err-certified.ensures.1 in
+    rw (p.1, p.2) (IfSome_then (g.R.Input.remaining c.args.input.now)
+    {P = λ text. MeansDomain text (certificate_text read.certificate) read.domain}
+    {Q = λ text. IsRefusedFor true text c.in_err-certified.field-0.0}
+    c.in_ok-read.ensures.means c.in_err-certified.ensures.refused)
 
 pub returns-in-Err-clause-refused : goal.returns-in-Err-clause-refused
 returns-in-Err-clause-refused g c = by (g.R.Input.remaining c.args.input.now)
@@ -38,4 +62,11 @@ returns-in-Err-clause-refused g c = by (g.R.Input.remaining c.args.input.now)
 pub returns-in_err-read-clause-faults : goal.returns-in_err-read-clause-faults
 returns-in_err-read-clause-faults g c =
     let p = err_from_is_err_and c.from_residual.result c.from_residual.ensures.1 in
-    rw (p.1, p.2) c.in_err-read.ensures.faults
+    rw (p.1, p.2) (is_fault_of_check-make (from_source_fault c.in_err-read.field-0.0)
+    (is_fault_of_make-source_fault c.in_err-read.field-0.0))
+
+pub returns-in_err-certified-clause-faults : goal.returns-in_err-certified-clause-faults
+returns-in_err-certified-clause-faults g c =
+    let p = err_from_is_err_and c.from_residual-in_err-certified.result
+    c.from_residual-in_err-certified.ensures.1 in
+    rw (p.1, p.2) c.in_err-certified.ensures.faults

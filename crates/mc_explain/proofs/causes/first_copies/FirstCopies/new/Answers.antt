@@ -9,10 +9,6 @@ use Rattle.mc_replay.proofs.FirstLemmas.{second_copy_so_far-all, first_copies_so
 use Rattle.mc_replay.proofs.FirstLemmas.{second_copy_so_far, second_copy_so_far-found_now}
 use Rattle.mc_replay.proofs.FirstLemmas.{second_copy_so_far-found_before, second_copy_so_far-first_on_lan}
 use Rattle.mc_explain.proofs.causes.first_copies.FirstCopies.new.Goals as goal
-use Rattle.mc_explain.proofs.causes.first_copies.FirstCopies.new.Goals.{then-not-put_first+then-is_none}
-use Rattle.mc_explain.proofs.causes.first_copies.FirstCopies.new.Goals.{else-not-put_first}
-use Rattle.mc_explain.proofs.causes.first_copies.FirstCopies.new.Goals.{else-not-put_first-via-then-not-put_first+else-is_none}
-use Rattle.mc_explain.proofs.causes.first_copies.FirstCopies.new.Goals.{else-not-put_first-via-else-not-put_first}
 
 pub loop-copy-init : goal.loop-copy-init
 loop-copy-init c = first_copies_so_far-none c.in_ok-by_lan.by_lan c.args.copies.now 0
@@ -53,15 +49,15 @@ loop-copy-preserved c =
     let within : x.lan < length old = omega (arith, on, many, count) in
     let found : c.if-not-put_first.second ≡ second_copy_so_far second (not put) x =
     elim c.if-not-put_first.branch [
-      | then-not-put_first+then-is_none w ↦ (let none : is_some second ≡ false =
+      | goal.then-not-put_first+then-is_none w ↦ (let none : is_some second ≡ false =
           grind arith in w.second-is ∙ ap Some c.copy.view_is ∙
           sym (second_copy_so_far-found_now second (not put) x (ap not w.if-not-put_first.true) none))
-      | else-not-put_first w ↦ elim w.else-not-put_first.branch [
-        | else-not-put_first-via-then-not-put_first+else-is_none v ↦ (
+      | goal.else-not-put_first w ↦ elim w.else-not-put_first.branch [
+        | goal.else-not-put_first-via-then-not-put_first+else-is_none v ↦ (
             let some : is_some second ≡ true =
             v.if-is_none.ensures in w.second-is ∙ sym (second_copy_so_far-found_before second (not put) x
             some))
-        | else-not-put_first-via-else-not-put_first v ↦ w.second-is ∙
+        | goal.else-not-put_first-via-else-not-put_first v ↦ w.second-is ∙
             sym (second_copy_so_far-first_on_lan second (not put) x (ap not v.if-not-put_first.false))
       ]
     ] in

@@ -74,6 +74,7 @@ lab: $(PROGRAM)
 	sh tests/lab/ten.sh $(PROGRAM) $(PAGES)
 	sh tests/lab/pim.sh $(PROGRAM)
 	python3 tests/lab/premises.py $(PROGRAM) --ssh
+	python3 tests/lab/many.py $(PROGRAM)
 	python3 tests/lab/conf.py $(PROGRAM)
 	python3 tests/lab/hosts.py $(PROGRAM)
 	python3 tests/lab/guide.py $(PROGRAM)

@@ -21,9 +21,10 @@ import time
 
 sys.dont_write_bytecode = True
 TOP = os.path.join(os.path.dirname(os.path.abspath(__file__)), "..", "..")
-sys.path += [os.path.join(TOP, "tools"), os.path.join(TOP, "tests", "audited")]
+sys.path += [os.path.join(TOP, it) for it in ("tools", "tests", "tests/audited")]
 from mcaudit_tools import conf, tried
 from mcaudit_tools.igmp import sum_of
+from ended import status_of
 from random_domains import CACHE_HEADER, VIF_HEADER
 
 SPACE = f"mcaudit-conf-{os.getpid()}"
@@ -179,8 +180,7 @@ def main():
     if not LEAST * count <= whole <= count - (count >= 40):
         failed += 1
         print(f"{whole} of {count} files were taken whole")
-    print(f"{count - failed} passed, {failed} failed")
-    return 1 if failed or not count else 0
+    return status_of(count - failed, failed)
 
 
 if __name__ == "__main__":

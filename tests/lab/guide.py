@@ -13,6 +13,7 @@ command in a router's network namespace, and the tools wait 20 s for a query in 
 
 The routers run smcroute, and for one block FRR. The last line counts the commands: N passed, M failed.
 """
+import json
 import os
 import re
 import shutil
@@ -22,9 +23,13 @@ import sys
 import time
 
 sys.dont_write_bytecode = True
+import frr  # noqa: E402 pylint: disable=wrong-import-position
 import premises as lab  # noqa: E402
 
 TOP = os.path.join(lab.HERE, "..", "..")
+sys.path.append(os.path.join(TOP, "tests", "docs"))
+from blocks import commands_of  # noqa: E402 pylint: disable=wrong-import-position
+
 BLOCK = re.compile(r"^<!-- needs routers: (\w+) -->\n```console\n(.*?)^```$", re.M | re.S)
 SITES = os.path.join(TOP, "tests", "docs", "sites")
 SOURCE, OTHER, MEMBER = "10.0.0.5", "10.0.0.6", "10.0.2.7"
@@ -36,7 +41,7 @@ PLAIN = "phyint eth0 enable\nphyint eth1 enable\n" + ROUTE
 BOTH = PLAIN.replace("to eth1", "to eth1 eth2")
 TRAFFIC = os.path.join(lab.HERE, "traffic.py")
 # What is compared as such, and not by its numbers.
-NUMBERS = [(r"20\d{6}T\d{6}Z", "TIME"), (r"\d+ (?:s|min|h)(?: to \d+ (?:s|min|h))? old", "AGE"),
+NUMBERS = [(r"20\d{6}T\d{6}Z", "TIME"), (r"\d+ (?:s|min|h)(?: to \d+ (?:s|min|h))? (?:old|ago)", "AGE"),
            (r"\d+(?:\.\d+)? s\b", "N s"), (r"\(\d of 4 sets", "(N of 4 sets"), (r"\d+ packets", "N packets"),
            (r"\(\d+\)", "(N)"), (r"\d+ % or more", "N % or more")]
 SSH = """#!/bin/sh
@@ -48,16 +53,6 @@ shift
 PATH={folder}/$router-bin:{folder}/programs exec ip netns exec {name}-"$router" "$@"
 """
 VTYSH = "#!/bin/sh\nexec /usr/bin/vtysh --vty_socket {folder} \"$@\"\n"
-PIM = """hostname {router}
-interface eth0
- ip pim
-{igmp0}exit
-interface eth1
- ip pim
-{igmp1}exit
-ip pim rp 10.0.1.2 224.0.0.0/4
-"""
-IGMP = " ip igmp\n ip igmp query-interval 10\n ip igmp query-max-response-time 30\n"
 SCENES = {}
 
 
@@ -123,11 +118,16 @@ class Guide(lab.Lab):
         self.begin_queries()
 
     def make_site(self, name=""):
-        """Makes the folder of one that is kept for the guide, without tables; or has none."""
+        """Makes the folder of one that is kept for the guide, without tables, and with lists as mcaudit-reports has
+        gathered them; or has none."""
         shutil.rmtree(self.here)
         os.mkdir(self.here)
         if name:
             shutil.copytree(f"{SITES}/{name}", f"{self.here}/site", ignore=shutil.ignore_patterns("vif-*", "cache-*"))
+            gathered = {it.name: {"by": "capture", "of": None, "time": int(it.stat().st_mtime)}
+                        for it in os.scandir(f"{self.here}/site") if it.name.startswith("igmp-")}
+            with open(f"{self.here}/site/collected.json", "w", encoding="ascii") as file:
+                json.dump({"version": 2, "files": gathered}, file)
         with open(f"{self.here}/routers", "w", encoding="ascii") as file:
             file.write("r1=root@10.9.0.1\nr2=!ssh admin@10.9.0.2 sudo -n\n")
 
@@ -223,21 +223,9 @@ def plugin():
 
 
 def start_frr(router, igmp0, igmp1):
-    """Starts FRR's zebra and pimd on a router."""
-    folder = f"{LAB.folder}/{router}-frr"
-    os.makedirs(folder, exist_ok=True)
-    LAB.write_program(f"{router}-bin/vtysh", VTYSH.format(folder=folder))
-    for daemon, text in (("zebra", f"hostname {router}\n"), ("pimd", PIM.format(
-            router=router, igmp0=igmp0, igmp1=igmp1))):
-        with open(f"{folder}/{daemon}.conf", "w", encoding="ascii") as file:
-            file.write(text)
-    lab.run(f"chmod 711 {LAB.folder}; chown -R frr: {folder}")
-    LAB.at(router, "sysctl -qw net.ipv4.ip_forward=1")
-    for daemon in ("zebra", "pimd"):
-        LAB.begin(f"{router}-{daemon}", router, [
-            f"/usr/lib/frr/{daemon}", "-N", f"{LAB.name}-{router}", "-f", f"{folder}/{daemon}.conf", "-i",
-            f"{folder}/{daemon}.pid", "-z", f"{folder}/zserv", "--vty_socket", folder])
-        time.sleep(1)
+    """Starts FRR on a router, whose vtysh then answers."""
+    LAB.write_program(f"{router}-bin/vtysh", VTYSH.format(folder=frr.folder_of(LAB, router)))
+    frr.start(LAB, router, "10.0.1.2", igmp0, igmp1)
 
 
 @scene
@@ -246,21 +234,10 @@ def daemon():
     LAB.make_site("right")
     LAB.end_routers()
     LAB.begin("more", "member", ["python3", TRAFFIC, "member", MEMBER, "99999", "239.1.2.4"])
-    start_frr("r2", "", IGMP)
+    start_frr("r2", "", frr.IGMP)
     time.sleep(20)
     LAB.tool("mcaudit-collect --adopt --routers routers site")
     start_frr("r1", " ip igmp\n", "")
-
-
-def commands_of(block):
-    """Returns the commands of a block, each with what is shown below it."""
-    commands = []
-    for line in block.splitlines(keepends=True):
-        if line.startswith("$ "):
-            commands.append([line[2:].rstrip("\n"), ""])
-        else:
-            commands[-1][1] += line
-    return commands
 
 
 def plain(text):
@@ -306,8 +283,7 @@ def main():
                 run_block(name, block)
     finally:
         LAB.clear()
-    print(f"{lab.PASSED[True]} passed, {lab.PASSED[False]} failed")
-    return 1 if lab.PASSED[False] or not lab.PASSED[True] else 0
+    return lab.status_of(lab.PASSED[True], lab.PASSED[False])
 
 
 if __name__ == "__main__":

@@ -20,6 +20,7 @@ import sys
 import time
 
 sys.dont_write_bytecode = True
+import frr  # noqa: E402 pylint: disable=wrong-import-position
 import premises as lab  # noqa: E402
 
 GROUP, SOURCE, MEMBER, ASKED = lab.GROUP, lab.SOURCE, lab.MEMBER, "239.9.9.9"
@@ -51,16 +52,6 @@ try:
 except KeyboardInterrupt:
     print(joins, silent)
 """
-PIM = """hostname {router}
-interface eth0
- ip pim
-{igmp0}exit
-interface eth1
- ip pim
-{igmp1}exit
-ip pim rp 10.88.1.2 224.0.0.0/4
-"""
-IGMP = " ip igmp\n ip igmp query-interval 10\n ip igmp query-max-response-time 30\n"
 TRAFFIC = os.path.join(lab.HERE, "traffic.py")
 
 
@@ -159,31 +150,14 @@ def try_unlisted():
     LAB.end("send")
 
 
-def start_pim(router):
-    """Starts FRR's zebra and pimd on a router, in the place of smcroute."""
-    LAB.end(router)
-    folder = f"{LAB.folder}/{router}-frr"
-    os.mkdir(folder)
-    for daemon, text in (("zebra", f"hostname {router}\n"), ("pimd", PIM.format(
-            router=router, igmp0=IGMP * (router == "r1"), igmp1=IGMP * (router == "r3")))):
-        with open(f"{folder}/{daemon}.conf", "w", encoding="ascii") as file:
-            file.write(text)
-    lab.run(f"chmod 711 {LAB.folder}; chown -R frr: {folder}")
-    LAB.at(router, "sysctl -qw net.ipv4.ip_forward=1")
-    for daemon in ("zebra", "pimd"):
-        LAB.begin(f"{router}-{daemon}", router, [
-            f"/usr/lib/frr/{daemon}", "-N", f"{LAB.name}-{router}", "-f", f"{folder}/{daemon}.conf", "-i",
-            f"{folder}/{daemon}.pid", "-z", f"{folder}/zserv", "--vty_socket", folder])
-        time.sleep(1)
-
-
 def begin_zapping():
     """Has PIM route, a source send to all channels, one host stay with two of them, and two hosts zap through the
     others."""
     LAB.at("r1", "ip route add 10.88.2.0/23 via 10.88.1.2")
     LAB.at("r2", "ip route add 10.88.3.0/24 via 10.88.2.3")
     for router in lab.ROUTERS:
-        start_pim(router)
+        LAB.end(router)  # its smcroute
+        frr.start(LAB, router, "10.88.1.2", frr.IGMP * (router == "r1"), frr.IGMP * (router == "r3"))
     for name, _ in HOSTS:
         LAB.at(name, "ip route add default via 10.88.3.3")
     LAB.begin("steady", "member", ["python3", TRAFFIC, "member", MEMBER, "999", *STEADY])
@@ -243,8 +217,7 @@ def main():
                 function()
     finally:
         LAB.clear()
-    print(f"{lab.PASSED[True]} passed, {lab.PASSED[False]} failed")
-    return 1 if lab.PASSED[False] or not lab.PASSED[True] else 0
+    return lab.status_of(lab.PASSED[True], lab.PASSED[False])
 
 
 if __name__ == "__main__":

@@ -130,4 +130,4 @@ END
 expect 0 count_packets <<'END'
 member 239.1.2.3 3
 END
-echo 'lab: a shared tree is told, and the way of the source is judged'
+echo 'lab: a shared tree is named, and the path from the source is audited'

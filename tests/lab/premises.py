@@ -24,6 +24,9 @@ import time
 
 HERE = os.path.dirname(os.path.abspath(__file__))
 TOOLS = os.path.join(HERE, "..", "..", "tools")
+sys.path.append(os.path.join(HERE, ".."))
+from ended import status_of  # noqa: E402 pylint: disable=wrong-import-position
+
 SOURCE, GROUP, MEMBER = "10.88.0.50", "239.1.2.3", "10.88.3.77"
 PORTS = [("source", "eth0", "l0", SOURCE), ("r1", "eth0", "l0", "10.88.0.1"), ("r1", "eth1", "l1", "10.88.1.1"),
          ("r1", "eth2", "lx", "10.88.9.1"), ("r2", "eth0", "l1", "10.88.1.2"), ("r2", "eth1", "l2", "10.88.2.2"),
@@ -164,20 +167,22 @@ class Lab:
             time.sleep(0.1)
         raise SystemExit(f"lab: smcroute on {router} has no row")
 
-    def begin_ssh(self):
-        """Starts an sshd, by which the routers are read from now on."""
+    def begin_ssh(self, routers=ROUTERS):
+        """Starts an sshd, by which the routers are read from now on, many at once too. Its shells have a home of their
+        own: what the `.bashrc` of root begins here is none of a router's."""
         os.makedirs("/run/sshd", exist_ok=True)
         port, own = 20000 + os.getpid() % 10000, self.folder
         for name in ("host", "user"):
             run(["ssh-keygen", "-q", "-t", "ed25519", "-N", "", "-f", f"{own}/{name}"])
         with open(f"{own}/sshd", "w", encoding="ascii") as file:
             file.write(f"Port {port}\nListenAddress 127.0.0.1\nHostKey {own}/host\nAuthorizedKeysFile {own}/user.pub\n"
-                       f"PermitRootLogin yes\nStrictModes no\nUsePAM no\nPidFile {own}/sshd.pid\n")
+                       f"PermitRootLogin yes\nStrictModes no\nUsePAM no\nPidFile {own}/sshd.pid\n"
+                       f"MaxStartups 1000\nSetEnv HOME={own}\n")
         self.running["sshd"] = subprocess.Popen(["/usr/sbin/sshd", "-D", "-f", f"{own}/sshd"],
                                                 stderr=subprocess.DEVNULL)
         ssh = (f"ssh -p {port} -i {own}/user -o BatchMode=yes -o StrictHostKeyChecking=no -o LogLevel=ERROR "
                "-o UserKnownHostsFile=/dev/null -o ConnectTimeout=10 -o ConnectionAttempts=5 127.0.0.1")
-        self.ways = [f"{it}=!{ssh} ip netns exec {self.name}-{it}" for it in ROUTERS]
+        self.ways = [f"{it}=!{ssh} ip netns exec {self.name}-{it}" for it in routers]
 
     def begin(self, name, place, words, **how):
         """Begins a command at a place."""
@@ -520,8 +525,7 @@ def main():
                 function()
     finally:
         LAB.clear()
-    print(f"{PASSED[True]} passed, {PASSED[False]} failed")
-    return 1 if PASSED[False] or not PASSED[True] else 0
+    return status_of(PASSED[True], PASSED[False])
 
 
 if __name__ == "__main__":

@@ -167,7 +167,7 @@ flow 10.77.0.5 239.1.2.4 ttl 4 no Extra r2 1 10.77.2.0-24
 verdict no
 END
 
-echo '- The remedy that is told, eth1 out of the row of r2: each packet reaches the member once again.'
+echo '- The remedy, eth1 out of the row of r2: each packet reaches the member once again.'
 change_rows r2 remove eth0 10.77.0.5 239.1.2.4 eth1
 expect 0 count_packets <<'END'
 member 239.1.2.3 3

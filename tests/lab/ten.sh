@@ -216,7 +216,7 @@ summary flows 2 right 1 wrong 1 unknown 0 unwanted 0 asked 0
 verdict no
 END
 make_page duplicate 1
-echo '- The remedy that is told, and the plan: eth1 out of the row of r5.'
+echo '- The remedy, and the plan: eth1 out of the row of r5.'
 expect 0 play_plan <<END
 flow $sender 239.1.2.3
 before   # then Duplicate 10.77.4.0-24
@@ -247,7 +247,7 @@ summary flows 2 right 1 wrong 1 unknown 0 unwanted 0 asked 0
 verdict no
 END
 make_page loop 1
-echo '- The remedy that is told, and the plan: eth0 out of the row of r3.'
+echo '- The remedy, and the plan: eth0 out of the row of r3.'
 expect 0 play_plan <<END
 flow $sender 239.1.2.3
 before   # then Loop 10.77.1.0-24

@@ -14,12 +14,14 @@ import time
 
 sys.dont_write_bytecode = True
 HERE = os.path.dirname(os.path.abspath(__file__))
-sys.path.insert(0, os.path.join(HERE, "..", "..", "tools"))
+sys.path += [os.path.join(HERE, "..", "..", "tools"), os.path.join(HERE, "..")]
+from ended import status_of  # noqa: E402
 from mcaudit_tools import origins  # noqa: E402
 from mcaudit_tools.ages import Ages  # noqa: E402
 from mcaudit_tools.premises import basis  # noqa: E402
 from mcaudit_tools.premises.domain import Domain  # noqa: E402
-from mcaudit_tools.premises.findings import DROPS, NONE_COMES, NOT_KNOWN, Finding  # noqa: E402
+from mcaudit_tools.premises.findings import (DROPS, LOST, MORE, NONE_COMES, NOT_KNOWN, STRANGERS,  # noqa: E402
+                                             Finding)
 from mcaudit_tools.premises.windows import Counters  # noqa: E402
 
 NOW = 1_800_000_000
@@ -79,16 +81,32 @@ AGES = (
     ("a table that is not there", {"vif-r1": 40, **lists(41)},
      "tables 40 s old; tables of r1 of an unknown age; lists of 1 LAN 41 s old"),
     ("a list that was changed by hand", {**TABLES, **lists(41), "igmp-l1": ("capture", 5000, 300)},
-     "tables 40 s old; lists of 2 LANs 41 s to 5 min old"),
+     "tables 40 s old; lists of 1 LAN 41 s old; lists of 1 LAN written by hand 5 min ago: l1"),
     ("an older list put in its place", {**TABLES, **lists(41), "igmp-l1": ("capture", 300, 5000)},
-     "tables 40 s old; lists of 2 LANs 41 s to 83 min old"),
+     "tables 40 s old; lists of 1 LAN 41 s old; lists of 1 LAN written by hand 83 min ago: l1"),
+    ("lists that were written by hand", {**TABLES, **lists(41), "igmp-l8": ("operator", 45),
+                                         "igmp-l7": ("operator", 10800)},
+     "tables 40 s old; lists of 1 LAN 41 s old; lists of 2 LANs written by hand 45 s to 3 h ago: l7 l8"),
+    ("all lists written by hand, and one decided", {**TABLES, "igmp-l7": ("operator", 41), "igmp-l8": ("static", 9)},
+     "tables 40 s old; lists of 1 LAN written by hand 41 s ago: l7; decided, not gathered: l8"),
+    ("many lists written by hand", {**TABLES, **{f"igmp-l{it}": ("operator", 41) for it in range(9)}},
+     "tables 40 s old; lists of 9 LANs written by hand 41 s ago: l0 l1 l2 l3 l4 l5 l6 l7 .."),
+    ("a list written by hand of a later time", {**TABLES, "igmp-l7": ("operator", -3600)},
+     "tables 40 s old; lists of l7 of a later time than now"),
+    ("tables written by hand", {"vif-r1": ("operator", 40), "cache-r1": ("operator", 40), **lists(41)},
+     "tables 40 s old; lists of 1 LAN 41 s old"),
     ("a copy", {"vif-r1": ("collect", 400, 3), "cache-r1": ("collect", 400, 3), "igmp-l0": ("capture", 5000, 3)},
      "tables 6 min old; lists of 1 LAN 83 min old"),
     ("nothing there", {}, "tables of r1 of an unknown age; lists of l0 of an unknown age"))
 
 
-def ages_of(folder, files, broken=None):
-    """Makes a folder with these files, of a collected.json that is broken so. Returns their ages."""
+TOLD_BY_0_2_0 = json.dumps({"version": 1, "files": {
+    "vif-r1": "2027-01-15T07:59:20Z", "cache-r1": "2027-01-15T07:59:20Z", "igmp-l0": "2027-01-15T07:59:19Z"}})
+
+
+def ages_of(folder, files, told_so=None):
+    """Makes a folder with these files, and with this text as its collected.json, where it isn't what tells of them.
+    Returns their ages."""
     told, routers, lans = {}, {"r1"}, {"l0"} if not files else set()
     for name, value in files.items():
         by, age, *own = value if isinstance(value, tuple) else (None, value)
@@ -101,7 +119,7 @@ def ages_of(folder, files, broken=None):
         kind, _, of = name.partition("-")
         (lans if kind == "igmp" else routers).add(of)
     with open(os.path.join(folder, "collected.json"), "w", encoding="ascii") as file:
-        file.write(json.dumps({"version": 2, "files": told}) if broken is None else broken)
+        file.write(json.dumps({"version": 2, "files": told}) if told_so is None else told_so)
     return Ages.of_set(folder, "site", sorted(routers), sorted(lans))
 
 
@@ -136,11 +154,25 @@ LOOKED = (  # routers, those that are excluded, what was found, and what is told
      f"{ALL}: not looked at (r1: ?]0;x???)"),
     ("words without end", TEN[:1], [], [none_known("r1", text="facts: " + 200 * "x")],
      f"{ALL}: not looked at (r1: {80 * 'x'} ..)"))
-STARVED = [Finding(NONE_COMES, "packets", "r2", "r1 took in 300 packets", flow=("10.0.0.5", "239.1.2.3"))]
+FLOWS = [("10.0.0.5", f"239.1.2.{it}") for it in (3, 4, 5)]
+STARVED = [Finding(NONE_COMES, "packets", "r2", "r1 took in 300 packets", flow=FLOWS[0])]
+LATER = [Finding(NONE_COMES, "packets", "r4", "r1 took in 900 packets", flow=FLOWS[1])]
+OTHERS = [Finding(STRANGERS, "packets", "r3", "300 packets came by another vif", flow=FLOWS[2]),
+          Finding(MORE, "packets", "r3", "r1 took in 300 packets, and r3 400", flow=FLOWS[0]),
+          Finding(LOST, "packets", "r3", "its vifs count 900 copies"),
+          Finding(LOST, "packets", "r3", "r1 took in 300 packets, and r3 200", flow=FLOWS[1])]
+LONG = Finding(STRANGERS, "packets", 32 * "r", 900 * "x", flow=("198.51.100.200", "239.255.255.250"))
 PACKETS = (
     (Counters(flows=24, come=24, window="in 7 s"), "packets flow on 24 of 24 flows"),
     (Counters(flows=24, come=20, idle=3, findings=STARVED, window="in 7 s"),
-     "packets flow on 20 of 24 flows, idle 3, with a finding 1"),
+     "packets flow on 20 of 24 flows, idle 3, with a finding 1 (none comes: flow 10.0.0.5 239.1.2.3: r2)"),
+    (Counters(flows=24, come=21, findings=OTHERS, window="in 7 s"),
+     "packets flow on 21 of 24 flows, with a finding 3 (lost: flow 10.0.0.5 239.1.2.4: r3, and 2 more)"),
+    (Counters(flows=24, come=21, findings=OTHERS + STARVED + LATER, window="in 7 s"),
+     "packets flow on 21 of 24 flows, with a finding 3 (none comes: flow 10.0.0.5 239.1.2.3: r2, and 2 more)"),
+    (Counters(flows=1, findings=[LONG], window="in 7 s"), "packets flow on 0 of 1 flows, with a finding 1 "
+     "(by another vif: flow 198.51.100.200 239.255.255.250: rrrrrrrrrrrrrrrrrrrrrrrrrrrrrrrr)"),
+    (Counters(flows=4, come=3, findings=OTHERS[2:3], window="in 7 s"), "packets flow on 3 of 4 flows"),
     (Counters(flows=2, come=1, unjudged=[(("10.0.0.5", "239.1.2.4"), "r1", "it was not read")], window="in 7 s"),
      "packets flow on 1 of 2 flows, not judged everywhere 1"),
     (Counters(flows=24, reason="2 of 4 sets"), "packets: not looked at (2 of 4 sets)"),
@@ -171,6 +203,10 @@ def told():
         with tempfile.TemporaryDirectory() as folder:
             yield (f"collected.json is {broken!r}", "; ".join(basis.ages_of(ages_of(folder, {
                 **TABLES, "igmp-l0": ("capture", 41, 90)}, broken))), "tables 40 s old; lists of 1 LAN 90 s old")
+    with tempfile.TemporaryDirectory() as folder:
+        yield "collected.json of 0.2.0, which doesn't say who wrote its lists", "; ".join(basis.ages_of(ages_of(
+            folder, {**TABLES, **lists(41, 300)}, TOLD_BY_0_2_0))), (
+            "tables 40 s old; lists of 1 LAN 41 s old; lists of 1 LAN written by hand 5 min ago: l1")
     for name, routers, excluded, findings, expected in LOOKED:
         parts = basis.parts_of(Ages("", {}), Counters(reason="x"), domain_of(routers, excluded), findings)
         yield name, "; ".join(parts[1:]), expected
@@ -191,8 +227,7 @@ def main():
         counts[said == expected] += 1
         if said != expected:
             print(f"failed: {name}: {said!r}, not {expected!r}")
-    print(f"{counts[True]} passed, {counts[False]} failed")
-    return 1 if counts[False] or not counts[True] else 0
+    return status_of(counts[True], counts[False])
 
 
 if __name__ == "__main__":

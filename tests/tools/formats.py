@@ -17,9 +17,10 @@ import tempfile
 
 sys.dont_write_bytecode = True
 TOP = os.path.join(os.path.dirname(os.path.abspath(__file__)), "..", "..")
-sys.path += [os.path.join(TOP, "tests", "audited"), os.path.join(TOP, "tools")]
+sys.path += [os.path.join(TOP, "tests"), os.path.join(TOP, "tests", "audited"), os.path.join(TOP, "tools")]
 import answers  # noqa: E402 pylint: disable=wrong-import-position
 import random_domains  # noqa: E402 pylint: disable=wrong-import-position
+from ended import status_of  # noqa: E402 pylint: disable=wrong-import-position
 from mcaudit_tools import audit, diff  # noqa: E402 pylint: disable=wrong-import-position
 from mcaudit_tools.monitor.judged import judged_of  # noqa: E402 pylint: disable=wrong-import-position
 
@@ -84,8 +85,7 @@ def main():
         if changes:
             failed += 1
             print(f"domain {number}: {changes}")
-    print(f"{DOMAINS - failed} passed, {failed} failed")
-    return 1 if failed else 0
+    return status_of(DOMAINS - failed, failed)
 
 
 if __name__ == "__main__":

@@ -73,6 +73,23 @@ def ages_of_each_answer(place):
 
 
 @case
+def list_that_a_person_wrote(place):
+    """It isn't counted as gathered, and is named, by all tools that print what a verdict rests on, in JSON too."""
+    told_of_ages(place)
+    place.write("site/igmp-l1", "")
+    line = ("lists of 1 LAN 2 h old; lists of 1 LAN written by hand [0-9]+ s ago: l1; decided, not gathered: l2; "
+            "packets: not looked at ")
+    for words in (("monitor", "--no-collect"), ("monitor", "--no-collect", "--plugin"), ("premises",),
+                  ("premises", "--json"), ("page", "--program", PROGRAM)):
+        place.run(*words, "site")
+        assert re.search(line, place.said), (words, place.said)
+    place.run("premises", "--json", "site")
+    ages = json.loads(place.said.splitlines()[0])["ages"]
+    assert [re.sub("[0-9]+ s ", "", it) for it in ages[1:3]] == [
+        "lists of 1 LAN 2 h old", "lists of 1 LAN written by hand ago: l1"], ages
+
+
+@case
 def plugin_line_of_many_decided_lists(place):
     """It names what it has room for, and never lacks what is wrong or how old that is."""
     told_of_ages(place, "r2")
@@ -211,7 +228,7 @@ def times_that_0_2_0_kept(place):
     collected(place, ways)
     found = json.loads(place.read("site/collected.json"))
     assert found["version"] == 2, found
-    assert found["files"]["igmp-l2"] == {"by": "operator", "of": None, "time": TOLD - 2}, found
+    assert found["files"]["igmp-l2"] == {"by": "unknown", "of": None, "time": TOLD - 2}, found
     assert found["files"]["vif-r1"]["time"] > TOLD + 60 and found["files"]["igmp-l1"]["by"] == "static", found
 
 

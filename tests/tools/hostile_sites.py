@@ -391,6 +391,97 @@ def names_of_other_folders_in_what_a_set_keeps(place):
         assert not {"bin", "precious"} & {*os.listdir(place.at("site"))}
 
 
+# A run that is killed as it makes a folder the first set
+
+KILLED = """import os, signal
+COUNT = [int(os.environ["CALLS"])]
+def step():
+    COUNT[0] -= 1
+    if COUNT[0] == 0:
+        os.kill(os.getpid(), signal.SIGKILL)
+def stepping(call):
+    def called(*words, **how):
+        step()
+        found = call(*words, **how)
+        if call is symlink:  # what Python has no call for may come next
+            step()
+        return found
+    return called
+symlink = os.symlink
+for name in "fsync", "link", "mkdir", "rename", "replace", "rmdir", "symlink", "unlink":
+    setattr(os, name, stepping(getattr(os, name)))
+"""
+
+
+def plain_site(place, sets):
+    """Makes `site` a plain folder whose topology is a relative link, and has its sets on that disk, where it is
+    named."""
+    for path in glob.glob(place.at("site*")) + glob.glob(place.at(".site*")):
+        shutil.rmtree(path) if os.path.isdir(path) and not os.path.islink(path) else os.unlink(path)
+    place.write("common/topology", "t")
+    place.write("site/igmp-l2", "r")
+    os.symlink("../common/topology", place.at("site/topology"))
+    if sets is not None:
+        shutil.rmtree(sets, ignore_errors=True)
+        os.mkdir(sets)
+        os.symlink(sets, place.at("site.sets"))
+
+
+def check_adopted(place, count):
+    """Sees that there is a site with all that the folder had, and so is each set."""
+    for folder in ("site", *(it for it in glob.glob(place.at("site.sets/2*")) if not os.path.islink(it))):
+        assert place.read(f"{folder}/topology") == "t" and place.read(f"{folder}/igmp-l2") == "r", (count, folder)
+
+
+def killed_at_each_step(place, sets):
+    """Adopts a folder, killed at the first step, at the second one and so on: there is a whole site each time, which
+    the next run makes a set where the killed one has not. Returns how many steps there were, and the most sets."""
+    most = 0
+    for count in range(1, 200):
+        plain_site(place, sets)
+        place.environment |= {"PYTHONPATH": place.at("killed"), "CALLS": str(count)}
+        status = place.run("collect", "--adopt", "site")
+        check_adopted(place, count)
+        del place.environment["PYTHONPATH"]
+        if status == 0:
+            return count, most
+        assert status == -signal.SIGKILL, (count, status, place.said)
+        assert place.run("collect", "--adopt", "site") == 0, (count, place.said)
+        check_adopted(place, count)
+        there = os.listdir(place.at("site.sets"))
+        assert os.path.islink(place.at("site")) and not any(it.startswith(".") for it in there), (count, there)
+        most = max(most, len(there))
+    raise AssertionError("it never ends")
+
+
+@case
+def adoption_that_is_killed(place):
+    """There is a site at each moment, the folder or the set that it is then, also where the sets are on another disk;
+    there a copy of it may be left as a set before it."""
+    place.write("killed/sitecustomize.py", KILLED)
+    with tempfile.TemporaryDirectory(dir="/dev/shm" if os.path.isdir("/dev/shm") else None) as shared:
+        for sets, most in ((None, 1), (os.path.join(shared, "sets"), 2)):
+            found = killed_at_each_step(place, sets)
+            assert found[0] > 12 and found[1] <= most, (sets, found)
+
+
+@case
+def adoption_where_no_names_can_be_exchanged(place):
+    """As by an older kernel: the folder becomes the first set all the same."""
+    place.write("older/sitecustomize.py", """import ctypes
+def refused(*_, **__):
+    raise OSError(38, "Function not implemented")
+ctypes.CDLL = refused
+""")
+    with tempfile.TemporaryDirectory(dir="/dev/shm" if os.path.isdir("/dev/shm") else None) as shared:
+        for sets in (None, os.path.join(shared, "sets")):
+            plain_site(place, sets)
+            place.environment["PYTHONPATH"] = place.at("older")
+            assert place.run("collect", "--adopt", "site") == 0, place.said
+            check_adopted(place, sets)
+            assert os.path.islink(place.at("site")) and len(os.listdir(place.at("site.sets"))) == 1
+
+
 # A disk that fails once the link is renamed
 
 UNSYNCED = """import errno, os

@@ -23,6 +23,7 @@ import time
 sys.dont_write_bytecode = True
 import packets as p  # noqa: E402 pylint: disable=wrong-import-position
 from place import NETWORK, PROGRAM, Place  # noqa: E402 pylint: disable=wrong-import-position
+from ended import status_of  # noqa: E402 pylint: disable=wrong-import-position
 
 KILLS, FORGERIES = 32, 37
 FREE = range(0, 176, 11)  # KB that a disk has left: from none to what all of them want
@@ -205,8 +206,7 @@ def main():
         if fault is not None:
             print(f"failed: turn {number}, {turns[number][0].__name__}: {fault}")
     failed = sum(it is not None for it in faults)
-    print(f"{len(turns) - failed} passed, {failed} failed")
-    return 1 if failed else 0
+    return status_of(len(turns) - failed, failed)
 
 
 if __name__ == "__main__":

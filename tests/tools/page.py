@@ -28,10 +28,11 @@ import types
 sys.dont_write_bytecode = True
 HERE = os.path.dirname(os.path.abspath(__file__))
 TOP = os.path.join(HERE, "..", "..")
-sys.path.append(os.path.join(TOP, "tests", "audited"))
+sys.path += [os.path.join(TOP, "tests"), os.path.join(TOP, "tests", "audited")]
 import answers
 import random_domains
 from asked import SERVICES
+from ended import status_of
 
 TOOL = os.path.join(TOP, "tools", "mcaudit-page")
 FAULTS = os.path.join(TOP, "examples", "faults")
@@ -393,8 +394,7 @@ def main():
         look_at_tried(check, tool)
         look_at_turned_answers(check, tool)
         look_at_paths(check, tool)
-    print(f"{check.passed} passed, {check.failed} failed")
-    return 1 if check.failed or not check.passed else 0
+    return status_of(check.passed, check.failed)
 
 
 if __name__ == "__main__":

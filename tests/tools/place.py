@@ -12,10 +12,12 @@ import sys
 import tempfile
 import time
 
-import packets as p
-
 HERE = os.path.dirname(os.path.abspath(__file__))
 TOP = os.path.dirname(os.path.dirname(HERE))
+sys.path.append(os.path.join(TOP, "tests"))
+import packets as p  # noqa: E402 pylint: disable=wrong-import-position
+from ended import status_of  # noqa: E402 pylint: disable=wrong-import-position
+
 TOOLS = os.path.join(TOP, "tools")
 NETWORK = os.path.join(TOP, "examples", "network")
 PROGRAM = os.environ.get("PROGRAM", os.path.join(TOP, "crates", "mcaudit", "out", "mcaudit"))
@@ -190,5 +192,4 @@ def run_cases(cases):
         if fault is not None:
             print(f"failed: {function.__name__}: {fault}")
     failed = sum(it is not None for it in faults)
-    print(f"{len(chosen) - failed} passed, {failed} failed")
-    return 1 if failed or not chosen else 0
+    return status_of(len(chosen) - failed, failed)

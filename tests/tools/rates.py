@@ -11,7 +11,8 @@ import sys
 
 sys.dont_write_bytecode = True
 HERE = os.path.dirname(os.path.abspath(__file__))
-sys.path.insert(0, os.path.join(HERE, "..", "..", "tools"))
+sys.path += [os.path.join(HERE, "..", "..", "tools"), os.path.join(HERE, "..")]
+from ended import status_of  # noqa: E402 pylint: disable=wrong-import-position
 from mcaudit_tools.draft.text import shown_rate  # noqa: E402 pylint: disable=wrong-import-position
 
 RATES = (  # packets and bits a second, and their words
@@ -37,8 +38,7 @@ def main():
         if said != words:
             failed += 1
             print(f"failed: {rate} is {said!r}, not {words!r}")
-    print(f"{len(RATES) - failed} passed, {failed} failed")
-    return 1 if failed or not RATES else 0
+    return status_of(len(RATES) - failed, failed)
 
 
 if __name__ == "__main__":

@@ -156,7 +156,7 @@ if [ $# -eq 0 ]; then
     run_apart upgrading make "$python" "$here/upgrading.py"
     run_apart flake8 flake8 flake8 --max-line-length 120 "$tools" "$tools"/mcaudit-* "$here"/hostile.py "$here"/loops.py \
         "$here"/formats.py "$here"/packets.py "$here"/rates.py "$here"/basis.py "$here"/upgrading.py "$here"/commands \
-        "$here"/../cases.py "$here"/../case_files.py "$here"/../prove/run.py "$here"/../prove/rt "$crates"/*.py
+        "$here"/../cases.py "$here"/../case_files.py "$here"/../ended.py "$here"/../prove/run.py "$here"/../prove/rt "$crates"/*.py
     run_apart pylint pylint check_python
     run_apart mypy mypy check_types
     run_apart script node node --check "$tools/mcaudit_tools/page/page.js"

@@ -13,11 +13,12 @@ class Ages:
     """The times of a set's tables and lists, by where its files come from."""
 
     def __init__(self, folder, known, routers=None, lans=None):
-        """Takes the set's folder, which is read at once, what is told of its files, and the names of what is judged;
-        all, where that isn't known."""
+        """Takes the set's folder, which is read at once, what is told of its files, or None where that can't be read,
+        and the names of what is judged; all, where that isn't known."""
         judged, entries = {"vif": routers, "cache": routers, "facts": routers, "igmp": lans}, []
         self.judged = judged  # by kind
         self.files = {kind: [] for kind in judged}  # of each kind, whose file it is, and where it comes from
+        self.is_told, known = known is not None, known or {}
         with contextlib.suppress(OSError):
             is_copied = origins.is_copy(folder, known)
             entries = sorted(os.scandir(folder), key=lambda it: it.name)
@@ -31,7 +32,7 @@ class Ages:
     def of_set(cls, folder, named, routers, lans):
         """Returns the ages of a set that has this name. Where its collected.json can't be read that is told, and each
         file is as old as itself."""
-        known = {}
+        known = None
         try:
             known = origins.read(folder, named)
         except Failed as fault:
@@ -63,6 +64,10 @@ class Ages:
     def decided(self):
         """Returns the LANs whose lists an operator decided."""
         return sorted({name for name, it in self.files["igmp"] if it.by == origins.STATIC})
+
+    def by_hand(self):
+        """Returns the LANs whose lists were written by hand; none, where it can't be read who wrote them."""
+        return sorted({name for name, it in self.files["igmp"] if it.by == origins.OPERATOR and self.is_told})
 
     def believed(self):
         """Returns the LANs whose lists a daemon or a bridge of a router believes."""

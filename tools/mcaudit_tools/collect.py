@@ -239,7 +239,7 @@ def main():
     words.site.check(words.adopt)
     with words.site.scratch() as scratch:
         if words.adopt:
-            words.site.adopt()
+            words.site.adopt(scratch)
         if not words.all:
             return 0
         listed = topology.read_topology(words.site.folder(), words.site.path) if words.from_daemon else None

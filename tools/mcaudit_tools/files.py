@@ -11,6 +11,7 @@ from mcaudit_tools.common import Failed
 
 PIECE = 65536  # bytes that are read at a time
 MOST_DIGITS = 20  # of a number of JSON
+AT_FDCWD, RENAME_EXCHANGE = -100, 2  # of the call of Linux that exchanges
 
 
 @contextlib.contextmanager
@@ -73,6 +74,24 @@ def sync_folder(path):
         except OSError as fault:
             if fault.errno != errno.EINVAL:  # of a file system that has no such call
                 raise
+
+
+def replace_link(path, target, made):
+    """Has a link lead to a target, by a new link that is made at another path of the same disk: to the old or to the
+    new target at each moment."""
+    os.symlink(target, made)
+    os.replace(made, path)
+
+
+def exchange_names(one, other):
+    """Exchanges what two paths name, in one step. Returns whether that was done: older kernels and C libraries can't,
+    and neither can some file systems."""
+    import ctypes  # pylint: disable=import-outside-toplevel
+    try:
+        call = ctypes.CDLL(None).renameat2
+    except (OSError, AttributeError):
+        return False
+    return call(AT_FDCWD, os.fsencode(one), AT_FDCWD, os.fsencode(other), RENAME_EXCHANGE) == 0
 
 
 def sync_files(folder):

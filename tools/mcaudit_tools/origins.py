@@ -21,6 +21,7 @@ OLD_TIME = re.compile(r"\d{4}-\d\d-\d\dT\d\d:\d\d:\d\dZ", re.ASCII)  # as versio
 AHEAD = 60  # seconds that a time may be later than now
 CHANGED = 2  # seconds that a file may be newer than its time says
 COLLECT, CAPTURE, STATIC, OPERATOR = "collect", "capture", "static", "operator"
+UNKNOWN = "unknown"  # of lists of version 1, which doesn't say whether they were gathered or written by hand
 DAEMON, BRIDGE = "daemon", "bridge"  # of lists that a router's routing daemon or its bridge believes
 NOT_ASKED = "hosts"  # unchecked of a list that is empty because no router asks the hosts of its LAN
 
@@ -56,7 +57,8 @@ def old_origin(name, text):
     """Returns what version 1 says of a file."""
     when = calendar.timegm(time.strptime(text, "%Y-%m-%dT%H:%M:%SZ"))
     prefix = next((it for it in TABLES if name.startswith(it)), None)
-    return Origin(COLLECT if prefix else OPERATOR, name[len(prefix):] if prefix else None, when, is_timed=False)
+    by = COLLECT if prefix else UNKNOWN if name.startswith("igmp-") else OPERATOR
+    return Origin(by, name[len(prefix):] if prefix else None, when, is_timed=False)
 
 
 def is_file_name(name):

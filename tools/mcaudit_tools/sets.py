@@ -14,8 +14,9 @@ import tempfile
 import time
 
 from mcaudit_tools import late, locks, origins
+from mcaudit_tools.adopt import Adoption
 from mcaudit_tools.common import Failed, Wrong, say
-from mcaudit_tools.files import copy, copy_file, failing, open_folder, sync_files, sync_folder, write_beside
+from mcaudit_tools.files import copy, failing, open_folder, replace_link, sync_files, sync_folder, write_beside
 from mcaudit_tools.programs import RUNNING
 
 SCRATCH = ".reading."  # what the folders are called in which sets are made
@@ -102,8 +103,12 @@ class Site:
                     shutil.rmtree(entry.path, ignore_errors=True)
 
     def clear_links(self):
-        """Removes what a run that was killed as it swapped left beside SITE: a folder with a link in it, or with
-        nothing. The lock is held, so no live run has one."""
+        """Removes what a run that was killed as it swapped left: beside SITE a folder with a link in it, or with
+        nothing, and among the sets a link in a set's place. The lock is held, so no live run has one."""
+        for entry in list(os.scandir(self.sets)):
+            if SET_NAME.fullmatch(entry.name) and entry.is_symlink() and os.readlink(
+                    entry.path) == self.target_of(entry.path):
+                os.unlink(entry.path)
         folder, own = os.path.split(self.path)
         left = re.compile(re.escape(f".{own[:80]}.") + "[a-z0-9_]{8}")
         for entry in list(os.scandir(folder)):
@@ -113,53 +118,15 @@ class Site:
                         os.unlink(os.path.join(entry.path, "link"))
                     os.rmdir(entry.path)
 
-    def adopt(self):
-        """Makes a plain folder the first set. Where the sets are on another disk it is copied there."""
+    def adopt(self, scratch):
+        """Makes a plain folder the first set. In the scratch folder it is made where it has to be copied."""
         with self.writing(), RUNNING.unheeded():
             if os.path.islink(self.path) or not os.path.isdir(self.path):
                 self.check(True)
                 return
-            folder = self.free_folder()
-            moved = moved_links(self.path, folder)
+            adoption = Adoption(self, self.free_folder(), scratch)
             with self.failing():
-                if os.stat(self.path).st_dev == os.stat(self.sets).st_dev:
-                    self.adopt_by_rename(folder, moved)
-                else:
-                    self.adopt_by_copy(folder, moved)
-
-    def adopt_by_rename(self, folder, moved):
-        """Moves the plain folder among the sets; where anything fails it is as it was."""
-        os.rename(self.path, folder)
-        try:
-            for name, (_, target) in moved.items():
-                replace_link(os.path.join(folder, name), target)
-            self.lead_to(os.path.basename(folder))
-        except BaseException:
-            for name, (target, _) in moved.items():
-                replace_link(os.path.join(folder, name), target)
-            os.rename(folder, self.path)
-            raise
-
-    def adopt_by_copy(self, folder, moved):
-        """Copies the plain folder among the sets, and puts the link in its place; it stays beside SITE until then."""
-        aside = tempfile.mkdtemp(prefix=f".{os.path.basename(self.path)[:80]}.", dir=os.path.dirname(self.path))
-        try:
-            shutil.copytree(self.path, folder, symlinks=True, copy_function=copy_file)
-            for name, (_, target) in moved.items():
-                replace_link(os.path.join(folder, name), target)
-            sync_files(folder)
-            os.rename(self.path, os.path.join(aside, "folder"))
-            try:
-                self.lead_to(os.path.basename(folder))
-            except BaseException:
-                os.rename(os.path.join(aside, "folder"), self.path)
-                raise
-        except BaseException:
-            shutil.rmtree(folder, ignore_errors=True)
-            raise
-        finally:
-            if os.path.isdir(self.path):
-                shutil.rmtree(aside, ignore_errors=True)
+                adoption.run()
 
     def free_folder(self):
         """Returns the path of a new set, whose name is the time."""
@@ -172,7 +139,7 @@ class Site:
     def lead_to(self, name):
         """Makes the site a link to the set of this name; where that doesn't come to the disk, the site is as it was."""
         before = os.readlink(self.path) if os.path.islink(self.path) else None
-        self.link_to(os.path.join(os.path.basename(self.sets), name))
+        self.link_to(self.target_of(name))
         try:
             sync_folder(os.path.dirname(self.path))
         except BaseException:
@@ -182,14 +149,16 @@ class Site:
                 self.link_to(before)
             raise
 
+    def target_of(self, folder):
+        """Returns where a link to a set leads, which has this path or name."""
+        return os.path.join(os.path.basename(self.sets), os.path.basename(folder))
+
     def link_to(self, target):
         """Makes the site a link that leads there. The new link is made beside SITE, on its disk."""
         folder, own = os.path.split(self.path)
         made = tempfile.mkdtemp(prefix=f".{own[:80]}.", dir=folder)
         try:
-            link = os.path.join(made, "link")
-            os.symlink(target, link)
-            os.replace(link, self.path)
+            replace_link(self.path, target, os.path.join(made, "link"))
         finally:
             shutil.rmtree(made, ignore_errors=True)
 
@@ -276,27 +245,6 @@ def is_young(path):
 def is_left_out(name):
     """Whether a file of a set is never taken into the next one."""
     return name.startswith(".") or name in NOT_CARRIED
-
-
-def moved_links(folder, place):
-    """Returns the old and the new target of each relative link in the folder, which is to lead from another place to
-    where it leads."""
-    found = {}
-    at = os.path.join(os.path.realpath(os.path.dirname(place)), os.path.basename(place))
-    for entry in os.scandir(folder):
-        if entry.is_symlink():
-            if not os.path.exists(entry.path):
-                raise Failed(f"{entry.path} leads nowhere")
-            target = os.readlink(entry.path)
-            if not os.path.isabs(target):
-                found[entry.name] = target, os.path.relpath(os.path.join(os.path.realpath(folder), target), at)
-    return found
-
-
-def replace_link(path, target):
-    """Makes the link lead to another target."""
-    os.unlink(path)
-    os.symlink(target, path)
 
 
 def site_of(folder):

@@ -141,7 +141,7 @@ class Run:
             raise Failed(f"mcaudit printed another verdict than that of its status {status}")
         self.read_origins()
         self.check_routers()
-        self.known_ages = Ages(self.folder, self.origins, self.judged.routers, self.judged.lans)
+        self.known_ages = self.ages_in(self.folder, self.judged.routers, self.judged.lans)
         self.check_folder()
 
     def check_folder(self):
@@ -275,7 +275,11 @@ class Run:
 
     def ages(self):
         """Returns how old the files of the set that was judged are, or of what the site has."""
-        return self.known_ages or Ages(self.folder or os.path.realpath(self.site), self.origins)
+        return self.known_ages or self.ages_in(self.folder or os.path.realpath(self.site))
+
+    def ages_in(self, folder, *judged):
+        """Returns how old the files of a set are, of all or of what is judged."""
+        return Ages(folder, None if self.origins_fault else self.origins, *judged)
 
 
 @contextlib.contextmanager

@@ -5,8 +5,8 @@ from mcaudit_tools.ages import LATER, age_of
 from mcaudit_tools.common import CUT, clean, cut
 
 MOST_LETTERS = 300  # of what a plugin says, beside what that rests on
-MOST_PART = 90  # letters of each part of what the verdict rests on
-MOST_PARTS = 250  # letters of all of them
+MOST_PART = 150  # letters of each part of what the verdict rests on
+MOST_PARTS = 350  # letters of all of them
 WORDS = "OK", "WARNING", "CRITICAL", "UNKNOWN"  # of a plugin's statuses
 
 

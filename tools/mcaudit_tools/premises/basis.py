@@ -21,13 +21,23 @@ def span_text(ages):
     return oldest if is_one else f"{youngest} to {oldest}"
 
 
-def ages_of_kind(name, times, unknown, now):
-    """Yields how old the tables, the lists or the facts with these times are, and which of them have no age."""
-    known = [age_of(when, now) for when in times.values() if when != LATER]
+def lans_text(lans):
+    """Returns how many LANs these are."""
+    return f"{len(lans)} LAN{'s' * (len(lans) != 1)}"
+
+
+def ages_of_kind(name, times, unknown, by_hand, now):
+    """Yields how old the tables, the lists or the facts with these times are, which of them have no age, and which
+    lists nobody gathered, since they were written by hand."""
+    known = {it: age_of(when, now) for it, when in times.items() if when != LATER}
     later = [it for it, when in times.items() if when == LATER]
-    count = f" of {len(known)} LAN{'s' * (len(known) != 1)}" if name == "lists" else ""
-    if known:
-        yield f"{name}{count} {span_text(known)} old"
+    gathered, written = ([it for it in known if (it in by_hand) == is_by_hand] for is_by_hand in (False, True))
+    if gathered:
+        count = f" of {lans_text(gathered)}" if name == "lists" else ""
+        yield f"{name}{count} {span_text([known[it] for it in gathered])} old"
+    if written:
+        span = span_text([known[it] for it in written])
+        yield f"{name} of {lans_text(written)} written by hand {span} ago: {some(written)}"
     if later:
         yield f"{name} of {some(later)} of a later time than now"
     if unknown:
@@ -37,9 +47,10 @@ def ages_of_kind(name, times, unknown, now):
 def ages_of(ages):
     """Returns how old what is judged is, and for which lists no host was asked."""
     now, found = time.time(), []
-    for name, times, unknown in (("tables", ages.tables(), ages.unknown("vif", "cache")),
-                                 ("lists", ages.reports(), ages.unknown("igmp")), ("facts", ages.facts(), [])):
-        found += ages_of_kind(name, times, unknown, now)
+    for name, times, unknown, by_hand in (("tables", ages.tables(), ages.unknown("vif", "cache"), []),
+                                          ("lists", ages.reports(), ages.unknown("igmp"), ages.by_hand()),
+                                          ("facts", ages.facts(), [], [])):
+        found += ages_of_kind(name, times, unknown, by_hand, now)
     for what, names in (("decided, not gathered", ages.decided()), ("as routers believe", ages.believed()),
                         ("empty since no router there asks hosts", ages.not_asked())):
         found += [f"{what}: {some(names)}"] if names else []

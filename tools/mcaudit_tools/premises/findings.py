@@ -36,6 +36,14 @@ def grouped(findings):
         yield it, list(flows)
 
 
+def place_of(it, flows, routers):
+    """Returns where something was found: of which flows, and on which router."""
+    if not flows:
+        return some(routers)
+    more = f" and {len(flows) - 1} more" if len(flows) > 1 else ""
+    return f"flow {flows[0][0]} {flows[0][1]}{more}: {it.router}"
+
+
 def counts_of(findings):
     """Returns how many different things were found, by word."""
     counts = dict.fromkeys(WORDS, 0)

@@ -63,11 +63,18 @@ class RouterJudge:
                 self.add(ROUTER, [(NOT_KNOWN, "facts: their byte order is not that of the tables", "")], flow)
         self.add(netfilter.KIND, self.filters.faults_found())
         self.add("igmp", self.judge_igmp())
-        for name, kind in DAEMONS.items():
-            reason = self.facts.fault(name) or "it is not such JSON"
-            if self.facts.is_asked(name) and not isinstance(self.facts.json(name), dict):
-                self.add(kind, [(NOT_KNOWN, f"what its FRR says about {kind}: {reason}", "")])
+        for reason, kinds in self.unanswered().items():
+            kind = kinds[0] if len(kinds) == 1 else "FRR"
+            self.add(kind, [(NOT_KNOWN, f"what its FRR says about {' and '.join(kinds)}: {reason}", "")])
         return self.found
+
+    def unanswered(self):
+        """Returns what FRR was asked and didn't answer, by the reason: where no daemon runs that is one for all."""
+        found = {}
+        for name, kind in DAEMONS.items():
+            if self.facts.is_asked(name) and not isinstance(self.facts.json(name), dict):
+                found.setdefault(self.facts.fault(name) or "it is not such JSON", []).append(kind)
+        return found
 
     def add_known(self, kind, key, judge, flow=None):
         """Adds what was found of one kind, which is judged once for each key."""

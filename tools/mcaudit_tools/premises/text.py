@@ -3,7 +3,7 @@ import json
 
 from mcaudit_tools.common import clean
 from mcaudit_tools.premises import basis
-from mcaudit_tools.premises.findings import BAD, MAY_DROP, counts_of, grouped, some
+from mcaudit_tools.premises.findings import BAD, MAY_DROP, counts_of, grouped, place_of
 from mcaudit_tools.premises.judge import ROUTER, looked_at
 
 MOST_LINES = 200  # for people; --json has all
@@ -16,14 +16,6 @@ def together(findings):
         key = it.text if it.kind == ROUTER and not flows else number
         found.setdefault(key, (it, flows, []))[2].append(it.router)
     return list(found.values())
-
-
-def place_of(it, flows, routers):
-    """Returns where something was found: of which flows, and on which router."""
-    if not flows:
-        return some(routers)
-    more = f" and {len(flows) - 1} more" if len(flows) > 1 else ""
-    return f"flow {flows[0][0]} {flows[0][1]}{more}: {it.router}"
 
 
 def lines_of(findings):

@@ -7,7 +7,7 @@ Whatever a router took in between its rounds 1 and 2, the one that it feeds must
 import dataclasses
 
 from mcaudit_tools.premises import places
-from mcaudit_tools.premises.findings import LOST, MORE, NONE_COMES, STRANGERS, Finding
+from mcaudit_tools.premises.findings import LOST, MORE, NONE_COMES, STRANGERS, Finding, grouped, place_of
 
 KIND = "packets"
 ROUNDS = 4
@@ -41,6 +41,13 @@ class Counters:
         """Returns of how many flows something was found."""
         return len({it.flow for it in self.findings if it.flow is not None})
 
+    def first(self):
+        """Returns what was found of a flow, the first in the order in which all is printed, and of how many more flows
+        something was found."""
+        it, flows = next(grouped(it for it in self.findings if it.flow is not None))
+        more = self.found() - 1
+        return f"{it.word}: {place_of(it, flows[:1], [])}" + (f", and {more} more" if more else "")
+
     def not_judged(self):
         """Returns of how many flows they say nothing."""
         return self.flows - self.come - self.found()
@@ -49,10 +56,11 @@ class Counters:
         """Returns what they say, in one line."""
         if self.reason or not self.flows:
             return f"packets: not looked at ({self.reason or 'no flow is right'})"
-        found, unjudged = self.found(), len({flow for flow, _, _ in self.unjudged})
-        parts = [f"packets flow on {self.come} of {self.flows} flows", *(f"{name} {count}" for name, count in (
-            ("idle", self.idle), ("with a finding", found), ("not judged everywhere", unjudged)) if count)]
-        return ", ".join(parts)
+        parts = [f"packets flow on {self.come} of {self.flows} flows"]
+        parts += [f"idle {self.idle}"] if self.idle else []
+        parts += [f"with a finding {self.found()} ({self.first()})"] if self.found() else []
+        unjudged = len({flow for flow, _, _ in self.unjudged})
+        return ", ".join(parts + ([f"not judged everywhere {unjudged}"] if unjudged else []))
 
     def details(self):
         """Returns in which time that was, and what could be seen in it, as lines."""

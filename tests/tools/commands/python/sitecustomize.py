@@ -3,9 +3,10 @@
 With the file sync.fails nothing can be put on the disk; with sync.forgets only the first line of a file is there then.
 With tables.limit a router's tables can be written into files of only so many blocks, as where the disk is full once an
 answer is there. Where the file mv.fails has the last name of what something is renamed to, that fails once; where
-mv.term has it, the tool gets a TERM just before.
+mv.term has it, the tool gets a TERM just before. With exchange.none no two names can be exchanged in one step.
 """
 import builtins
+import ctypes
 import errno
 import os
 import resource
@@ -57,5 +58,12 @@ def moving_by(move):
     return moved
 
 
+def without_a_library(*_, **__):
+    """Has none of the calls that Python doesn't have by itself."""
+    raise OSError(errno.ENOSYS, os.strerror(errno.ENOSYS))
+
+
+if os.path.exists(os.path.join(HERE, "exchange.none")):
+    ctypes.CDLL = without_a_library
 os.fsync, os.rename, os.replace = fsync, moving_by(RENAME), moving_by(REPLACE)
 builtins.open = open_limited

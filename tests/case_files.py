@@ -35,7 +35,8 @@ Of tools:
   times                       when files there were written, lines `NAME YYYYMMDDhhmm`, in UTC
   before/, plain/             the files of the set to which the link `site` leads at first; or of a plain folder `site`
   after/                      for collect and monitor the expected files of the new set (without it, `site` must not
-                              change), for draft and site those of disk/site, for other tools those of disk
+                              change), for draft and site those of disk/site, for other tools those of disk; the text
+                              of a link is `link to TARGET`
   sets                        the expected number of sets, if not one for before/ and one for after/
   left/, gone                 expected files in the working folder; names that must not exist there
   ssh.words                   the expected arguments of ssh, a line for each call, sorted
@@ -61,7 +62,7 @@ CLI = BOTH | {"folder/", "folder.sh", "stdin.pipe", "stdin.path", "stdout.path",
 TOOLS = BOTH | {"place/", "routers/", "times", "before/", "plain/", "after/", "sets", "left/", "gone", "ssh.words",
                 "any.order", "output", "path", "limit", "umask", "term", "disk.size", "disk.filled"}
 TIMES = [(re.compile(pattern, re.M), instead) for pattern, instead in (
-    (rb"[0-9]+ (?:s|min|h|days)(?= old| ago| to [0-9]+ [a-z]+ old)", rb"N s"),
+    (rb"[0-9]+ (?:s|min|h|days)(?= old| ago| to [0-9]+ [a-z]+ (?:old|ago))", rb"N s"),
     (rb'"time":[0-9]+', rb'"time":TIME'), (rb"[0-9]{8}T[0-9]{6}Z", rb"TIME"),
     (rb'"[-0-9]{10}T[:0-9]{8}Z"', rb'"TIME"'), (rb"[0-9][0-9.]* packets/s", rb"N packets/s"),
     (rb"[0-9][0-9.]* [kM]?bit/s", rb"N bit/s"), (rb"^(mcaudit_[a-z_]*_seconds.* )[0-9]*$", rb"\1TIME"),

@@ -30,6 +30,7 @@ import time
 
 sys.dont_write_bytecode = True
 from case_files import CLI, TOOLS, TOP, Fault, lines_of, load_known  # noqa: E402
+from ended import status_of  # noqa: E402
 from case_files import make_links, read, value_of, without_times, write, write_folder  # noqa: E402
 
 PROGRAM = os.environ.get("PROGRAM", f"{TOP}/crates/mcaudit/out/mcaudit")
@@ -115,6 +116,17 @@ def run_cli(path, program, room):
     yield from output_differences(texts, "stderr", read(f"{room}/stderr"))
 
 
+def text_in(path):
+    """Returns the text of what lies in a folder that is compared: of a link where it leads, which may have no end, as
+    may what is no regular file."""
+    kind = os.lstat(path).st_mode
+    if stat.S_ISLNK(kind):
+        return f"link to {os.readlink(path)}\n".encode()
+    if not stat.S_ISREG(kind):
+        raise Fault(f"{path} is not a regular file")
+    return read(path)
+
+
 def folder_differences(texts, name, folder, is_new=False):
     """Yields a line for each difference between a folder and the sections under a name. In a new one, times are
     replaced, and locks and the notes on the set before are left out."""
@@ -122,12 +134,13 @@ def folder_differences(texts, name, folder, is_new=False):
     for it in list(wanted):
         wanted.update({it[:at.start()] + "/": b"" for at in re.finditer("/", it)})
     found = {}
-    for root, folders, files in os.walk(folder, followlinks=True):
+    for root, folders, files in os.walk(folder):
         inside = os.path.relpath(root, folder) + "/" if root != folder else ""
-        found.update({f"{inside}{it}/": b"" for it in folders})
-        for it in files:
+        links = [it for it in folders if os.path.islink(f"{root}/{it}")]
+        found.update({f"{inside}{it}/": b"" for it in folders if it not in links})
+        for it in files + links:
             if not is_new or not (it.endswith(".write.lock") or it == ".carried"):
-                text = read(f"{root}/{it}")
+                text = text_in(f"{root}/{it}")
                 has_times = is_new and it in ("collected.json", "topology")
                 found[inside + it] = without_times(text) if has_times else text
     for it in sorted(wanted.keys() ^ found.keys()):
@@ -381,8 +394,7 @@ def run_all(runs, jobs, room):
             if future.result():
                 failed += 1
                 print(f"failed: {name}", *future.result(), sep="\n", flush=True)
-    print(f"{len(runs) - failed} passed, {failed} failed")
-    return 1 if failed or not runs else 0
+    return status_of(len(runs) - failed, failed)
 
 
 def cases_of(folder, pattern, wanted):

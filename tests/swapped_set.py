@@ -18,6 +18,8 @@ import sys
 import tempfile
 import time
 
+from ended import status_of
+
 NETWORK = os.path.join(os.path.dirname(os.path.dirname(os.path.abspath(__file__))), "examples/network")
 HELD = "cache-r1"  # the file in whose reading the link changes, which is so long that it takes a while
 # rows of groups that no flow has, with many spaces behind each
@@ -134,8 +136,7 @@ def main():
         if fault:
             failed += 1
             print(f"{case.name}: {fault}")
-    print(f"{len(CASES) - failed} passed, {failed} failed")
-    return 1 if failed else 0
+    return status_of(len(CASES) - failed, failed)
 
 
 if __name__ == "__main__":

@@ -41,141 +41,78 @@ WORDS = {
     "a-source-that-scans-groups": "--unlisted",
 }
 
-# Of each domain its routers, the LANs that want the flow, and what else is not as in most.
+
+def made(**told):
+    """A domain in which r1 forwards the flow from studio onto core, and r2 from there onto hall, but for the routers
+    that are named: the devices of each, and behind a bar its rows, or None where there is no such router. Beside them
+    may be the LANs that want the flow, and what else is not as in most."""
+    routers = {"r1": "eth0=studio eth1=core | eth0 > eth1", "r2": "eth0=core eth1=hall | eth0 > eth1"}
+    routers |= {name: told.pop(name) for name in list(told) if name[0] == "r"}
+    halves = {name: text.split(" | ") for name, text in routers.items() if text is not None}
+    return {"routers": {name: devices for name, (devices, _) in halves.items()},
+            "rows": {name: rows for name, (_, rows) in halves.items()}, **told}
+
+
 DOMAINS = {
-    "duplicate-by-two-routers": {
-        "routers": {"r1": "eth0=studio eth1=core", "r2": "eth0=core eth1=hall", "r3": "eth0=studio eth1=hall"},
-        "rows": {"r1": "eth0 > eth1", "r2": "eth0 > eth1", "r3": "eth0 > eth1"},
-    },
-    "duplicate-by-one-router": {
-        "routers": {"r1": "eth0=studio eth1=core", "r2": "eth0=core eth1=hall eth2=hall"},
-        "rows": {"r1": "eth0 > eth1", "r2": "eth0 > eth1 eth2"},
-    },
-    "loop-of-two-routers": {
-        "routers": {"r1": "eth0=studio eth1=core", "r2": "eth0=core eth1=hall", "r3": "eth0=hall eth1=core"},
-        "rows": {"r1": "eth0 > eth1", "r2": "eth0 > eth1", "r3": "eth0 > eth1"},
-    },
-    "loop-of-three-routers": {
-        "routers": {"r1": "eth0=studio eth1=core", "r2": "eth0=core eth1=hall", "r3": "eth0=hall eth1=annex",
-                    "r4": "eth0=annex eth1=core"},
-        "rows": {"r1": "eth0 > eth1", "r2": "eth0 > eth1", "r3": "eth0 > eth1", "r4": "eth0 > eth1"},
-    },
-    "loop-that-needs-a-ttl": {
-        "routers": {"r1": "eth0=studio eth1=core", "r2": "eth0=core eth1=hall", "r3": "eth0=hall eth1=core"},
-        "rows": {"r1": "eth0 > eth1:16", "r2": "eth0 > eth1", "r3": "eth0 > eth1"},
-    },
-    "stray-to-an-unlisted-device": {
-        "routers": {"r1": "eth0=studio eth1=core eth2", "r2": "eth0=core eth1=hall"},
-        "rows": {"r1": "eth0 > eth1 eth2", "r2": "eth0 > eth1"},
-    },
-    "stray-to-the-register-vif": {
-        "routers": {"r1": "eth0=studio eth1=core pimreg", "r2": "eth0=core eth1=hall"},
-        "rows": {"r1": "eth0 > eth1 pimreg", "r2": "eth0 > eth1"},
-    },
-    "stray-to-a-tunnel": {
-        "routers": {"r1": "eth0=studio eth1=core tun0", "r2": "eth0=core eth1=hall"},
-        "rows": {"r1": "eth0 > eth1 tun0", "r2": "eth0 > eth1"},
-    },
-    "stray-to-a-lost-device": {
-        "routers": {"r1": "eth0=studio eth1=core eth2", "r2": "eth0=core eth1=hall"},
-        "rows": {"r1": "eth0 > eth1 eth2", "r2": "eth0 > eth1"},
-        "gone": {"r1": "eth2"},
-    },
-    "stray-to-a-vif-without-a-line": {
-        "routers": {"r1": "eth0=studio eth1=core eth2", "r2": "eth0=core eth1=hall"},
-        "rows": {"r1": "eth0 > eth1 eth2", "r2": "eth0 > eth1"},
-        "lineless": {"r1": "eth2"},
-    },
-    "stray-into-a-shared-tree": {
-        "routers": {"r1": "eth0=studio eth1=core", "r2": "eth0=core eth1=hall"},
-        "rows": {"r1": "eth0 > eth1", "r2": "*: eth0 > eth1"},
-    },
-    "loop-behind-a-stray": {
-        "routers": {"r1": "eth0=studio eth1=core pimreg", "r2": "eth0=core eth1=hall", "r3": "eth0=hall eth1=core"},
-        "rows": {"r1": "eth0 > eth1 pimreg", "r2": "eth0 > eth1", "r3": "eth0 > eth1"},
-    },
-    "missed-behind-a-stray": {
-        "routers": {"r1": "eth0=studio eth1=core eth2", "r2": "eth0=core eth1=hall"},
-        "rows": {"r1": "eth0 > eth2", "r2": "eth0 > eth1"},
-    },
-    "missed-without-a-row": {
-        "routers": {"r1": "eth0=studio eth1=core", "r2": "eth0=core eth1=hall"},
-        "rows": {"r1": "eth0 > eth1"},
-    },
-    "missed-with-an-unresolved-row": {
-        "routers": {"r1": "eth0=studio eth1=core", "r2": "eth0=core eth1=hall"},
-        "rows": {"r1": "eth0 > eth1", "r2": "eth0 > ?"},
-    },
-    "missed-behind-a-shared-tree": {
-        "routers": {"r1": "eth0=studio eth1=core", "r2": "eth0=core eth1=hall"},
-        "rows": {"r2": "*: eth0 > eth1"},
-    },
-    "missed-by-the-outgoing-list": {
-        "routers": {"r1": "eth0=studio eth1=core", "r2": "eth0=core eth1=hall eth2=annex"},
-        "rows": {"r1": "eth0 > eth1", "r2": "eth0 > eth2"},
-    },
-    "missed-behind-a-silent-lan": {
-        "routers": {"r1": "eth0=studio eth1=core", "r2": "eth0=core eth1=link", "r3": "eth0=link eth1=hall eth2=annex",
-                    "r4": "eth0=link eth1=hall"},
-        "rows": {"r1": "eth0 > eth1", "r3": "eth0 > eth1", "r4": "eth0 > "},
-        "wants": "hall annex",
-    },
-    "missed-by-the-wrong-way": {
-        "routers": {"r1": "eth0=studio eth1=core", "r2": "eth0=core eth1=hall eth2", "r3": "eth0=core eth1=hall",
-                    "r4": "eth0=core eth1=hall pimreg", "r5": "eth0=core eth1=hall tun0", "r6": "eth0=core eth1=hall eth2",
-                    "r7": "eth0=core eth1=hall eth2"},
-        "rows": {"r1": "eth0 > eth1", "r2": "eth2 > eth1", "r3": "eth1 > eth0", "r4": "pimreg > eth1",
-                 "r5": "tun0 > eth1", "r6": "eth2 > eth1", "r7": "eth2 > eth1"},
-        "gone": {"r6": "eth2"}, "lineless": {"r7": "eth2"},
-    },
-    "missed-by-missing-vifs": {
-        "routers": {"r1": "eth0=studio eth1=core", "r2": "eth0=core eth1=hall eth2=annex", "r3": "eth0=core tun0=hall"},
-        "rows": {"r1": "eth0 > eth1", "r2": "eth0 > eth2"},
-        "lineless": {"r2": "eth1"},
-    },
-    "missed-without-a-router": {
-        "routers": {"r1": "eth0=studio eth1=core"},
-        "rows": {"r1": "eth0 > eth1"},
-    },
-    "missed-at-the-greatest-threshold": {
-        "routers": {"r1": "eth0=studio eth1=core", "r2": "eth0=core eth1=hall"},
-        "rows": {"r1": "eth0 > eth1", "r2": "eth0 > eth1:254"},
-    },
-    "missed-by-a-threshold": {
-        "routers": {"r1": "eth0=studio eth1=core", "r2": "eth0=core eth1=hall"},
-        "rows": {"r1": "eth0 > eth1", "r2": "eth0 > eth1:16"},
-    },
-    "nobody-wants-it": {
-        "routers": {"r1": "eth0=studio eth1=core", "r2": "eth0=core eth1=hall"},
-        "rows": {"r1": "eth0 > eth1", "r2": "eth0 > eth1"},
-        "wants": "",
-    },
-    "a-flow-that-is-not-listed": {
-        "routers": {"r1": "eth0=studio eth1=core", "r2": "eth0=core eth1=hall"},
-        "rows": {"r1": "eth0 > eth1 / 10.0.0.6 239.1.2.9: eth0 > eth1", "r2": "eth0 > eth1 / 10.0.0.6 239.1.2.9: eth0 > eth1"},
-    },
-    "a-source-that-scans-groups": {
-        "routers": {"r1": "eth0=studio eth1=core", "r2": "eth0=core eth1=hall"},
-        "rows": {"r1": " / ".join(["eth0 > eth1", *SCANNED]), "r2": " / ".join(["eth0 > eth1", *SCANNED[-3:]])},
-    },
-    "groups-that-no-flow-lists": {
-        "routers": {"r1": "eth0=studio eth1=core", "r2": "eth0=core eth1=hall"},
-        "rows": {"r1": "eth0 > eth1 / 10.0.0.6 239.1.2.8: eth0 > eth1 / 10.0.0.6 239.1.2.7: eth0 > ",
-                 "r2": "eth0 > eth1 / 10.0.0.6 239.1.2.8: eth0 > eth1"},
-        "asks": {"core": [(2, "239.1.2.9", []), (1, GROUP, ["10.0.0.7"]), (2, "239.255.255.250", [])],
-                 "hall": [(2, "239.1.2.7", []), (2, "239.1.2.8", []), (2, "239.1.2.9", []), (2, "232.0.0.9", []),
-                          (2, "239.255.255.250", [])]},
-    },
-    "left-out-router": {
-        "routers": {"r1": "eth0=studio eth1=core", "r2": "eth0=core eth1=link", "r3": "eth0=link eth1=hall"},
-        "rows": {"r1": "eth0 > eth1", "r2": "eth0 > eth1", "r3": "eth0 > eth1"},
-        "wants": "core hall", "missing": ["r2"],
-    },
-    "the-wrong-byte-order": {
-        "routers": {"r1": "eth0=studio eth1=core", "r2": "eth0=core eth1=hall"},
-        "rows": {"r1": "eth0 > eth1", "r2": "eth0 > eth1"},
-        "orders": {"r2": "big"},
-    },
+    "duplicate-by-two-routers": made(r3="eth0=studio eth1=hall | eth0 > eth1"),
+    "duplicate-by-one-router": made(r2="eth0=core eth1=hall eth2=hall | eth0 > eth1 eth2"),
+    "loop-of-two-routers": made(r3="eth0=hall eth1=core | eth0 > eth1"),
+    "loop-of-three-routers": made(r3="eth0=hall eth1=annex | eth0 > eth1", r4="eth0=annex eth1=core | eth0 > eth1"),
+    "loop-that-needs-a-ttl": made(r1="eth0=studio eth1=core | eth0 > eth1:16", r3="eth0=hall eth1=core | eth0 > eth1"),
+    "stray-to-an-unlisted-device": made(r1="eth0=studio eth1=core eth2 | eth0 > eth1 eth2"),
+    "stray-to-the-register-vif": made(r1="eth0=studio eth1=core pimreg | eth0 > eth1 pimreg"),
+    "stray-to-a-tunnel": made(r1="eth0=studio eth1=core tun0 | eth0 > eth1 tun0"),
+    "stray-to-a-lost-device": made(r1="eth0=studio eth1=core eth2 | eth0 > eth1 eth2", gone={"r1": "eth2"}),
+    "stray-to-a-vif-without-a-line": made(r1="eth0=studio eth1=core eth2 | eth0 > eth1 eth2", lineless={"r1": "eth2"}),
+    "stray-into-a-shared-tree": made(r2="eth0=core eth1=hall | *: eth0 > eth1"),
+    "loop-behind-a-stray": made(
+        r1="eth0=studio eth1=core pimreg | eth0 > eth1 pimreg",
+        r3="eth0=hall eth1=core | eth0 > eth1"),
+    "missed-behind-a-stray": made(r1="eth0=studio eth1=core eth2 | eth0 > eth2"),
+    "missed-without-a-row": made(r2="eth0=core eth1=hall | "),
+    "missed-with-an-unresolved-row": made(r2="eth0=core eth1=hall | eth0 > ?"),
+    "missed-behind-a-shared-tree": made(r1="eth0=studio eth1=core | ", r2="eth0=core eth1=hall | *: eth0 > eth1"),
+    "missed-by-the-outgoing-list": made(r2="eth0=core eth1=hall eth2=annex | eth0 > eth2"),
+    "missed-behind-a-silent-lan": made(
+        r2="eth0=core eth1=link | ",
+        r3="eth0=link eth1=hall eth2=annex | eth0 > eth1",
+        r4="eth0=link eth1=hall | eth0 > ",
+        wants="hall annex"),
+    "missed-by-the-wrong-way": made(
+        r2="eth0=core eth1=hall eth2 | eth2 > eth1",
+        r3="eth0=core eth1=hall | eth1 > eth0",
+        r4="eth0=core eth1=hall pimreg | pimreg > eth1",
+        r5="eth0=core eth1=hall tun0 | tun0 > eth1",
+        r6="eth0=core eth1=hall eth2 | eth2 > eth1",
+        r7="eth0=core eth1=hall eth2 | eth2 > eth1",
+        gone={"r6": "eth2"},
+        lineless={"r7": "eth2"}),
+    "missed-by-missing-vifs": made(
+        r2="eth0=core eth1=hall eth2=annex | eth0 > eth2",
+        r3="eth0=core tun0=hall | ",
+        lineless={"r2": "eth1"}),
+    "missed-without-a-router": made(r2=None),
+    "missed-at-the-greatest-threshold": made(r2="eth0=core eth1=hall | eth0 > eth1:254"),
+    "missed-by-a-threshold": made(r2="eth0=core eth1=hall | eth0 > eth1:16"),
+    "nobody-wants-it": made(wants=""),
+    "a-flow-that-is-not-listed": made(
+        r1="eth0=studio eth1=core | eth0 > eth1 / 10.0.0.6 239.1.2.9: eth0 > eth1",
+        r2="eth0=core eth1=hall | eth0 > eth1 / 10.0.0.6 239.1.2.9: eth0 > eth1"),
+    "a-source-that-scans-groups": made(
+        r1=" / ".join(["eth0=studio eth1=core | eth0 > eth1", *SCANNED]),
+        r2=" / ".join(["eth0=core eth1=hall | eth0 > eth1", *SCANNED[-3:]])),
+    "groups-that-no-flow-lists": made(
+        r1="eth0=studio eth1=core | eth0 > eth1 / 10.0.0.6 239.1.2.8: eth0 > eth1 / 10.0.0.6 239.1.2.7: eth0 > ",
+        r2="eth0=core eth1=hall | eth0 > eth1 / 10.0.0.6 239.1.2.8: eth0 > eth1",
+        asks={"core": [(2, "239.1.2.9", []), (1, GROUP, ["10.0.0.7"]), (2, "239.255.255.250", [])],
+              "hall": [(2, "239.1.2.7", []), (2, "239.1.2.8", []), (2, "239.1.2.9", []), (2, "232.0.0.9", []),
+                       (2, "239.255.255.250", [])]}),
+    "left-out-router": made(
+        r2="eth0=core eth1=link | eth0 > eth1",
+        r3="eth0=link eth1=hall | eth0 > eth1",
+        wants="core hall",
+        missing=["r2"]),
+    "the-wrong-byte-order": made(orders={"r2": "big"}),
 }
 
 

@@ -26,6 +26,7 @@ import run
 TOP = os.path.join(os.path.dirname(os.path.abspath(__file__)), "..", "..")
 sys.path.append(f"{TOP}/tests")
 import case_files
+from ended import status_of
 COUNT = 60
 
 
@@ -102,8 +103,7 @@ def main():
             for words in filter(lambda it: "--json" in it, run.WORDS):
                 for text in answers.audit([folder, *run.words_of(words, run.routers_of(folder), number)]).output().splitlines():
                     check.look_at(f"domain {number} {words}", json.loads(text), True)
-    print(f"{check.passed} passed, {check.failed} failed")
-    return 1 if check.failed or not check.passed else 0
+    return status_of(check.passed, check.failed)
 
 
 if __name__ == "__main__":

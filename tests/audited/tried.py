@@ -3,6 +3,9 @@ import os
 import sys
 from concurrent.futures import ThreadPoolExecutor
 
+sys.path.append(os.path.join(os.path.dirname(os.path.abspath(__file__)), ".."))
+from ended import status_of
+
 
 def counts(count):
     """COUNT and FIRST, the numbers that may stand behind the program."""
@@ -27,5 +30,4 @@ def try_all(tries, count, kinds, shower):
     if not kinds <= shown:
         failed += 1
         print(f"no {shower} shows {', '.join(sorted(kinds - shown))}")
-    print(f"{passed} passed, {failed} failed")
-    return 1 if failed or not count else 0
+    return status_of(passed, failed)

@@ -47,6 +47,7 @@ HERE = os.path.dirname(os.path.abspath(__file__))
 sys.path.append(os.path.dirname(HERE))
 import case_files
 import domains
+import ended
 import made
 
 TABLES = f"{HERE}/tables"
@@ -211,8 +212,7 @@ def main():
     with ThreadPoolExecutor(os.cpu_count()) as pool:
         counts = [run_table(program, name, pool) for name in names]
     passed, failed = map(sum, zip(*counts))
-    print(f"{passed} passed, {failed} failed")
-    return 1 if failed or not passed else 0
+    return ended.status_of(passed, failed)
 
 
 if __name__ == "__main__":

@@ -29,7 +29,8 @@ import sys
 import proofs
 
 TOP = os.path.join(os.path.dirname(os.path.abspath(__file__)), "..", "..")
-sys.path.insert(0, os.path.join(TOP, "tests", "house"))
+sys.path[:0] = [os.path.join(TOP, "tests", "house"), os.path.join(TOP, "tests")]
+from ended import status_of  # noqa: E402 pylint: disable=wrong-import-position
 from words import Listed  # noqa: E402 pylint: disable=wrong-import-position
 
 SPAN = re.compile(r"``([^`]+)``|`([^`\n]+)`")
@@ -237,8 +238,7 @@ def main():
         failed += len(wrong)
         for number, name, fault in wrong:
             print(f"{os.path.relpath(path, TOP)}:{number}: {name}: {fault}")
-    print(f"{looked - failed} passed, {failed} failed")
-    return 1 if failed or not looked else 0
+    return status_of(looked - failed, failed)
 
 
 if __name__ == "__main__":

@@ -13,6 +13,9 @@ import re
 import sys
 
 TOP = os.path.join(os.path.dirname(os.path.abspath(__file__)), "..", "..")
+sys.path.append(os.path.join(TOP, "tests"))
+from ended import status_of  # noqa: E402 pylint: disable=wrong-import-position
+
 MOST_WORDS, MOST_LETTERS = 700, 300
 LINK = re.compile(r"\]\(([^)#:\s]*)#([^)\s]+)\)")
 
@@ -71,8 +74,7 @@ def main():
         if not is_well:
             print(f"{path}:{number}: {what}")
     failed = sum(not it[2] for it in seen)
-    print(f"{len(seen) - failed} passed, {failed} failed")
-    return 1 if failed else 0
+    return status_of(len(seen) - failed, failed)
 
 
 if __name__ == "__main__":

@@ -15,6 +15,9 @@ import re
 import sys
 
 TOP = os.path.join(os.path.dirname(os.path.abspath(__file__)), "..", "..")
+sys.path.append(os.path.join(TOP, "tests"))
+from ended import status_of  # noqa: E402 pylint: disable=wrong-import-position
+
 CRATE = re.compile(r"^(mc_\w+):", re.M)
 TYPE = re.compile(r"(?:unsafe )?(?:impl|(pub )?trait)(?:<[^{]*?>)? (?:[\w:<>', ]+ for )?(\w+)")
 CALL = re.compile(r"(pub )?(?:const )?fn (\w+)")
@@ -191,8 +194,7 @@ def main():
             file.write(text)
         return 0
     passed, failed = compare(text)
-    print(f"{passed} passed, {failed} failed")
-    return 1 if failed or not passed else 0
+    return status_of(passed, failed)
 
 
 if __name__ == "__main__":

@@ -22,7 +22,8 @@ import re
 import sys
 
 TOP = os.path.join(os.path.dirname(os.path.abspath(__file__)), "..", "..")
-sys.path.insert(0, os.path.join(TOP, "tests", "house"))
+sys.path[:0] = [os.path.join(TOP, "tests", "house"), os.path.join(TOP, "tests")]
+from ended import status_of  # noqa: E402 pylint: disable=wrong-import-position
 from words import Listed  # noqa: E402 pylint: disable=wrong-import-position
 
 DOCUMENTS = ("*.md", "docs/*.md", "docs/*.1", "docs/audit.schema.json", "bench/*.md", "examples/*/*.md",
@@ -152,8 +153,7 @@ def main():
     counts = [wrong_words(Listed()), long_sentences("docs/PROMISES.md"), repeated_terms("docs/GLOSSARY.md")]
     wrong = [it for _, found in counts for it in found]
     print("".join(f"{it}\n" for it in wrong), end="")
-    print(f"{sum(passed for passed, _ in counts)} passed, {len(wrong)} failed")
-    return 1 if wrong else 0
+    return status_of(sum(passed for passed, _ in counts), len(wrong))
 
 
 if __name__ == "__main__":

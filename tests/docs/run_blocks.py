@@ -20,22 +20,15 @@ import sys
 import tempfile
 
 TOP = os.path.join(os.path.dirname(os.path.abspath(__file__)), "..", "..")
+sys.path.append(os.path.join(TOP, "tests"))
+from blocks import commands_of  # noqa: E402 pylint: disable=wrong-import-position
+from ended import status_of  # noqa: E402 pylint: disable=wrong-import-position
+
 BLOCK = re.compile(r"^```console\n(.*?)^```$", re.M | re.S)
 GUIDE_BLOCK = re.compile(r"^(?:<!-- (site: [\w ]+|needs routers: \w+) -->\n)?```console\n(.*?)^```$", re.M | re.S)
 SITES = os.path.join(TOP, "tests", "docs", "sites")
 MARK = "\x01"
 SECONDS = 120
-
-
-def commands_of(block):
-    """The commands of a block, each with what is shown below it."""
-    commands = []
-    for line in block.splitlines(keepends=True):
-        if line.startswith("$ "):
-            commands.append([line[2:].rstrip("\n"), ""])
-        else:
-            commands[-1][1] += line
-    return [it for it in commands if not it[0].startswith("make")]
 
 
 def run(commands, folder, program):
@@ -47,8 +40,9 @@ def run(commands, folder, program):
     return done.stdout.decode().split(MARK + "\n")[1:]
 
 
-def compare(commands, folder, program):
+def compare(block, folder, program):
     """How many commands of a block write what is shown, and how many don't, which are told."""
+    commands = [it for it in commands_of(block) if not it[0].startswith("make")]
     wrong = 0
     for (command, shown), written in zip(commands, run(commands, folder, program), strict=True):
         if written != shown:
@@ -68,7 +62,7 @@ def compare_examples(program):
         shutil.copytree(os.path.join(TOP, "examples"), folder, dirs_exist_ok=True)
         shutil.copytree(os.path.join(TOP, "examples"), os.path.join(folder, "examples"))
         for block in blocks_of("README.md") + blocks_of("docs/TOUR.md"):
-            yield compare(commands_of(block), folder, program)
+            yield compare(block, folder, program)
 
 
 def compare_guide(program):
@@ -83,15 +77,14 @@ def compare_guide(program):
                 if name != "as above":
                     shutil.rmtree(os.path.join(folder, "site"), ignore_errors=True)
                     shutil.copytree(os.path.join(SITES, name), os.path.join(folder, "site"))
-                yield compare(commands_of(block), folder, program)
+                yield compare(block, folder, program)
 
 
 def main():
     program = os.path.abspath(sys.argv[1])
     counts = [*compare_examples(program), *compare_guide(program)]
     passed, failed = (sum(it[at] for it in counts) for at in (0, 1))
-    print(f"{passed} passed, {failed} failed")
-    return 1 if failed or not passed else 0
+    return status_of(passed, failed)
 
 
 if __name__ == "__main__":

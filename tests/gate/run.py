@@ -39,7 +39,8 @@ import time
 from concurrent.futures import ThreadPoolExecutor
 
 sys.dont_write_bytecode = True
-sys.path.append(os.path.join(os.path.dirname(os.path.abspath(__file__)), "..", "..", "crates"))
+sys.path += [os.path.join(os.path.dirname(os.path.abspath(__file__)), "..", *it) for it in (("..", "crates"), ())]
+from ended import status_of
 from prove import CORES, checks_at_once, free_memory
 
 MARK = "MCAUDIT_GATE"
@@ -302,8 +303,7 @@ def main():
     if len(sys.argv) > 1:
         with open(sys.argv[1], "w", encoding="utf-8") as file:
             file.write(page)
-    print(f"{gate.passed} passed, {gate.failed} failed")
-    return 1 if gate.failed or not gate.passed else 0
+    return status_of(gate.passed, gate.failed)
 
 
 if __name__ == "__main__":

@@ -29,6 +29,7 @@ import answers
 import large
 from browser import Page
 from case_files import text_at
+from ended import status_of
 from page import FAULTS, HOSTILE, TOOL, WORDS, turned
 
 LIMIT = 2.0  # seconds until a page of the most flows can be used
@@ -287,8 +288,7 @@ def main():
             look(check, browser)
         if len(sys.argv) > 1:
             take_pictures(check, browser, sys.argv[1])
-    print(f"{check.passed} passed, {check.failed} failed")
-    return 1 if check.failed or not check.passed else 0
+    return status_of(check.passed, check.failed)
 
 
 if __name__ == "__main__":

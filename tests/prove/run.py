@@ -20,9 +20,10 @@ from unittest import mock
 sys.dont_write_bytecode = True
 HERE = os.path.dirname(os.path.abspath(__file__))
 TOP = os.path.dirname(os.path.dirname(HERE))
-sys.path.append(f"{TOP}/crates")
+sys.path += [f"{TOP}/crates", f"{TOP}/tests"]
 import beside as beside_others  # noqa: E402 pylint: disable=wrong-import-position
 import prove  # noqa: E402 pylint: disable=wrong-import-position
+from ended import status_of  # noqa: E402 pylint: disable=wrong-import-position
 
 PATIENCE = 60  # seconds that anything may take
 QUICK = 10  # seconds that nothing to do may take, of which it needs less than one where nothing else runs
@@ -332,8 +333,7 @@ def main():
             except (AssertionError, OSError, LookupError, ValueError, subprocess.SubprocessError):
                 failed += 1
                 print(f"failed: {function.__name__}\n{traceback.format_exc()}")
-    print(f"{passed} passed, {failed} failed")
-    return 1 if failed or not passed else 0
+    return status_of(passed, failed)
 
 
 if __name__ == "__main__":

@@ -35,6 +35,7 @@ TOP = os.path.dirname(os.path.dirname(os.path.dirname(os.path.abspath(__file__))
 sys.dont_write_bytecode = True
 sys.path += [f"{TOP}/tests", f"{TOP}/tests/cli"]
 import case_files
+from ended import status_of
 from made import alone
 
 PIECES = (1, 2, 3, 7, 64, 4096)
@@ -244,8 +245,7 @@ def main():
             if not tried.growths:
                 counts[False] += 1
                 print(f"{tried.whole[1]}: no request for memory was seen")
-    print(f"{counts[True]} passed, {counts[False]} failed")
-    return 1 if counts[False] or not counts[True] else 0
+    return status_of(counts[True], counts[False])
 
 
 if __name__ == "__main__":

@@ -27,7 +27,8 @@ def laid_out(room, crate):
                           stderr=subprocess.STDOUT, text=True, errors="replace", check=False)
     if done.returncode:
         return [f"crates/{crate}: rt fmt ends with status {done.returncode}: {done.stdout.strip()}"]
-    sources = [os.path.relpath(it, room) for it in sorted(glob.glob(f"{folder}/src/**/*.rt", recursive=True))]
+    sources = [os.path.relpath(it, room) for ending in ("rt", "antt")
+               for it in sorted(glob.glob(f"{folder}/*/**/*.{ending}", recursive=True))]
     changed = [it for it in sources if not filecmp.cmp(os.path.join(room, it), os.path.join(TOP, it), shallow=False)]
     if not sources:
         return [f"crates/{crate}: no source"]

@@ -19,7 +19,8 @@ use Rattle.mc_filter.specs.SourceFilter.{has}
 use Rattle.mc_filter.proofs.AscendingLemmas.{Decides-has}
 use Rattle.mc_filter.proofs.MergedLemmas.{Decides-wanted}
 use Rattle.mc_asked.specs.Indexes.{AreFlowsWanted, IsIndexOfExcludes, IsIndexOfPairs, IsIndexOfGroups}
-use Rattle.mc_asked.specs.Indexes.{IsIndexOfWantedGroups, is_wanted_group}
+use Rattle.mc_filter.specs.ChannelWants.{is_wanted_group}
+use Rattle.mc_asked.specs.Indexes.{IsIndexOfWantedGroups}
 use Rattle.mc_asked.specs.Answers.{AnswersValue, is_answer, is_answered}
 use Rattle.mc_asked.specs.ListWants.{Want}
 

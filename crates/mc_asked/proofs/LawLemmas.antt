@@ -146,7 +146,7 @@ in-wants_in-any records g forwarded = (
 )
 
 -- a host can't send from 0.0.0.0
-not_any : (s : ℕ) → is_source s ≡ true → (s == 0) ≡ false
+pub not_any : (s : ℕ) → is_source s ≡ true → (s == 0) ≡ false
 not_any s is = ne_eqb s 0 (λ e. absurd (true≢false (sym is ∙ ap is_source e)))
 
 -- without one, each source that a record admits is a want

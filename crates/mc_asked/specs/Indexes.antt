@@ -12,7 +12,8 @@ use Rattle.mc_asked.specs.Answers.{AnswersValue, class_of}
 use Rattle.mc_asked.specs.LanWants.{is_asked_class, is_service_class}
 use Rattle.mc_asked.specs.ListWants.{Want, any_source}
 use Rattle.mc_filter.specs.ChannelPlaces.{IsWantedAnswer}
-use Rattle.mc_filter.specs.FilterBuilding.{has_exclude, wanted}
+use Rattle.mc_filter.specs.ChannelWants.{is_wanted_group}
+use Rattle.mc_filter.specs.FilterBuilding.{has_exclude}
 
 -- the index has the groups for which a record is an EXCLUDE record
 abbrev pub IsIndexOfExcludes : List Record → List ℕ → Type 0
@@ -30,10 +31,6 @@ AreFlowsWanted flows records answers =
     slice_get answers i ≡ Some is_wanted → IsWantedAnswer records flow is_wanted
 
 -- the index has the groups of the flows, each a source and a group, that the records want
-abbrev pub is_wanted_group : (flows : List (ℕ × ℕ)) → List Record → ℕ → Bool
-is_wanted_group flows records group =
-    list_any (λ flow. (flow.1 == group) && wanted records group flow.0) flows
-
 abbrev pub IsIndexOfWantedGroups : (flows : List (ℕ × ℕ)) → List Record → List ℕ → Type 0
 IsIndexOfWantedGroups flows records index =
     (group : ℕ) → Contains index group ↔ IsTrue (is_wanted_group flows records group)

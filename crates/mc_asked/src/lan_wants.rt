@@ -1,6 +1,7 @@
 //! The wants of a LAN's list, reduced to what is said of them.
 
-ghost use Rattle.std.specs.Prelude.{◌≡◌, ◌∷◌, ◌++◌, [], List, IfOk, OnOk, length, nat_eq};
+ghost use Rattle.std.specs.Prelude.{◌≡◌, ◌∷◌, ◌++◌, [], List, IfOk, OnOk, false, length, nat_eq};
+ghost use Rattle.mc_filter.specs.ChannelWants.{AreAllAskedFor};
 ghost use Rattle.mc_igmp.specs.declared.record.Record.{Record};
 ghost use Rattle.mc_asked.specs.Indexes.{AreFlowsWanted, IsClassified, IsIndexOfWantedGroups};
 ghost use Rattle.std.specs.List.Sorted.{IsStrictlySortedBy};
@@ -14,6 +15,7 @@ ghost use Rattle.mc_asked.specs.LanWants.{is_asked_class, is_service_class, kept
 use crate::answers::WantAnswers;
 use crate::want_class::WantClass;
 use crate::wants::{asked_in, group_number, wants_among};
+use mc_filter::ChannelWants;
 use mc_igmp::ReportList;
 use mc_text::{Addr, Index, Memory};
 use mc_topology::LanNo;
@@ -149,10 +151,7 @@ fn classify(
         IsIndexOfWantedGroups answers.now.flows records wanted_groups.now →
         IsClassified answers.now lan records wants.now classified) }
 {
-    let mut classified = ClassifiedWants {
-        asked: Vec::new(alloc),
-        services: Vec::new(alloc),
-    };
+    let mut classified = ClassifiedWants::none(alloc);
     for want in wants {
         let class = answers.class_of(lan, wanted_groups, want);
         classified.add(class, want)?;
@@ -182,6 +181,17 @@ fn without_repeats(mut groups: Vec<Addr>) -> Vec<Addr>
 }
 
 impl ClassifiedWants {
+    /// None of any class.
+    fn none(alloc: Global) -> ClassifiedWants
+        ensures asked { result.asked.items ≡ [] }
+        ensures services { result.services.items ≡ [] }
+    {
+        ClassifiedWants {
+            asked: Vec::new(alloc),
+            services: Vec::new(alloc),
+        }
+    }
+
     /// Adds a want of this class.
     fn add(&mut self, class: WantClass, want: &(Addr, Addr)) -> Result<(), AllocError>
         ensures asked { OnOk result (self.new.asked.items
@@ -213,9 +223,9 @@ impl ClassifiedWants {
 }
 
 impl WantAnswers {
-    /// What is kept of the wants of a LAN's list, all or the lowest. `wanted` says of each flow whether
-    /// the list wants it. The time is in proportion to the records and sources, and to n log n for n of
-    /// them that no flow answers.
+    /// What is kept of the wants of a LAN's list, all or the lowest. `wants` says of each flow whether the
+    /// list wants it, and whether it may ask for something else; if not, the list isn't read. The time is
+    /// in proportion to the records and sources, and to n log n for n of them that no flow answers.
     ///
     /// # Errors
     ///
@@ -225,14 +235,18 @@ impl WantAnswers {
         alloc: Global,
         lan: LanNo,
         list: &ReportList,
-        wanted: &[bool],
+        wants: &ChannelWants,
         all: bool,
     ) -> Result<LanWants, Memory>
-        requires count { length wanted.now ≡ length self.now.flows }
-        requires each { AreFlowsWanted self.now.flows list.now wanted.now }
+        requires count { length wants.now.wanted.items ≡ length self.now.flows }
+        requires each { AreFlowsWanted self.now.flows list.now wants.now.wanted.items }
+        requires all { wants.now.asks_more ≡ false → AreAllAskedFor self.now.flows list.now }
         ensures { IfOk result (λ kept. kept ≡ lan_wants all self.now lan list.now) }
     {
-        let wanted_groups = index_of_wanted_groups(alloc, self.flows(), wanted)?;
+        if !wants.asks_more {
+            return Ok(ClassifiedWants::none(alloc).into_kept(all));
+        }
+        let wanted_groups = index_of_wanted_groups(alloc, self.flows(), &wants.wanted)?;
         let asked = asked_in(alloc, list)?;
         let unanswered = unanswered_among(alloc, self, &wanted_groups, &asked)?;
         let wants = wants_among(alloc, list, unanswered)?;

@@ -109,6 +109,6 @@ pub(crate) fn unadmitted_in(
     ensures sorted { IfOk result (λ pairs. IsStrictlySortedBy key_cmp pairs.items) }
 {
     let pairs = sorted_without_repeats(listed_in(alloc, list, groups)?);
-    let wanted = Channels::of(alloc, &swapped(alloc, &pairs)?)?.wanted(alloc, list)?;
-    Ok(unmarked(alloc, &pairs, &wanted)?)
+    let wants = Channels::of(alloc, &swapped(alloc, &pairs)?)?.wanted(alloc, list)?;
+    Ok(unmarked(alloc, &pairs, &wants.wanted)?)
 }

@@ -9,12 +9,15 @@ use Rattle.std.specs.Bool.{Decides}
 use Rattle.std.specs.List.{All, Contains}
 use Rattle.mc_filter.specs.FilterBuilding.{wanted}
 use Rattle.std.proofs.lemmas.List.{get_or-map, get_or_push, length-map, map-append, take_more, get_or_default}
+use Rattle.std.proofs.lemmas.List.Elements.{Contains-get_or}
 use Rattle.std.proofs.lemmas.Option.{slice_get_within, get_or_from_slice_get}
 use Rattle.mc_igmp.specs.declared.record.Record.{Record}
 use Rattle.mc_igmp.specs.Wants.{Wants}
 use Rattle.mc_filter.specs.declared.channels.ChannelPlace.{ChannelPlace}
 use Rattle.mc_filter.specs.declared.tally.ChannelState.{ChannelState}
-use Rattle.mc_filter.specs.ChannelPlaces.{AreAnswersAtPlaces, IsAnswerAtPlace, IsChannelPlace, channel_at}
+use Rattle.mc_text.specs.Pair.{pair_of}
+use Rattle.mc_filter.specs.ChannelPlaces.{AreAnswersAtPlaces, AreGroupsOf, AreNumbersOf, IsAnswerAtPlace}
+use Rattle.mc_filter.specs.ChannelPlaces.{IsChannelPlace, channel_at}
 use Rattle.mc_filter.specs.Tallies.{AreTallied, is_unwanted}
 use Rattle.mc_filter.proofs.MergedLemmas.{Decides-wanted}
 
@@ -27,6 +30,31 @@ contains-map f xs made kept is same = λ k d below.
       omega (arith, length-map xs f, below),
       get_or-map f xs k d (f (get_or xs k d)) below,
     ))
+
+-- an index of the channels' groups has no other
+pub groups-of_made : (channels asked : List (ℕ × ℕ)) (made kept : List ℕ) → channels ≡ asked
+    → made ≡ map (λ channel. channel.1) asked → ((n : ℕ) → Contains kept n ↔ Contains made n)
+    → AreGroupsOf kept channels
+groups-of_made channels asked made kept is made_is same = λ k d below.
+    let group : ℕ = get_or kept k d in
+    subst (λ (cs : List (ℕ × ℕ)). Contains (map (λ (channel : ℕ × ℕ). channel.1) cs) group) (sym is)
+    (subst (λ ns. Contains ns group) made_is ((same group).0 (Contains-get_or kept k d below)))
+
+contains-mapped : (f : ℕ → ℕ × ℕ) (xs : List ℕ) (x : ℕ) → Contains xs x → Contains (map f xs) (f x)
+contains-mapped f xs x has_it = (
+  has_it.0,
+  omega (arith, has_it.1, length-map xs f),
+  get_or-map f xs has_it.0 x (f x) has_it.1 ∙ ap f has_it.2,
+)
+
+-- and one of their numbers no other channel
+pub numbers-of_made : (channels asked : List (ℕ × ℕ)) (made kept : List ℕ) → channels ≡ asked
+    → map pair_of made ≡ asked → ((n : ℕ) → Contains kept n ↔ Contains made n)
+    → AreNumbersOf kept channels
+numbers-of_made channels asked made kept is made_are same = λ k d below.
+    let number : ℕ = get_or kept k d in
+    subst (λ (cs : List (ℕ × ℕ)). Contains cs (pair_of number)) (made_are ∙ sym is)
+    (contains-mapped pair_of made number ((same number).0 (Contains-get_or kept k d below)))
 
 -- the channels of places, with one more
 pub map-channels_more : (f : ChannelPlace → ℕ × ℕ) (places : List ChannelPlace) (place : ChannelPlace)

@@ -1,4 +1,5 @@
 pub mod AscendingLemmas
+pub mod AskedLemmas
 pub mod TallyLemmas
 pub mod ChannelLemmas
 pub mod FilterLemmas

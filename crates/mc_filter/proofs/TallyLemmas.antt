@@ -9,6 +9,7 @@ use Rattle.std.proofs.lemmas.Bool.{cases_eq, eq-eqb}
 use Rattle.std.proofs.lemmas.Bool.Decides.{nat_tests}
 use Rattle.std.proofs.lemmas.List.{get_or-set_same, get_or-set_other, get_or_default}
 use Rattle.std.proofs.lemmas.List.Kept.{AllPairs-from_increasing}
+use Rattle.mc_text.specs.Pair.{pair_of}
 use Rattle.mc_text.proofs.PairLemmas.{pair_of-injective}
 use Rattle.mc_igmp.specs.declared.record.Record.{Record}
 use Rattle.mc_igmp.specs.declared.record.Kind.{Kind}
@@ -116,6 +117,30 @@ AreListedUpTo-found channels group of_kind excludes x place own left sources now
           (rw (and_or-false (eqb group g) (eqb x s) (has left s) other)
           at (before c g s d within is))
     ]
+
+-- a source that makes no channel
+pub AreListedUpTo-missed : (channels : List ℕ) (group : ℕ) (of_kind : Kind) (excludes x n : ℕ)
+    (left sources : List ℕ) (now old : List ChannelState) → pair_of n ≡ (x, group) → ¬ Contains channels n
+    → AreListedUpTo channels group of_kind excludes (x ∷ left) sources now old
+    → AreListedUpTo channels group of_kind excludes left sources now old
+AreListedUpTo-missed channels group of_kind excludes x n left sources now old pair missed before
+    c g s d within is =
+    let other : (eqb group g && eqb x s) ≡ false =
+    elim (cases_eq g group) [
+      | inl same ↦ elim (cases_eq x s) [
+        | inl listed ↦ absurd (missed (
+          c,
+          within,
+          get_or_default channels c n 0 within
+              ∙ pair_of-injective (get_or channels c 0) n
+              (is ∙ ap (λ (m : ℕ). let p : ℕ × ℕ = (m, g) in p) (sym listed)
+              ∙ ap (λ (m : ℕ). let p : ℕ × ℕ = (x, m) in p) same ∙ sym pair),
+        ))
+        | inr apart ↦ grind (arith, nat_tests, apart)
+      ]
+      | inr apart ↦ grind (arith, nat_tests, apart)
+    ] in
+    rw (and_or-false (eqb group g) (eqb x s) (has left s) other) at (before c g s d within is)
 
 -- a record whose type has no filter changes nothing
 tallied-other_type : (listed : Bool) (excludes : ℕ) (state : ChannelState) (left all : Bool)

@@ -1,7 +1,9 @@
 -- Whether the hosts of a LAN want a channel: a source and a group (RFC 4607, section 1); and the places of
 -- channels in their index, which only contracts of private functions use.
-use Rattle.std.specs.Prelude.{◌≡◌, ◌↔◌, ℕ, ◌<◌, Bool, IsTrue, false, List, [], length, get_or}
+use Rattle.std.specs.Prelude.{◌≡◌, ◌↔◌, ℕ, ◌<◌, Bool, IsTrue, false, List, [], length, get_or, map}
+use Rattle.std.specs.Prelude.{Contains}
 use Rattle.std.specs.List.{All}
+use Rattle.mc_text.specs.Pair.{pair_of}
 use Rattle.mc_igmp.specs.declared.record.Record.{Record}
 use Rattle.mc_filter.specs.declared.channels.ChannelPlace.{ChannelPlace}
 use Rattle.mc_filter.specs.declared.tally.Tally.{Tally}
@@ -21,6 +23,13 @@ pub record IsChannelPlace (groups channels : List ℕ) (place : ChannelPlace) : 
   pub group : place.group < length groups
   pub channel : place.channel < length channels
   pub is : get_or groups place.group 0 ≡ (channel_at channels place).1
+
+-- each group, and each channel, of an index is that of a channel
+abbrev pub AreGroupsOf : (groups : List ℕ) → (channels : List (ℕ × ℕ)) → Type 0
+AreGroupsOf groups channels = All (λ group. Contains (map (λ channel. channel.1) channels) group) groups
+
+abbrev pub AreNumbersOf : (numbers : List ℕ) → (channels : List (ℕ × ℕ)) → Type 0
+AreNumbersOf numbers channels = All (λ number. Contains channels (pair_of number)) numbers
 
 -- the answer is yes exactly if the channel at the place is wanted
 abbrev pub IsAnswerAtPlace : List ℕ → List Record → ChannelPlace → Bool → Type 0

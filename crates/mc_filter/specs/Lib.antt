@@ -3,4 +3,5 @@ pub mod Merged
 pub mod FilterBuilding
 pub mod Tallies
 pub mod ChannelPlaces
+pub mod ChannelWants
 pub use Rattle.mc_igmp.specs.Wants

@@ -1,7 +1,8 @@
 -- The tally of channels over records, by computable tests, which only contracts of private functions
 -- use.
-use Rattle.std.specs.Prelude.{◌≡◌, ℕ, ◌+◌, ◌<◌, ◌≤◌, ◌==◌, ◌&&◌, ◌||◌, Bool, false, not}
-use Rattle.std.specs.Prelude.{cond, List, ◌∷◌, length, get_or}
+use Rattle.std.specs.Prelude.{◌≡◌, ℕ, ◌+◌, ◌<◌, ◌≤◌, ◌==◌, ◌&&◌, ◌||◌, Bool, true, false, not}
+use Rattle.std.specs.Prelude.{cond, Contains, MatchBool, List, ◌∷◌, length, get_or}
+use Rattle.std.specs.List.{All}
 use Rattle.std.specs.List.Sorted.{IsStrictlyIncreasing}
 use Rattle.mc_text.specs.Pair.{pair_of}
 use Rattle.mc_igmp.specs.declared.record.Record.{Record}
@@ -82,3 +83,30 @@ AddsRecord channels place r old new = (groups : List ℕ) (records left : List R
     IsStrictlyIncreasing groups → length groups ≡ length old.excludes.items →
     get_or groups place 0 ≡ r.group →
     IsTallyOf groups channels records old (r ∷ left) → IsTallyOf groups channels records new left
+
+abbrev pub is_include : Kind → Bool
+is_include kind.Include = true
+is_include kind.Exclude = false
+is_include (kind.Change type) = false
+is_include (kind.Unknown type) = false
+
+-- the index has this channel, a source and a group
+abbrev pub HasChannel : (channels : List ℕ) → ℕ × ℕ → Type 0
+HasChannel channels channel =
+    (place : ℕ) × (place < length channels) × (channel_numbered channels place ≡ channel)
+
+-- each of the sources makes a channel with the record's group if that is an INCLUDE record, and else none
+-- does
+abbrev pub ListsAsChannels : (channels : List ℕ) → Record → (sources : List ℕ) → Type 0
+ListsAsChannels channels r sources = All (λ s. MatchBool (is_include r.kind)
+    (HasChannel channels (s, r.group)) (¬ HasChannel channels (s, r.group))) sources
+
+-- the record's group is among the groups, and its sources make channels as its kind says
+pub record KeepsToChannels (groups channels : List ℕ) (r : Record) : Type 0 where
+  pub group : Contains groups r.group
+  pub sources : ListsAsChannels channels r r.sources
+
+-- if the tally says that no more is asked for, all records keep to the channels if those that are left do
+abbrev pub TellsMore : (groups channels : List ℕ) → List Record → Tally → (left : List Record) → Type 0
+TellsMore groups channels records tally left = tally.asks_more ≡ false →
+    All (KeepsToChannels groups channels) left → All (KeepsToChannels groups channels) records

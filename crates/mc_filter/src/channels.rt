@@ -1,12 +1,13 @@
 //! Channels, and which of them the hosts of a LAN want.
 
-ghost use Rattle.std.specs.Prelude.{◌≡◌, ◌<◌, ℕ, Bool, Contains, IfOk, [], Some};
+ghost use Rattle.std.specs.Prelude.{◌≡◌, ◌<◌, ℕ, Bool, Contains, IfOk, [], Some, false};
 ghost use Rattle.std.specs.Prelude.{length, map, slice_get, vec_len};
 ghost use Rattle.std.specs.List.{All};
 ghost use Rattle.mc_text.specs.Pair.{pair_number};
 ghost use Rattle.mc_filter.specs.ChannelPlaces.{AreAnswersOfTally, IsChannelPlace, channel_at};
 ghost use Rattle.mc_filter.specs.ChannelPlaces.{IsWantedAnswer};
-ghost use Rattle.mc_filter.specs.Tallies.{IsTallyOf};
+ghost use Rattle.mc_filter.specs.ChannelWants.{AreAllAskedFor};
+ghost use Rattle.mc_filter.specs.Tallies.{IsTallyOf, TellsMore};
 
 use crate::tally::Tally;
 use mc_igmp::ReportList;
@@ -79,12 +80,14 @@ fn tally_of(
     ensures groups { IfOk result (λ tally. length tally.excludes.items ≡ length groups.now) }
     ensures channels { IfOk result (λ tally. length tally.states.items ≡ length channels.now) }
     ensures each { IfOk result (λ tally. IsTallyOf groups.now channels.now reports.now tally []) }
+    ensures more { IfOk result (λ tally. TellsMore groups.now channels.now reports.now tally []) }
 {
     let mut tally = Tally::none(alloc, groups.count(), channels.count())?;
     for group_record in reports.records() {
         let group = u64::from(group_record.group.to_bits());
-        if let Some(place) = groups.place_of(group) {
-            tally.add(channels, place, &group_record)?;
+        match groups.place_of(group) {
+            Some(place) => tally.add(channels, place, &group_record)?,
+            None => tally.asks_more = true,
         }
     }
     Ok(tally)
@@ -109,6 +112,16 @@ fn wanted_answers(
     Ok(answers)
 }
 
+/// What the hosts of a LAN want of channels.
+#[derive(Debug, Drop)]
+pub struct ChannelWants {
+    /// Whether they want each channel.
+    pub wanted: Vec<bool>,
+    /// Whether they may ask for something else as well: a group of which they want no channel, or a source
+    /// with which it makes none. If not, they don't.
+    pub asks_more: bool,
+}
+
 /// Channels, each a source and a group (RFC 4607, section 1), indexed to be found in reports. Its value
 /// in contracts is the list of them.
 #[derive(Debug, Drop)]
@@ -121,13 +134,16 @@ pub struct Channels {
 impl Model for Channels {
     ghost use Rattle.std.specs.Prelude.{ℕ, List, map};
     ghost use Rattle.std.specs.List.{All};
+    ghost use Rattle.mc_filter.specs.ChannelPlaces.{AreGroupsOf, AreNumbersOf};
     ghost use Rattle.mc_filter.specs.ChannelPlaces.{IsChannelPlace, channel_at};
 
     ghost Value = { List (ℕ × ℕ) };
 
     ghost view = { λ s. map (channel_at s.channels) s.places.items };
 
-    ghost invariant = { λ s. All (IsChannelPlace s.groups s.channels) s.places.items };
+    ghost invariant = { λ s. All (IsChannelPlace s.groups s.channels) s.places.items
+        × AreGroupsOf s.groups (map (channel_at s.channels) s.places.items)
+        × AreNumbersOf s.channels (map (channel_at s.channels) s.places.items) };
 }
 
 impl Channels {
@@ -150,18 +166,25 @@ impl Channels {
     }
 
     /// Whether the hosts of a LAN want each channel, by their reports: whether some record for its
-    /// group admits its source (RFC 3376, section 3.2). The list is read once.
+    /// group admits its source (RFC 3376, section 3.2); and whether they may ask for something else. The
+    /// list is read once.
     ///
     /// # Errors
     ///
     /// `Memory` if an allocation is refused.
-    pub fn wanted(&self, alloc: Global, reports: &ReportList) -> Result<Vec<bool>, Memory>
-        ensures count { IfOk result (λ wanted. vec_len wanted ≡ length self.now) }
-        ensures each { IfOk result (λ wanted. (i : ℕ) (channel : ℕ × ℕ) (is_wanted : Bool) →
-            slice_get self.now i ≡ Some channel → slice_get wanted.items i ≡ Some is_wanted →
+    pub fn wanted(&self, alloc: Global, reports: &ReportList) -> Result<ChannelWants, Memory>
+        ensures count { IfOk result (λ wants. vec_len wants.wanted ≡ length self.now) }
+        ensures each { IfOk result (λ wants. (i : ℕ) (channel : ℕ × ℕ) (is_wanted : Bool) →
+            slice_get self.now i ≡ Some channel → slice_get wants.wanted.items i ≡ Some is_wanted →
             IsWantedAnswer reports.now channel is_wanted) }
+        ensures all { IfOk result (λ wants. wants.asks_more ≡ false →
+            AreAllAskedFor self.now reports.now) }
     {
         let tally = tally_of(alloc, &self.groups, &self.channels, reports)?;
-        wanted_answers(alloc, &tally, &self.places)
+        let wanted = wanted_answers(alloc, &tally, &self.places)?;
+        Ok(ChannelWants {
+            wanted,
+            asks_more: tally.asks_more,
+        })
     }
 }

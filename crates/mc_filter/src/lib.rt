@@ -10,6 +10,6 @@ pub mod laws;
 mod tally;
 mod wants;
 
-pub use channels::Channels;
+pub use channels::{ChannelWants, Channels};
 pub use filter::{Filter, Mode};
 pub use wants::{is_wanted, wants_of};

@@ -1,9 +1,10 @@
 //! The tally of channels over records: which channels some record wants. A channel is wanted unless no
 //! INCLUDE record lists its source and every EXCLUDE record of its group does (RFC 3376, section 3.2).
 
-ghost use Rattle.std.specs.Prelude.{◌≡◌, ◌<◌, IfOk, IfSome, OnOk, length};
+ghost use Rattle.std.specs.Prelude.{◌≡◌, ◌<◌, IfOk, IfSome, OnOk, false, length};
 ghost use Rattle.mc_filter.specs.Tallies.{AddsRecord, AreStatesAfterRecord, CountsNoRecord};
-ghost use Rattle.mc_filter.specs.Tallies.{excludes_after, is_unwanted, state_after_listing};
+ghost use Rattle.mc_filter.specs.Tallies.{ListsAsChannels, excludes_after, is_include};
+ghost use Rattle.mc_filter.specs.Tallies.{is_unwanted, state_after_listing};
 
 use mc_igmp::{Kind, Record};
 use mc_text::{Index, Memory, pair_number};
@@ -54,6 +55,20 @@ fn excludes_after(kind: Kind, before: u32) -> Option<u32>
     }
 }
 
+fn is_include(kind: Kind) -> bool
+    ensures { result ≡ is_include kind }
+{
+    matches!(kind, Kind::Include)
+}
+
+/// Whether more is asked for than before, by a source that makes a channel, or not, and should or
+/// shouldn't.
+fn asks_more_by(before: bool, makes_channel: bool, should: bool) -> bool
+    ensures { result ≡ false → (before ≡ false) × (makes_channel ≡ should) }
+{
+    before || makes_channel != should
+}
+
 /// The state of groups and channels after some records.
 #[derive(Debug, Drop)]
 pub(crate) struct Tally {
@@ -61,6 +76,9 @@ pub(crate) struct Tally {
     pub(crate) excludes: Vec<u32>,
     /// The state of each channel.
     pub(crate) states: Vec<ChannelState>,
+    /// Whether some record is for another group, or an INCLUDE record lists a source that makes no
+    /// channel, or another record one that does.
+    pub(crate) asks_more: bool,
 }
 
 impl Tally {
@@ -73,12 +91,17 @@ impl Tally {
         ensures groups { IfOk result (λ tally. length tally.excludes.items ≡ groups) }
         ensures channels { IfOk result (λ tally. length tally.states.items ≡ channels) }
         ensures each { IfOk result (CountsNoRecord groups channels) }
+        ensures more { IfOk result (λ tally. tally.asks_more ≡ false) }
     {
         let mut excludes = Vec::new(alloc);
         excludes.resize(groups, 0)?;
         let mut states = Vec::new(alloc);
         states.resize(channels, ChannelState::Listed(0))?;
-        Ok(Tally { excludes, states })
+        Ok(Tally {
+            excludes,
+            states,
+            asks_more: false,
+        })
     }
 
     /// Updates the channels whose sources the record lists, with `before` EXCLUDE records for its group
@@ -90,10 +113,15 @@ impl Tally {
         ensures count { length self.new.states.items ≡ length self.old.states.items }
         ensures each { AreStatesAfterRecord channels.now group_record.now before self.old.states.items
             self.new.states.items }
+        ensures more { self.new.asks_more ≡ false → (self.old.asks_more ≡ false)
+            × ListsAsChannels channels.now group_record.now group_record.now.sources }
     {
+        let makes_channels = is_include(group_record.kind);
         for source in group_record.sources.iter() {
             let number = pair_number(source, group_record.group);
-            if let Some(place) = channels.place_of(number) {
+            let place = channels.place_of(number);
+            self.asks_more = asks_more_by(self.asks_more, place.is_some(), makes_channels);
+            if let Some(place) = place {
                 self.states[place] = self.states[place].after_listing(
                     group_record.kind,
                     before,
@@ -121,6 +149,8 @@ impl Tally {
             (length self.new.excludes.items ≡ length self.old.excludes.items) }
         ensures channels { OnOk result (length self.new.states.items ≡ length channels.now) }
         ensures each { OnOk result (AddsRecord channels.now place group_record.now self.old self.new) }
+        ensures more { OnOk result (self.new.asks_more ≡ false → (self.old.asks_more ≡ false)
+            × ListsAsChannels channels.now group_record.now group_record.now.sources) }
     {
         let before = self.excludes[place];
         let after = excludes_after(group_record.kind, before).ok_or(Memory)?;

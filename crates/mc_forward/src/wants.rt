@@ -1,11 +1,12 @@
 //! Which flows of a topology the hosts of a LAN want.
 
-ghost use Rattle.std.specs.Prelude.{◌≡◌, IfOk, length, vec_len};
+ghost use Rattle.std.specs.Prelude.{◌≡◌, IfOk, false, length, vec_len};
+ghost use Rattle.mc_filter.specs.ChannelWants.{AreAllAskedFor};
 ghost use Rattle.mc_forward.specs.Assembling.{RelatedAtEachIndex, AreChannelsWanted, AreWanted};
 ghost use Rattle.mc_forward.specs.ListedTables.{flow_pairs};
 
 use crate::items::Items;
-use mc_filter::Channels;
+use mc_filter::{ChannelWants, Channels};
 use mc_igmp::ReportList;
 use mc_text::{Addr, Memory};
 use mc_topology::Topology;
@@ -57,16 +58,19 @@ impl FlowChannels {
         Ok(FlowChannels { channels })
     }
 
-    /// Whether the records of a LAN's reports want each channel.
+    /// Whether the records of a LAN's reports want each channel, and whether they may ask for something
+    /// else.
     ///
     /// # Errors
     ///
     /// `Memory` where a growth was refused.
-    pub fn wanted(&self, alloc: Global, list: &ReportList) -> Result<Items<bool>, Memory>
-        ensures { IfOk result (AreChannelsWanted self.now list.now) }
+    pub fn wanted(&self, alloc: Global, list: &ReportList) -> Result<ChannelWants, Memory>
+        ensures wanted { IfOk result (λ wants. AreChannelsWanted self.now list.now wants.wanted.items) }
+        ensures all { IfOk result (λ wants. wants.asks_more ≡ false →
+            AreAllAskedFor self.now list.now) }
     {
-        let items = self.channels.wanted(alloc, list)?;
-        Ok(Items { items })
+        let wants = self.channels.wanted(alloc, list)?;
+        Ok(wants)
     }
 }
 
@@ -83,7 +87,8 @@ pub(crate) fn wants_of_lans(
     let channels = FlowChannels::of(alloc, topology)?;
     let mut wants = Vec::new(alloc);
     for list in reports {
-        wants.push(channels.wanted(alloc, list)?)?;
+        let own = channels.wanted(alloc, list)?;
+        wants.push(Items::of(own.wanted))?;
     }
     Ok(wants)
 }

@@ -1,13 +1,15 @@
 //! What is kept of the LANs' lists of reports beside which flows each LAN wants: nothing, or what hosts ask for.
 
-ghost use Rattle.std.specs.Prelude.{◌≡◌, ◌++◌, ◌∷◌, [], Bool, List, OnOk, length};
+ghost use Rattle.std.specs.Prelude.{◌≡◌, ◌++◌, ◌∷◌, [], Bool, List, OnOk, false, length};
 ghost use Rattle.mc_igmp.specs.declared.record.Record.{Record};
 ghost use Rattle.mc_topology.specs.declared.flow.Flow.{Flow};
+ghost use Rattle.mc_filter.specs.ChannelWants.{AreAllAskedFor};
 ghost use Rattle.mc_forward.specs.Assembling.{AreChannelsWanted};
 ghost use Rattle.mc_forward.specs.ListedTables.{flow_pairs};
 ghost use Rattle.mc_asked.specs.Answers.{AnswersValue};
 
 use mc_asked::{LanWants, WantAnswers};
+use mc_filter::ChannelWants;
 use mc_igmp::ReportList;
 use mc_text::Memory;
 use mc_topology::{LanNo, Topology};
@@ -24,17 +26,20 @@ pub(crate) trait ListKeeper {
     // it has kept something of these lists
     ghost has_kept: { Self → List (List Record) → Type 0 };
 
-    /// Keeps something of the list of the next LAN. `wanted` says of each flow whether the list wants it.
+    /// Keeps something of the list of the next LAN. `wants` says of each flow whether the list wants it, and
+    /// whether it may ask for something else.
     fn keep_list(
         &mut self,
         alloc: Global,
         topology: &Topology,
         lan: LanNo,
         list: &ReportList,
-        wanted: &[bool],
+        wants: &ChannelWants,
     ) -> Result<(), Memory>
         requires ready { is_ready self.old topology.now.flows }
-        requires wanted { AreChannelsWanted (flow_pairs topology.now.flows) list.now wanted.now }
+        requires wanted { AreChannelsWanted (flow_pairs topology.now.flows) list.now wants.now.wanted.items }
+        requires all { wants.now.asks_more ≡ false →
+            AreAllAskedFor (flow_pairs topology.now.flows) list.now }
         ensures ready { is_ready self.new topology.now.flows }
         ensures settings { settings self.new ≡ settings self.old }
         ensures kept { (lists : List (List Record)) → OnOk result (length lists ≡ lan →
@@ -60,7 +65,7 @@ impl ListKeeper for NoLists {
         _topology: &Topology,
         _lan: LanNo,
         _list: &ReportList,
-        _wanted: &[bool],
+        _wants: &ChannelWants,
     ) -> Result<(), Memory> {
         Ok(())
     }
@@ -93,9 +98,9 @@ impl ListKeeper for WantKeeper {
         _topology: &Topology,
         lan: LanNo,
         list: &ReportList,
-        wanted: &[bool],
+        wants: &ChannelWants,
     ) -> Result<(), Memory> {
-        let own = self.answers.lan_wants(alloc, lan, list, wanted, self.all)?;
+        let own = self.answers.lan_wants(alloc, lan, list, wants, self.all)?;
         self.wants.push(own)?;
         Ok(())
     }

@@ -163,9 +163,9 @@ fn read_wants<S: Slots, L: ListKeeper>(
     for lan in 0..topology.lans() {
         let reader = ListReader::new(alloc);
         let reports = read_slot(alloc, slots, buffer, topology, first + lan, reader)?;
-        let wanted = channels.wanted(alloc, &reports)?;
-        keeper.keep_list(alloc, topology, LanNo(lan), &reports, wanted.as_slice())?;
-        wants.push(wanted)?;
+        let own = channels.wanted(alloc, &reports)?;
+        keeper.keep_list(alloc, topology, LanNo(lan), &reports, &own)?;
+        wants.push(Items::of(own.wanted))?;
     }
     Ok(wants)
 }

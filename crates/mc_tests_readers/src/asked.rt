@@ -58,9 +58,9 @@ fn wants_of_lan(
 ) -> Result<LanWants, Fail> {
     let flows = flows(alloc)?;
     let list = ReportList::read(alloc, reports)?;
-    let wanted = Channels::of(alloc, &flows)?.wanted(alloc, &list)?;
+    let wants = Channels::of(alloc, &flows)?.wanted(alloc, &list)?;
     let answers = WantAnswers::of(alloc, topology, flows, ignored(alloc)?)?;
-    Ok(answers.lan_wants(alloc, LanNo(lan), &list, &wanted, false)?)
+    Ok(answers.lan_wants(alloc, LanNo(lan), &list, &wants, false)?)
 }
 
 // What is kept of the wants of the two LANs with these reports.

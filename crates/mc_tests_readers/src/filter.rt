@@ -206,7 +206,7 @@ fn channel_answers(
     pairs: &[(Addr, Addr)],
     list: &ReportList,
 ) -> Result<Vec<bool>, Memory> {
-    Channels::of(alloc, pairs)?.wanted(alloc, list)
+    Ok(Channels::of(alloc, pairs)?.wanted(alloc, list)?.wanted)
 }
 
 // Whether the answers are those of QUERIES.
@@ -234,5 +234,35 @@ fn merges_after_a_refused_growth(rt: HostRuntime) -> Result<(), Fail> {
     }
     check_each_query(&rt, &list);
     check_channels(&rt, rt.alloc(), &list)?;
+    Ok(())
+}
+
+// Reports of one record each, as above: INCLUDE A of group 5, and EXCLUDE A of group 7.
+const INCLUDE_A: &[u8] = b"2200e1f50000000101000001ef0102050a000001\n";
+const EXCLUDE_A: &[u8] = b"2200e0f30000000102000001ef0102070a000001\n";
+
+// Whether one report may ask for something else than the sources and groups with these last numbers.
+fn asks_more(alloc: Global, report: &[u8], channels: &[[u8; 2]]) -> Result<bool, Memory> {
+    let Ok(list) = ReportList::read(alloc, report) else {
+        return Err(Memory);
+    };
+    let mut pairs = Vec::new(alloc);
+    for last in channels {
+        pairs.push(pair(*last))?;
+    }
+    Ok(Channels::of(alloc, &pairs)?.wanted(alloc, &list)?.asks_more)
+}
+
+#[test]
+fn knows_lists_that_ask_for_channels_alone(rt: HostRuntime) -> Result<(), Fail> {
+    let alloc = rt.alloc();
+    assert!(rt; !asks_more(alloc, INCLUDE_A, &[[1, 5]])?);
+    assert!(rt; !asks_more(alloc, INCLUDE_A, &[[2, 5], [1, 5], [1, 6]])?);
+    assert!(rt; asks_more(alloc, INCLUDE_A, &[[2, 5]])?);
+    assert!(rt; asks_more(alloc, INCLUDE_A, &[[1, 6]])?);
+    assert!(rt; !asks_more(alloc, EXCLUDE_A, &[[2, 7], [1, 5]])?);
+    assert!(rt; asks_more(alloc, EXCLUDE_A, &[[1, 7]])?);
+    assert!(rt; asks_more(alloc, EXCLUDE_A, &[[2, 5]])?);
+    assert!(rt; !asks_more(alloc, b"", &[[2, 5]])?);
     Ok(())
 }

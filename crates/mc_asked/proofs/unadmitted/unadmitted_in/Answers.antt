@@ -19,8 +19,8 @@ value c =
     let keeps : ℕ × ℕ → Bool = λ p. not (test p) in
     let channels = c.in_ok-of.ensures ∙ c.deref-2.ensures.value ∙ c.in_ok-swapped.ensures
     ∙ ap (map (λ (p : ℕ × ℕ). (p.1, p.0))) (c.deref.ensures.value ∙ sym c.deref-3.ensures.value) in
-    let marks = are_marks-of_wanted records pairs c.in_ok-of.field-0 c.in_ok-wanted.wanted.items channels
-    c.in_ok-wanted.ensures.each in
+    let marks = are_marks-of_wanted records pairs c.in_ok-of.field-0 c.in_ok-wants.wants.wanted.items channels
+    c.in_ok-wants.ensures.each in
     c.in_ok-unmarked.ensures test
     (subst (λ (l : List Bool). AreMarksOf test pairs l) (sym c.deref-4.ensures.value) marks)
     ∙ ap (filter keeps) (c.deref-3.ensures.value ∙ c.sorted_without_repeats-pairs.ensures

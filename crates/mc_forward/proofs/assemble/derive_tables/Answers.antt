@@ -1,5 +1,4 @@
 use Rattle.std.proofs.Common.{ℕ, Option, List, map, length, ap, ◌∙◌, arith, []}
-use Rattle.std.proofs.lemmas.List.{length-map}
 use Rattle.mc_theory.specs.Lists.{below}
 use Rattle.mc_forward.specs.Assembling.{domain_with, interfaces_by_vif_lans}
 use Rattle.mc_forward.proofs.DomainLemmas.{length-vif_lans_of}

@@ -86,17 +86,17 @@ returns-in_err-reports-clause-fault g c =
     (read_each-Err read x.1 lan.0 (drop (k + 1) t.lans)) x.0 own
     (read_stream-Err_implied (read_first reports_of) read_lan read_lan-Err x.0 own (refused x.0 x.2 loud)))
 
-pub returns-in_err-wanted-clause-faults : goal.returns-in_err-wanted-clause-faults
-returns-in_err-wanted-clause-faults g c =
-    let p = err_from_is_err_and c.from_residual-in_err-wanted.result
-    c.from_residual-in_err-wanted.ensures.1 in
+pub returns-in_err-own-clause-faults : goal.returns-in_err-own-clause-faults
+returns-in_err-own-clause-faults g c =
+    let p = err_from_is_err_and c.from_residual-in_err-own.result
+    c.from_residual-in_err-own.ensures.1 in
     rw (p.1, p.2) (g.met.S.Slots.possible (Input Memory) refl)
 
 pub loop-lan-preserved : goal.loop-lan-preserved
 loop-lan-preserved g c =
     let t = c.args.topology.now in
     let k = c.loop-lan.lan in
-    let own = c.in_ok-wanted.wanted in
+    let own = c.in_ok-own.own.wanted.items in
     let items = c.in_ok-push.ensures.items in
     let are = c.in_ok-channels.ensures in
     let lan = slice_get-exists t.lans k (omega (arith, c.loop-lan-test.true, c.loop-lan.invariant.end)) in
@@ -119,7 +119,7 @@ loop-lan-preserved g c =
       settings = c.keep_list.ensures.settings ∙ c.loop-lan.invariant.settings;
       flows = rw items (length-answers_push (length t.flows) c.loop-lan.wants.items own
           c.loop-lan.invariant.flows
-          (c.in_ok-wanted.ensures.count ∙ length-flow_pairs t.flows c.in_ok-channels.channels are));
+          (c.in_ok-own.ensures.wanted.count ∙ length-flow_pairs t.flows c.in_ok-channels.channels are));
       some =
           let lists = c.loop-lan.invariant.some in (
             lists.0 ++ c.in_ok-reports.reports ∷ [],
@@ -138,7 +138,7 @@ loop-lan-preserved g c =
                 (pairwise-more (AreWanted t.flows) x.1 c.loop-lan.wants.items y.4.0 own
                 x.3 (are_wanted-from_channels t.flows y.4.0 c.in_ok-channels.channels own are
                 (subst (λ (records : List Record). AreChannelsWanted c.in_ok-channels.channels records own) y.4.2
-                c.in_ok-wanted.ensures))),
+                c.in_ok-own.ensures.wanted))),
             subst (λ (records : List Record). g.L.ListKeeper.has_kept c.keep_list.new.self (x.1 ++ records ∷ [])) y.4.2
                 (c.in_ok-keep_list.ensures.kept x.1 x.5 x.4),
             length-append x.1 (y.4.0 ∷ []) ∙ ap (λ n. n + 1) x.5,
@@ -176,8 +176,8 @@ pub returns-in_err-reports-clause-advances : goal.returns-in_err-reports-clause-
 returns-in_err-reports-clause-advances g c = g.met.S.Slots.advances_twice c.args.slots.now c.loop-lan.slots
     c.read_slot.new.slots c.loop-lan.invariant.advances c.in_err-reports.ensures.advances
 
-pub returns-in_err-wanted-clause-advances : goal.returns-in_err-wanted-clause-advances
-returns-in_err-wanted-clause-advances g c = g.met.S.Slots.advances_twice c.args.slots.now c.loop-lan.slots
+pub returns-in_err-own-clause-advances : goal.returns-in_err-own-clause-advances
+returns-in_err-own-clause-advances g c = g.met.S.Slots.advances_twice c.args.slots.now c.loop-lan.slots
     c.read_slot.new.slots c.loop-lan.invariant.advances c.in_ok-reports.ensures.advances
 
 pub returns-in_err-keep_list-clause-advances : goal.returns-in_err-keep_list-clause-advances

@@ -1,7 +1,8 @@
 use Rattle.std.proofs.Common.{length, sym, ap, ◌≡◌, ◌∙◌, arith}
 use Rattle.std.proofs.lemmas.List.{length-map}
 use Rattle.mc_filter.specs.ChannelPlaces.{channel_at}
-use Rattle.mc_text.proofs.StepLemmas.{if_ok_map, if_ok_both}
+use Rattle.std.proofs.lemmas.List.Elements.{All-nil}
+use Rattle.mc_filter.proofs.AskedLemmas.{are_all_asked_for}
 use Rattle.mc_filter.proofs.ChannelLemmas.{wanted_answers_all}
 use Rattle.mc_filter.proofs.channels.Channels.wanted.Goals as goal
 
@@ -11,19 +12,23 @@ returns-clause-count c =
     let size : length c.args.self.now ≡ length places =
     sym (ap length c.self.view_is)
     ∙ length-map places (channel_at c.self.inside.channels) in
-    if_ok_map _ _ c.wanted_answers.result c.wanted_answers.ensures.count
-    (λ answers count. grind (arith, answers.ok.0, count, size, c.deref.ensures.value))
+    let count = c.in_ok-wanted.ensures.count in
+    let behind = c.deref.ensures.value in
+    grind (arith, c.in_ok-wanted.wanted.ok, count, size, behind)
 
 pub returns-clause-each : goal.returns-clause-each
-returns-clause-each c =
+returns-clause-each c = λ i channel answer at states.
     let groups = c.self.inside.groups in
     let channels = c.self.inside.channels in
-    if_ok_map _ _ c.wanted_answers.result
-    (if_ok_both _ _ c.wanted_answers.result c.wanted_answers.ensures.count c.wanted_answers.ensures.each)
-    (λ answers known i channel answer at states.
-    wanted_answers_all channels c.args.reports.now c.self.inside.places.items answers.items
-    (known.0 ∙ ap length c.deref.ensures.value)
-    (rw c.deref.ensures.value at (known.1 groups channels c.args.reports.now
-    c.in_ok-tally.ensures.groups (rw (sym c.deref.ensures.value) at c.self.invariant)
+    wanted_answers_all channels c.args.reports.now c.self.inside.places.items c.in_ok-wanted.wanted.items
+    (c.in_ok-wanted.ensures.count ∙ ap length c.deref.ensures.value)
+    (rw c.deref.ensures.value at (c.in_ok-wanted.ensures.each groups channels c.args.reports.now
+    c.in_ok-tally.ensures.groups (rw (sym c.deref.ensures.value) at c.self.invariant.0)
     c.in_ok-tally.ensures.each))
-    i channel answer (rw (sym c.self.view_is) at at) states)
+    i channel answer (rw (sym c.self.view_is) at at) states
+
+pub returns-clause-all : goal.returns-clause-all
+returns-clause-all c = λ none.
+    rw c.self.view_is at (are_all_asked_for c.self.inside.groups c.self.inside.channels
+    c.self.inside.places.items c.args.reports.now c.self.invariant.0 c.self.invariant.1 c.self.invariant.2
+    (c.in_ok-tally.ensures.more none (All-nil _)))

@@ -1,5 +1,4 @@
-use Rattle.std.proofs.Common.{◌≡◌, ℕ, List, Some, get_or, slice_get, ap, subst, arith, ◌∙◌}
-use Rattle.mc_theory.specs.Nets.{Row}
+use Rattle.std.proofs.Common.{ℕ, get_or, ap, subst, arith, ◌∙◌}
 use Rattle.mc_forward.specs.Domains.{DomainValue, IsDomain}
 use Rattle.mc_forward.proofs.RowLemmas.{rows_of_router-at_index, row_of-rows_of_router}
 use Rattle.mc_forward.proofs.RowLemmas.{has_valid_entry-from_row_value}

@@ -1,4 +1,4 @@
-use Rattle.std.proofs.Common.{List, length, map, ap, sym, subst, ◌∙◌}
+use Rattle.std.proofs.Common.{List, length, ap, sym, subst, ◌∙◌}
 use Rattle.std.specs.List.{AllByRecursion}
 use Rattle.mc_forward.specs.Assembling.{domain_with}
 use Rattle.mc_forward.specs.DomainParts.{AreDerivedTables}

@@ -1,0 +1,26 @@
+-- What the reports of a LAN ask for, beside channels: sources and groups (RFC 4607, section 1).
+use Rattle.std.specs.Prelude.{ℕ, ◌==◌, ◌&&◌, Bool, IsTrue, List, Contains}
+use Rattle.std.specs.List.{All, list_any}
+use Rattle.mc_igmp.specs.declared.record.Record.{Record}
+use Rattle.mc_igmp.specs.declared.record.Kind.{Kind}
+use Rattle.mc_igmp.specs.declared.record.Kind.TheVariants as kind
+use Rattle.mc_filter.specs.FilterBuilding.{wanted}
+
+-- a channel of the group is wanted
+abbrev pub is_wanted_group : (channels : List (ℕ × ℕ)) → List Record → ℕ → Bool
+is_wanted_group channels records group =
+    list_any (λ channel. (channel.1 == group) && wanted records group channel.0) channels
+
+-- Wanted channels are all that a record of a kind asks for. EXCLUDE asks for its group from any source, which a wanted
+-- channel of the group answers, and INCLUDE for it from each source of its list.
+abbrev pub AreAllOfKind : Kind → (channels : List (ℕ × ℕ)) → List Record → (group : ℕ) → (sources : List ℕ)
+    → Type 0
+AreAllOfKind kind.Exclude channels records group sources = IsTrue (is_wanted_group channels records group)
+AreAllOfKind kind.Include channels records group sources = All (λ s. Contains channels (s, group)) sources
+AreAllOfKind (kind.Change type) channels records group sources = Unit {0}
+AreAllOfKind (kind.Unknown type) channels records group sources = Unit {0}
+
+-- wanted channels are all that the records ask for
+abbrev pub AreAllAskedFor : (channels : List (ℕ × ℕ)) → List Record → Type 0
+AreAllAskedFor channels records =
+    All (λ r. AreAllOfKind r.kind channels records r.group r.sources) records

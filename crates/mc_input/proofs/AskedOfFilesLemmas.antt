@@ -80,12 +80,14 @@ AreStatesOfRouter-unique files wants vifs r a b one other =
     let part = ok_injective {E = FileFault} one.part other.part (sym one.made ∙ other.made) in
     let rows = ok_injective {E = TableFault} one.rows other.rows
     (sym one.read ∙ ap (λ (p : PartText). cache_rows_in r.order p.bytes) part ∙ other.read) in
-    one.stated ∙ ap (λ (rs : List RowValue). map (λ (w : Want × List ℕ). router_state vifs w.1 w.0 rs) wants) rows
+    one.stated
+    ∙ ap (λ (rs : List RowValue). map (λ (w : Want × List ℕ). router_state vifs w.1 w.0 rs) wants) rows
     ∙ sym other.stated
 
 -- what the routers of a domain have, of which each has vifs
 AreStatesOf-unique : (files : List FileText) (wants : List (Want × List ℕ)) (d : DomainValue)
-    (a b : List (List RouterState)) → IsDomain d → AreStatesOf files wants d a → AreStatesOf files wants d b → a ≡ b
+    (a b : List (List RouterState)) → IsDomain d → AreStatesOf files wants d a
+    → AreStatesOf files wants d b → a ≡ b
 AreStatesOf-unique files wants d a b rules one other =
     same_lists-from_slice_get a b (one.count ∙ sym other.count) (λ k x y at here.
     let within = slice_get_within a k x at in
@@ -95,8 +97,8 @@ AreStatesOf-unique files wants d a b rules one other =
     (other.each k r.0 vifs.0 y r.1 vifs.1 here))
 
 pub IsAskedOf-unique : (all : Bool) (ignored : List (ℕ × ℕ)) (files : List FileText) (d : DomainValue)
-    (a b : UnansweredWantsValue) → IsDomain d → IsAskedOf all ignored files d a → IsAskedOf all ignored files d b
-    → a ≡ b
+    (a b : UnansweredWantsValue) → IsDomain d → IsAskedOf all ignored files d a
+    → IsAskedOf all ignored files d b → a ≡ b
 IsAskedOf-unique all ignored files d a b rules one other =
     let lists = AreListsOf-unique files d.topology one.of.lists other.of.lists one.of.of other.of.of in
     let wants : one.wants ≡ other.wants =
@@ -110,4 +112,5 @@ IsAskedOf-unique all ignored files d a b rules one other =
     let states : a.states ≡ b.states =
     AreStatesOf-unique files (map (with_unadmitted other.of.lists) b.lines) d a.states b.states rules
     (subst (λ (ws : List (Want × List ℕ)). AreStatesOf files ws d a.states) needed one.states) other.states in
-    λ i. record { lines = lines i; count = count i; further = further i; services = services i; states = states i }
+    λ i.
+    record { lines = lines i; count = count i; further = further i; services = services i; states = states i }

@@ -1,6 +1,6 @@
 -- What a bundle gives after its topology, as the definitions read it of all parts.
-use Rattle.std.specs.Prelude.{◌≡◌, ℕ, suc, zero, ◌+◌, Bool, true, false, List, [], ◌∷◌, drop, length, map, slice_get}
-use Rattle.std.specs.Prelude.{Option, Some, None, Result, Ok, Err, is_some, refl, unwrap_or}
+use Rattle.std.specs.Prelude.{◌≡◌, ℕ, suc, zero, ◌+◌, Bool, true, false, List, [], ◌∷◌, drop, length, map}
+use Rattle.std.specs.Prelude.{slice_get, Option, Some, None, Result, Ok, Err, is_some, refl, unwrap_or}
 use Rattle.std.specs.FinMap.{FinMap}
 use Rattle.std.specs.Ordering.{nat_cmp}
 use Rattle.std.proofs.Common.{ap, ◌∙◌, arith, sym}
@@ -24,8 +24,9 @@ use Rattle.mc_input.specs.InputReading.{certificate_in, check_part_names}
 use Rattle.mc_input.specs.InputReading.{part_with_slot_name}
 use Rattle.mc_input.specs.PartsOneByOne.{InputAndCertificate, certificate_number, check_names_from}
 use Rattle.mc_input.specs.PartsOneByOne.{IsFaultOf, read_all_parts, read_first_topology, read_rest}
-use Rattle.mc_input.specs.PartsReading.{all_reports, all_tables, cache_of, first_lan_number, read_input, read_part}
-use Rattle.mc_input.specs.PartsReading.{read_tables_and_reports, reports_of, router_tables, topology_of, vifs_of}
+use Rattle.mc_input.specs.PartsReading.{all_reports, all_tables, cache_of, first_lan_number, read_input}
+use Rattle.mc_input.specs.PartsReading.{read_part, read_tables_and_reports, reports_of, router_tables}
+use Rattle.mc_input.specs.PartsReading.{topology_of, vifs_of}
 use Rattle.mc_input.specs.Stream.{ContentsRead, NextParts, Stream, bundle_gives, certificate_parts}
 use Rattle.mc_input.specs.Stream.{certificate_text_of, input_of_contents}
 use Rattle.mc_input.specs.Stream.{parts_of_slots, read_after_topology, read_contents, read_stream}
@@ -46,7 +47,8 @@ module _ (source : ℕ → Slot → Result PartText InputFault) where
   abbrev converted : ℕ → Slot → Result PartText SourceFault
   converted n slot = map_fault Input (source n slot)
 
-  read_part-converted : {X : Type 0} (given : Result PartText InputFault) (read : PartText → Result X InputFault)
+  read_part-converted : {X : Type 0} (given : Result PartText InputFault)
+      (read : PartText → Result X InputFault)
       → read_part Input (map_fault Input given) read ≡ map_fault Input (read_part (λ fault. fault) given read)
   read_part-converted (Ok part) read = by (read part)
     where
@@ -161,7 +163,8 @@ module _ (whole : List PartText) where
   -- the certificate is that of the last slot
   certificate_text_of-certificate_in : (certified : Bool) (t : TopologyValue)
       → map (λ part. part.name) whole ≡ map part_name (slots certified t)
-      → certificate_text_of certified (parts_of_slots of_bundle (certificate_number t) (certificate_slots certified))
+      → certificate_text_of certified
+      (parts_of_slots of_bundle (certificate_number t) (certificate_slots certified))
       ≡ certificate_in certified whole t
   certificate_text_of-certificate_in false t names = refl
   certificate_text_of-certificate_in true t names =
@@ -171,7 +174,8 @@ module _ (whole : List PartText) where
       (omega (arith, length-slots_after_topology true t)) in
       let part = part-at_slot (slots true t) whole (certificate_number t) certificate_slot names at in
       ap (λ (given : Result PartText SourceFault). certificate_text_of true (given ∷ []))
-      (ap (map_fault Input) (part_with_slot_name-Ok whole (certificate_number t) certificate_slot part.0 part.1 part.2))
+      (ap (map_fault Input)
+      (part_with_slot_name-Ok whole (certificate_number t) certificate_slot part.0 part.1 part.2))
       ∙ ap (λ (o : Option PartText). Some (unwrap_or o (record { name = []; bytes = [] })).bytes)
       (sym part.1 ∙ ap (slice_get whole) count)
 
@@ -213,10 +217,12 @@ module _ (certified : Bool) (t : TopologyValue) (part : PartText) (here : List P
   read_named rest =
       let names : map (λ (p : PartText). p.name) all ≡ map part_name (slots certified t) = cc in
       ap (map_fault Input) read_all-topology ∙ sym (lifted read_all)
-      ∙ ap (λ (r : Result InputValue SourceFault). r >>= λ v. (let q : Result InputAndCertificate SourceFault =
+      ∙ ap (λ (r : Result InputValue SourceFault). r
+      >>= λ v. (let q : Result InputAndCertificate SourceFault =
       Ok (v, certificate_in certified all t) in q))
       (sym (read_tables_and_reports-converted (part_with_slot_name all) t))
-      ∙ ap (λ (c : Option (List ℕ)). read >>= λ v. (let q : Result InputAndCertificate SourceFault = Ok (v, c) in q))
+      ∙ ap (λ (c : Option (List ℕ)). read
+      >>= λ v. (let q : Result InputAndCertificate SourceFault = Ok (v, c) in q))
       (sym (certificate_text_of-certificate_in all certified t names))
       ∙ sym (with_rest read)
       ∙ ap (λ (r : Result (InputValue × NextParts) SourceFault). r >>= λ v.
@@ -268,20 +274,26 @@ module _ (certified : Bool) (t : TopologyValue) (part : PartText) (here : List P
       >>= λ _. read_after_topology certified t (map (λ p. Ok p) here))
   unfolding read_input
   read_all_parts-after_topology topology =
-      let names : check_part_names certified all t ≡ check_names_from 1 (slots_after_topology certified t) here =
+      let names : check_part_names certified all t
+      ≡ check_names_from 1 (slots_after_topology certified t) here =
       check_part_names-first_passed in
-      ap (λ (given : Result PartText InputFault). map_fault Input ((read_part (λ fault. fault) given topology_of
+      ap (λ (given : Result PartText InputFault).
+      map_fault Input ((read_part (λ fault. fault) given topology_of
       >>= λ u. check_part_names certified all u
       >>= λ _. read_tables_and_reports (λ fault. fault) (part_with_slot_name all) u)
-      >>= λ v. (let r : Result InputAndCertificate InputFault = Ok (v, certificate_in certified all v.topology) in r)))
+      >>= λ v. (let r : Result InputAndCertificate InputFault =
+      Ok (v, certificate_in certified all v.topology) in r)))
       (part_with_slot_name-Ok all 0 topology_slot part refl name)
-      ∙ ap (λ (r : Result TopologyValue InputFault). map_fault Input ((map_fault (λ (fault : InputFault). fault) r
+      ∙ ap (λ (r : Result TopologyValue InputFault).
+      map_fault Input ((map_fault (λ (fault : InputFault). fault) r
       >>= λ u. check_part_names certified all u
       >>= λ _. read_tables_and_reports (λ fault. fault) (part_with_slot_name all) u)
-      >>= λ v. (let q : Result InputAndCertificate InputFault = Ok (v, certificate_in certified all v.topology) in q)))
+      >>= λ v. (let q : Result InputAndCertificate InputFault =
+      Ok (v, certificate_in certified all v.topology) in q)))
       topology
       ∙ ap (λ (names : Result (Unit {0}) InputFault). map_fault Input ((names >>= λ _. read_all)
-      >>= λ v. (let q : Result InputAndCertificate InputFault = Ok (v, certificate_in certified all v.topology) in q)))
+      >>= λ v. (let q : Result InputAndCertificate InputFault =
+      Ok (v, certificate_in certified all v.topology) in q)))
       names
       ∙ by (check_names_from 1 (slots_after_topology certified t) here) refl
     where
@@ -292,7 +304,8 @@ module _ (certified : Bool) (t : TopologyValue) (part : PartText) (here : List P
           Ok (v, certificate_in certified all v.topology) in r))
           ≡ (map_fault Input names >>= λ _. read_after_topology certified t (map (λ p. Ok p) here))
       by (Ok u) is =
-          read_named (names-from_check_names_from 1 (slots_after_topology certified t) here (is ∙ ap Ok (unit_is u)))
+          read_named (names-from_check_names_from 1 (slots_after_topology certified t) here
+          (is ∙ ap Ok (unit_is u)))
         where
           unit_is : (u : Unit {0}) → u ≡ tt
           unit_is u = refl
@@ -347,7 +360,8 @@ IsFaultOf-read_all_parts certified s own refused = λ text remaining loud.
 
 -- the certificate that was read is that of the stream
 pub certificate_text_of-parts : (certified : Bool) (certificate : Option (List ℕ))
-    → is_some certificate ≡ certified → certificate_text_of certified (certificate_parts certificate) ≡ certificate
+    → is_some certificate ≡ certified
+    → certificate_text_of certified (certificate_parts certificate) ≡ certificate
 certificate_text_of-parts true (Some text) is = refl
 certificate_text_of-parts true None is = absurd cc
 certificate_text_of-parts false (Some text) is = absurd cc
@@ -362,8 +376,8 @@ module _ (certified : Bool) (t : TopologyValue) where
       → read_stream (read_contents t) stream ≡ value_and_rest read later → later ≡ Err own
       → read_stream (read_after_topology certified t) stream ≡ Err own
   read_after_topology-end_Err stream later read own e is =
-      read_stream-Err_implied (read_contents t) (read_after_topology certified t) read_after_topology-contents_Err
-      stream own (e ∙ ap (value_and_rest read) is)
+      read_stream-Err_implied (read_contents t) (read_after_topology certified t)
+      read_after_topology-contents_Err stream own (e ∙ ap (value_and_rest read) is)
 
   pub read_after_topology-Ok : (stream later : Stream) (read : ContentsRead) (certificate : Option (List ℕ))
       → read_stream (read_contents t) stream ≡ value_and_rest read later

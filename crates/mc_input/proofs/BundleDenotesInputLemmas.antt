@@ -37,7 +37,8 @@ has_name-from_named (Some p) name n part e =
     )
 
 GivesSlotNames-part_with_slot_name : (parts : List PartText) → GivesSlotNames (part_with_slot_name parts)
-GivesSlotNames-part_with_slot_name parts n slot part e = (has_name-from_named (slice_get parts n) (part_name slot) n part e).1
+GivesSlotNames-part_with_slot_name parts n slot part e =
+    (has_name-from_named (slice_get parts n) (part_name slot) n part e).1
 
 pub part_with_slot_name-Ok : (parts : List PartText) (n : ℕ) (slot : Slot) (part : PartText)
     → slice_get parts n ≡ Some part → part.name ≡ part_name slot
@@ -56,7 +57,8 @@ slice_get-from_drop (x ∷ xs) (suc i) y ys e = slice_get-from_drop xs i y ys e
 pub drop-more : {A : Type 0} (xs : List A) (i : ℕ) (y : A) (ys : List A) → drop i xs ≡ y ∷ ys
     → drop (i + 1) xs ≡ ys
 drop-more xs i y ys e =
-    let whole : y ∷ drop (i + 1) xs ≡ y ∷ ys = sym (drop-slice_get xs i y (slice_get-from_drop xs i y ys e)) ∙ e in cc
+    let whole : y ∷ drop (i + 1) xs ≡ y ∷ ys =
+    sym (drop-slice_get xs i y (slice_get-from_drop xs i y ys e)) ∙ e in cc
 
 -- ---- the parts of a bundle, one after the other
 
@@ -131,8 +133,8 @@ names-PartsDenoteInput : (certified : Bool) (parts : List PartText) (v : InputVa
     → map (λ part. part.name) parts ≡ map part_name (slots certified v.topology)
 names-PartsDenoteInput certified parts v certificate is h =
     let last = names-PartsDenoteCertificate certified h.last certificate is h.certificate_denoted in
-    let reports = names-PartsDenoteReports v.topology.lans h.of_lans v.reports h.last (certificate_slots certified)
-    h.reports last in
+    let reports = names-PartsDenoteReports v.topology.lans h.of_lans v.reports h.last
+    (certificate_slots certified) h.reports last in
     let tables = names-PartsDenoteTables v.topology.routers h.of_routers v.tables h.of_lans
     (map reports_slot v.topology.lans ++ certificate_slots certified) h.tables reports in
     ap (λ (ps : List PartText). map (λ (part : PartText). part.name) ps) h.in_order
@@ -162,8 +164,8 @@ names-behind_first_slots (slot ∷ slots) more (part ∷ parts) e =
     let rest : map part_name (slots ++ more) ≡ map (λ (p : PartText). p.name) parts = cc in
     names-behind_first_slots slots more parts rest
 
-PartsDenoteCertificate-certificate_in : (certified : Bool) (parts : List PartText) (t : TopologyValue) (last : List PartText)
-    → drop (length (slots false t)) parts ≡ last
+PartsDenoteCertificate-certificate_in : (certified : Bool) (parts : List PartText) (t : TopologyValue)
+    (last : List PartText) → drop (length (slots false t)) parts ≡ last
     → map part_name (certificate_slots certified) ≡ map (λ part. part.name) last
     → PartsDenoteCertificate last (certificate_in certified parts t)
 PartsDenoteCertificate-certificate_in false parts t [] is e = refl
@@ -207,7 +209,8 @@ check_part_names-Ok : (certified : Bool) (parts : List PartText) (t : TopologyVa
 check_part_names-Ok certified parts t e =
     let names : List (List ℕ) = map part_name (slots certified t) in
     let none : first_part_mismatch certified t parts ≡ None =
-    subst (λ (others : List (List ℕ)). first_mismatch names others ≡ None) (sym e) (first_mismatch-same_names names)
+    subst (λ (others : List (List ℕ)). first_mismatch names others ≡ None) (sym e)
+    (first_mismatch-same_names names)
     in rw none refl
 
 -- parts that are read as an input denote it
@@ -216,13 +219,15 @@ pub PartsDenoteInput-from_input_of_parts : (certified : Bool) (parts : List Part
     (certificate_in certified parts v.topology)
 PartsDenoteInput-from_input_of_parts certified parts v e =
     let t = v.topology in
-    let judged = judged-from_read_input (λ fault. fault) (part_with_slot_name parts) (check_part_names certified parts) v e in
+    let judged = judged-from_read_input (λ fault. fault) (part_with_slot_name parts)
+    (check_part_names certified parts) v e in
     let last = drop (length (slots false t)) parts in
     let names = names-behind_first_slots (slots false t) (certificate_slots certified) parts
     (ap (λ (ss : List Slot). map part_name ss) (append-certificate_slots certified t)
     ∙ names-from_check_part_names certified parts t judged) in
     let denoted = PartsDenoteCertificate-certificate_in certified parts t last refl names in
-    let all = HasInputParts-from_read_input (λ fault. fault) (part_with_slot_name parts) (GivesSlotNames-part_with_slot_name parts)
+    let all = HasInputParts-from_read_input (λ fault. fault) (part_with_slot_name parts)
+    (GivesSlotNames-part_with_slot_name parts)
     (check_part_names certified parts) v last (certificate_in certified parts t) e denoted in
     let none : length (slots false t) ≡ 0 + length (slots false t) = omega arith in
     let same : all.parts ≡ parts = drop-from_Serves parts 0 (slots false t) all.parts last all.served
@@ -240,8 +245,8 @@ input_of_parts-Ok certified parts v certificate is h =
     let names = names-PartsDenoteInput certified parts v certificate is h in
     let served = Serves-from_names parts 0 (slots false t) (certificate_slots certified) parts refl
     (names ∙ ap (λ (ss : List Slot). map part_name ss) (sym (append-certificate_slots certified t))) in
-    let read = read_input-denoted (λ fault. fault) (part_with_slot_name parts) (check_part_names certified parts) parts v
-    certificate h (drop (0 + length (slots false t)) parts) served
+    let read = read_input-denoted (λ fault. fault) (part_with_slot_name parts)
+    (check_part_names certified parts) parts v certificate h (drop (0 + length (slots false t)) parts) served
     (check_part_names-Ok certified parts t names) in
     let none : 0 + length (slots false t) ≡ length (slots false t) = omega arith in
     let last : h.last ≡ drop (length (slots false t)) parts =

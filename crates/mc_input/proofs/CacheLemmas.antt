@@ -34,7 +34,8 @@ cache_and_text-Err order part (Err own) each fault e =
     let same : Cache part.name own ≡ fault = cc in rw (each own refl) (ap Err same)
 
 module _ (order : Order) (pairs : List (ℕ × ℕ)) where
-  pub cache_and_text-from_listed : (part : PartText) (listed : CacheValue) → listed_part order pairs part ≡ Ok listed
+  pub cache_and_text-from_listed : (part : PartText) (listed : CacheValue)
+      → listed_part order pairs part ≡ Ok listed
       → (whole : CacheValue)
       × (cache_and_text order part ≡ (let found : CacheValue × List ℕ = (whole, part.bytes) in Ok found))
       × IsListedPart (Some pairs) listed whole
@@ -43,8 +44,8 @@ module _ (order : Order) (pairs : List (ℕ × ℕ)) where
       let whole = listed_in-is_part order (Some pairs) part.bytes listed found in
       (whole.0, rw whole.1 refl, whole.2)
 
-  pub cache_and_text-listed_Err : (part : PartText) (fault : InputFault) → listed_part order pairs part ≡ Err fault
-      → cache_and_text order part ≡ Err fault
+  pub cache_and_text-listed_Err : (part : PartText) (fault : InputFault)
+      → listed_part order pairs part ≡ Err fault → cache_and_text order part ≡ Err fault
   cache_and_text-listed_Err part fault e =
       cache_and_text-Err order part (listed_in order (Some pairs) part.bytes)
       (λ own is. (listed_in-same_fault order (Some pairs) part.bytes own).0 is) fault e

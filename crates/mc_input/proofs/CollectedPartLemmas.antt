@@ -16,7 +16,8 @@ Some-injective e = cc
 
 -- a part with a name that was opened, of which these bytes were collected, up to its end
 pub rest_of_bundle-part_collected : (old s new : PartsState) (name bytes items text : List ℕ)
-    → (middle : List ℕ) × (s.remaining ≡ Some middle) × (rest_of_bundle old text ≡ parts_from_current s [] middle)
+    → (middle : List ℕ) × (s.remaining ≡ Some middle)
+    × (rest_of_bundle old text ≡ parts_from_current s [] middle)
     → ((t done : List ℕ) → s.remaining ≡ Some t → (later : List ℕ) × (new.remaining ≡ Some later)
     × (parts_from_current s done t ≡ parts_from_current new (done ++ items) later))
     → (new.stage ≡ stages.Part) × (new.name ≡ s.name) × (new.left ≡ 0)

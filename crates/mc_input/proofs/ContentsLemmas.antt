@@ -1,6 +1,6 @@
 -- What is read of the slots' parts one after another is what the definitions read of a source.
-use Rattle.std.specs.Prelude.{◌≡◌, ℕ, ◌+◌, ◌*◌, Bool, List, [], ◌∷◌, ◌++◌, flat_map, length, map, Result, Ok, Err}
-use Rattle.std.specs.Prelude.{refl}
+use Rattle.std.specs.Prelude.{◌≡◌, ℕ, ◌+◌, ◌*◌, Bool, List, [], ◌∷◌, ◌++◌, flat_map, length, map, Result, Ok}
+use Rattle.std.specs.Prelude.{Err, refl}
 use Rattle.std.specs.FinMap.{FinMap}
 use Rattle.std.specs.Ordering.{nat_cmp}
 use Rattle.std.proofs.Common.{ap, ◌∙◌, arith}
@@ -76,9 +76,11 @@ module _ (source : ℕ → Slot → Result PartText SourceFault) where
       rest = parts_of_slots source m more
 
       by_cache : tables_alone (read_routers rs here)
-          ≡ (all_tables Input source (n + 2) rs >>= λ tables. (let r : TablesAndRest = Ok (tables, rest) in r))
+          ≡ (all_tables Input source (n + 2) rs
+          >>= λ tables. (let r : TablesAndRest = Ok (tables, rest) in r))
           → (vifs : FinMap nat_cmp VifValue) (text : List ℕ) (cache : Result CacheValue InputFault)
-          → tables_alone ((map_fault Input (cache >>= λ entries. (let r : Result (CacheValue × List ℕ) InputFault =
+          → tables_alone ((map_fault Input
+          (cache >>= λ entries. (let r : Result (CacheValue × List ℕ) InputFault =
           Ok (entries, text) in r))
           >>= λ found. (let r : Result (RouterRead × NextParts) SourceFault =
           Ok (router_read vifs found.0 r.order found.1, here) in r))
@@ -99,7 +101,8 @@ module _ (source : ℕ → Slot → Result PartText SourceFault) where
 
       by : (vifs : Result (FinMap nat_cmp VifValue) SourceFault) (given : Result PartText SourceFault)
           → tables_alone (read_routers rs here)
-          ≡ (all_tables Input source (n + 2) rs >>= λ tables. (let r : TablesAndRest = Ok (tables, rest) in r))
+          ≡ (all_tables Input source (n + 2) rs
+          >>= λ tables. (let r : TablesAndRest = Ok (tables, rest) in r))
           → tables_alone ((vifs >>= λ found. read_part Input given (cache_and_text r.order)
           >>= λ cache. (let r : Result (RouterRead × NextParts) SourceFault =
           Ok (router_read found cache.0 r.order cache.1, here) in r))
@@ -179,7 +182,8 @@ module _ (source : ℕ → Slot → Result PartText SourceFault) where
           Ok ((routers, reports.0), reports.1) in r))
           >>= λ read. (let r : Result (InputValue × NextParts) SourceFault =
           Ok (input_of_contents t read.0, read.1) in r))
-          ≡ (found >>= λ reports. Ok (input_with t (map (λ (read : RouterRead). read.tables) routers) reports.0, reports.1))
+          ≡ (found >>= λ reports.
+          Ok (input_with t (map (λ (read : RouterRead). read.tables) routers) reports.0, reports.1))
       by_reports routers (Ok found) = refl
       by_reports routers (Err fault) = refl
 
@@ -210,6 +214,7 @@ module _ (source : ℕ → Slot → Result PartText SourceFault) where
           ap (λ (found : ReportsAndRest). found >>= λ reports.
           (let r : Result (InputValue × NextParts) SourceFault =
           Ok (input_with t tables reports.0, reports.1) in r))
-          (read_lans-all_reports (first_lan_number t) (certificate_number t) t.lans (certificate_slots certified) refl)
+          (read_lans-all_reports (first_lan_number t) (certificate_number t) t.lans
+          (certificate_slots certified) refl)
           ∙ after_reports tables (all_reports Input source (first_lan_number t) t.lans)
       after_tables (Err fault) = refl

@@ -145,13 +145,14 @@ module _ (files : List FileText) where
 -- ---- where the files are the same, the same is read
 
 module _ (files others : List FileText) where
-  file_part-same_file : (slot : Slot) → IsSameFile files others slot → file_part files slot ≡ file_part others slot
+  file_part-same_file : (slot : Slot) → IsSameFile files others slot
+      → file_part files slot ≡ file_part others slot
   file_part-same_file slot same =
       ap (λ found. bytes_within_max_part found
       >>= λ bytes. Ok (record { name = part_name slot; bytes = bytes })) same
 
-  pub router_tables-same_files : (n : ℕ) (name : List ℕ) (order : Order) → IsSameFile files others (vif_slot name)
-      → IsSameFile files others (cache_slot name)
+  pub router_tables-same_files : (n : ℕ) (name : List ℕ) (order : Order)
+      → IsSameFile files others (vif_slot name) → IsSameFile files others (cache_slot name)
       → router_tables Input (part_from_file files) n name order
       ≡ router_tables Input (part_from_file others) n name order
   unfolding router_tables
@@ -176,7 +177,8 @@ pub all_reports-with_exclusions : (names : List (List ℕ)) (files : List FileTe
     → all_reports Input (part_from_file (files_with_exclusions names files)) (first_lan_number t) t.lans
     ≡ all_reports Input (part_from_file files) (first_lan_number t) t.lans
 all_reports-with_exclusions names files t =
-    all_reports-same_files (files_with_exclusions names files) files (IsSameFile-reports_slot names files) (first_lan_number t) t.lans
+    all_reports-same_files (files_with_exclusions names files) files (IsSameFile-reports_slot names files)
+    (first_lan_number t) t.lans
 
 -- ---- the names
 
@@ -221,7 +223,8 @@ module _ (names : List (List ℕ)) (files : List FileText) where
   pub input_of_files_without-names_Ok : (t : TopologyValue) (x : Unit {0})
       → read_part Input (part_from_file files 0 topology_slot) topology_of ≡ Ok t
       → check_router_names t 1 names ≡ Ok x
-      → input_of_files_without names files ≡ map_fault Source (input_of_files (files_with_exclusions names files))
+      → input_of_files_without names files
+      ≡ map_fault Source (input_of_files (files_with_exclusions names files))
   input_of_files_without-names_Ok t x topology name = rw (topology, name) refl
 
   -- the files with routers excluded have the folder's topology
@@ -231,7 +234,8 @@ module _ (names : List (List ℕ)) (files : List FileText) where
       ≡ read_tables_and_reports Input (part_from_file (files_with_exclusions names files)) t
   input_of_files-with_exclusions t topology =
       read_input-judged Input (part_from_file (files_with_exclusions names files)) (λ t. Ok tt) t tt
-      (read_part-same_topology_file (files_with_exclusions names files) files 0 (IsSameFile-topology_slot names files) ∙ topology) refl
+      (read_part-same_topology_file (files_with_exclusions names files) files 0
+      (IsSameFile-topology_slot names files) ∙ topology) refl
 
 -- ---- names as texts
 
@@ -276,7 +280,8 @@ module _ (t : TopologyValue) (texts : List (Bor (List ℕ))) (i : ℕ) (d : Bor 
     (is : no ≡ router_no_of (get_or texts i d).now t.routers) where
   check_router_names-by_case : (b : Bool) → is_some no ≡ b
       → check_router_names t (i + 1) (drop i (map (λ (text : Bor (List ℕ)). text.now) texts))
-      ≡ cond b (check_router_names t (i + 1 + 1) (drop (i + 1) (map (λ (text : Bor (List ℕ)). text.now) texts)))
+      ≡ cond b
+      (check_router_names t (i + 1 + 1) (drop (i + 1) (map (λ (text : Bor (List ℕ)). text.now) texts)))
       (Err (NoSuchRouter (min (i + 1) 4294967295)))
   check_router_names-by_case b here =
       ap (check_router_names t (i + 1)) (drop-map_now texts i d lt)

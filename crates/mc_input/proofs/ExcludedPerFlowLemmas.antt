@@ -49,7 +49,8 @@ all_tables-with_exclusions names files n (own ∷ rs) ts us zero p q known =
     let b = all_tables-first (part_from_file files) n own rs us q in
     let same : a.0 ≡ b.0 = ok_injective {E = SourceFault} a.0 b.0 (sym a.2
     ∙ router_tables-same_files (files_with_exclusions names files) files n own.name own.order
-    (IsSameFile-other_vif names files own.name known) (IsSameFile-other_cache names files own.name known) ∙ b.2) in
+    (IsSameFile-other_vif names files own.name known) (IsSameFile-other_cache names files own.name known)
+    ∙ b.2) in
     ap (λ (l : List TablesValue). slice_get l 0) a.4 ∙ ap Some same
     ∙ sym (ap (λ (l : List TablesValue). slice_get l 0) b.4)
 all_tables-with_exclusions names files n (own ∷ rs) ts us (suc k) p q known =
@@ -68,9 +69,10 @@ RouterRow-excluded names (Some r) e = (r, refl, e)
 module _ (names : List (List ℕ)) (files : List FileText) (part whole : DomainValue)
     (m : FilesMeanDomain (files_with_exclusions names files) part) (n : FilesMeanDomain files whole) where
   topology_read : m.input.topology ≡ n.input.topology
-  topology_read = Ok-injective (sym (read_input-topology (part_from_file (files_with_exclusions names files)) m.input
-      (input_of_files-Ok (files_with_exclusions names files) m.input m.denotes))
-      ∙ read_part-same_topology_file (files_with_exclusions names files) files 0 (IsSameFile-topology_slot names files)
+  topology_read = Ok-injective (sym (read_input-topology (part_from_file (files_with_exclusions names files))
+      m.input (input_of_files-Ok (files_with_exclusions names files) m.input m.denotes))
+      ∙ read_part-same_topology_file (files_with_exclusions names files) files 0
+      (IsSameFile-topology_slot names files)
       ∙ read_input-topology (part_from_file files) n.input (input_of_files-Ok files n.input n.denotes))
 
   topology_same : part.topology ≡ whole.topology
@@ -126,7 +128,8 @@ module _ (names : List (List ℕ)) (files : List FileText) (part whole : DomainV
       (subst (λ (t : TopologyValue). IsAssembled t n.input.tables n.input.reports whole)
       (sym topology_read) n.assembled) in
       same_wants-from_IsAssembled m.input n.input.tables part whole m.rules n.rules
-      (AreCounted-from_PartsDenoteInput m.denotes.parts m.input None m.denotes.parts_denote).lans m.assembled theirs
+      (AreCounted-from_PartsDenoteInput m.denotes.parts m.input None m.denotes.parts_denote).lans
+      m.assembled theirs
 
   pub ExcludesRouters-from_files : (flow : ℕ)
       → ExcludesRouters (is_excluded whole.topology names) (net_of part flow) (net_of whole flow)

@@ -8,14 +8,15 @@ use Rattle.mc_input.specs.declared.fault.InputFault.{InputFault}
 use Rattle.mc_input.specs.declared.fault.InputFault.TheVariants.{Memory}
 use Rattle.mc_input.specs.declared.source_fault.SourceFault.TheVariants.{Input}
 
-pub is_possible_for_files-from_file_fault : (fault : FileFault) → is_possible_for_files (from_file_fault fault) ≡ true
+pub is_possible_for_files-from_file_fault : (fault : FileFault)
+    → is_possible_for_files (from_file_fault fault) ≡ true
 is_possible_for_files-from_file_fault file.Failed = refl
 is_possible_for_files-from_file_fault file.TooLarge = refl
 is_possible_for_files-from_file_fault file.Memory = refl
 
 -- the fault of a reader, or that memory ran out
-pub is_possible_for_files-from_reader : {Y E : Type 0} (fault : InputFault) (as_ours : E → InputFault) (read : Result Y E)
-    → ((e : E) → is_possible_for_files (Input (as_ours e)) ≡ true)
+pub is_possible_for_files-from_reader : {Y E : Type 0} (fault : InputFault) (as_ours : E → InputFault)
+    (read : Result Y E) → ((e : E) → is_possible_for_files (Input (as_ours e)) ≡ true)
     → ((¬ (fault ≡ Memory)) → map_fault as_ours read ≡ Err fault)
     → is_possible_for_files (Input fault) ≡ true
 is_possible_for_files-from_reader Memory as_ours read own is = refl

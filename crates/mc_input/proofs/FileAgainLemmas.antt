@@ -1,5 +1,6 @@
 -- What is read of the slot of a file by itself.
-use Rattle.std.specs.Prelude.{◌≡◌, ℕ, List, Option, Some, Result, Ok, Err, IfErr, IfOk, ◌+◌, drop, false, slice_get, ◌∷◌, refl}
+use Rattle.std.specs.Prelude.{◌≡◌, ℕ, List, Option, Some, Result, Ok, Err, IfErr, IfOk, ◌+◌, drop, false}
+use Rattle.std.specs.Prelude.{slice_get, ◌∷◌, refl}
 use Rattle.std.proofs.Common.{ap, ◌∙◌, sym}
 use Rattle.mc_text.specs.Bundle.{PartText}
 use Rattle.mc_text.specs.Steps.{◌>>=◌, map_fault}
@@ -46,7 +47,8 @@ module _ {Y : Type 0} (files : List FileText) (t : TopologyValue) (n : ℕ) (slo
       by (Err fault) e = absurd cc
 
   -- a file that can be read is refused only where the source fails or memory runs out
-  pub IsReadOrMemory-of_slot : (gives : Option Stream) (r : Result Y SourceFault) (part : PartText) (value : Y)
+  pub IsReadOrMemory-of_slot : (gives : Option Stream) (r : Result Y SourceFault)
+      (part : PartText) (value : Y)
       → gives ≡ Some (files_give t n files) → file_part files slot ≡ Ok part → read part ≡ Ok value
       → IfErr r (IsFaultOfStream gives (read_first read)) → IfErr r IsReadOrMemory
   IsReadOrMemory-of_slot gives (Ok kept) part value known made is refused = tt
@@ -57,7 +59,8 @@ module _ {Y : Type 0} (files : List FileText) (t : TopologyValue) (n : ℕ) (slo
       reads : read_stream (read_first read) (files_give t n files) ≡ Ok value
       reads =
           ap (read_stream (read_first read)) given
-          ∙ ap (λ (p : Result PartText FileFault). map_fault from_file_fault p >>= λ own. map_fault Input (read own)) made
+          ∙ ap (λ (p : Result PartText FileFault). map_fault from_file_fault p
+          >>= λ own. map_fault Input (read own)) made
           ∙ ap (map_fault Input) is
 
       not_both : {x : Y} {fault : SourceFault} → (let r : Result Y SourceFault = Ok x in r) ≡ Err fault → ⊥

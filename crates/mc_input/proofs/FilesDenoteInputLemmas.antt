@@ -19,7 +19,8 @@ use Rattle.mc_input.proofs.SourceOfPartsLemmas.{HasInputParts-from_read_input, r
 
 GivesSlotNames-part_from_file : (files : List FileText) → GivesSlotNames (part_from_file files)
 GivesSlotNames-part_from_file files n slot part e =
-    (IsPartOfFile-from_file_part files slot part (Ok-from_refused_as from_file_fault (file_part files slot) part e)).0
+    (IsPartOfFile-from_file_part files slot part
+    (Ok-from_refused_as from_file_fault (file_part files slot) part e)).0
 
 -- the parts that are made of the files are packed of them
 ArePacked-from_Serves : (files : List FileText) (n : ℕ) (slots : List Slot) (parts : List PartText)
@@ -29,7 +30,8 @@ ArePacked-from_Serves files n [] [] h = (tt, tt)
 ArePacked-from_Serves files n [] (part ∷ parts) h = absurd (cc)
 ArePacked-from_Serves files n (slot ∷ slots) [] h = absurd h
 ArePacked-from_Serves files n (slot ∷ slots) (part ∷ parts) h =
-    let made = IsPartOfFile-from_file_part files slot part (Ok-from_refused_as from_file_fault (file_part files slot) part h.0) in
+    let made = IsPartOfFile-from_file_part files slot part
+    (Ok-from_refused_as from_file_fault (file_part files slot) part h.0) in
     let more = ArePacked-from_Serves files (n + 1) slots parts h.1 in
     ((made.0, made.1, more.0), (made.2, more.1))
 
@@ -45,11 +47,11 @@ Serves-from_ArePacked files n (slot ∷ slots) (part ∷ parts) packed small = (
 )
 
 -- files denote the input that they are read as
-pub FilesDenoteInput-from_input_of_files : (files : List FileText) (v : InputValue) → input_of_files files ≡ Ok v
-    → FilesDenoteInput files v
+pub FilesDenoteInput-from_input_of_files : (files : List FileText) (v : InputValue)
+    → input_of_files files ≡ Ok v → FilesDenoteInput files v
 FilesDenoteInput-from_input_of_files files v e =
-    let all = HasInputParts-from_read_input Input (part_from_file files) (GivesSlotNames-part_from_file files) (λ t. Ok tt) v [] None e
-    refl in
+    let all = HasInputParts-from_read_input Input (part_from_file files) (GivesSlotNames-part_from_file files)
+    (λ t. Ok tt) v [] None e refl in
     let packed = ArePacked-from_Serves files 0 (slots false v.topology) all.parts all.served in
     record { parts = all.parts; packed = packed.0; sizes = packed.1; parts_denote = all.parts_denote }
 

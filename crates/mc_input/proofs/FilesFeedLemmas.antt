@@ -23,8 +23,8 @@ file_named-from_open name contents left (Some files) is found =
     subst (λ fs. (bytes : List ℕ) × (file_named fs name ≡ Some bytes) × (left ≡ Some bytes)) same found
 
 -- the bytes of the file, if they fit a part,
-pub bytes_within_max_part-fed : {E : Type 0} (found : Option (List ℕ)) (bytes : List ℕ) (r : Result (Unit {0}) FileFault)
-    (old : List ℕ → E) (new : E) → found ≡ Some bytes
+pub bytes_within_max_part-fed : {E : Type 0} (found : Option (List ℕ)) (bytes : List ℕ)
+    (r : Result (Unit {0}) FileFault) (old : List ℕ → E) (new : E) → found ≡ Some bytes
     → OnOk r ((length bytes ≤ max_part) × (old bytes ≡ new))
     → OnOk r ((whole : List ℕ) × (bytes_within_max_part found ≡ Ok whole) × (length whole ≤ max_text)
     × (old whole ≡ new))

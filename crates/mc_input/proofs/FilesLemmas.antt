@@ -15,7 +15,8 @@ use Rattle.mc_input.specs.declared.fault.InputFault.TheVariants.{Memory}
 use Rattle.mc_input.specs.declared.source_fault.SourceFault.TheVariants.{Input}
 
 -- a silent fault of a file is silent as one of the folder
-pub IsReadOrMemory-from_file_fault : (fault : FileFault) → IsFailedOrMemory fault → IsReadOrMemory (from_file_fault fault)
+pub IsReadOrMemory-from_file_fault : (fault : FileFault) → IsFailedOrMemory fault
+    → IsReadOrMemory (from_file_fault fault)
 IsReadOrMemory-from_file_fault file.Failed silent = inl refl
 IsReadOrMemory-from_file_fault file.TooLarge silent = absurd silent
 IsReadOrMemory-from_file_fault file.Memory silent = inr refl

@@ -1,5 +1,6 @@
 -- How many slots a domain has, and how many answers.
-use Rattle.std.specs.Prelude.{◌≡◌, ℕ, zero, suc, ◌+◌, ◌*◌, ◌<◌, Bool, List, [], ◌∷◌, ◌++◌, length, slice_get, Some}
+use Rattle.std.specs.Prelude.{◌≡◌, ℕ, zero, suc, ◌+◌, ◌*◌, ◌<◌, Bool, List, [], ◌∷◌, ◌++◌, length, slice_get}
+use Rattle.std.specs.Prelude.{Some}
 use Rattle.std.proofs.Common.{arith, subst}
 use Rattle.mc_topology.specs.Topology.{TopologyValue}
 use Rattle.mc_files.specs.Layout.{slots, certificate_slots}
@@ -8,9 +9,10 @@ use Rattle.mc_input.specs.PartsOneByOne.{certificate_number}
 use Rattle.mc_input.specs.PartsReading.{first_lan_number}
 
 -- the numbers of a router's slots are below the count
-pub router_slots-within_count : (certified : Bool) (t : TopologyValue) (router : ℕ) → router < length t.routers
-    → 2 + 2 * router < length (slots certified t)
-router_slots-within_count certified t router within = omega (arith, within, length-slots_after_topology certified t)
+pub router_slots-within_count : (certified : Bool) (t : TopologyValue) (router : ℕ)
+    → router < length t.routers → 2 + 2 * router < length (slots certified t)
+router_slots-within_count certified t router within =
+    omega (arith, within, length-slots_after_topology certified t)
 
 -- and those of a LAN's
 pub lan_slot-within_count : (certified : Bool) (t : TopologyValue) (lan : ℕ) → lan < length t.lans

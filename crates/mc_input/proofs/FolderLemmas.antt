@@ -1,6 +1,6 @@
 -- What is read of a folder's files one after another, as the definitions read it, and the summaries.
-use Rattle.std.specs.Prelude.{◌≡◌, ℕ, ◌+◌, Bool, false, List, [], ◌∷◌, ◌++◌, drop, flat_map, map, Option, Some}
-use Rattle.std.specs.Prelude.{None, Result, Ok, Err, option_map}
+use Rattle.std.specs.Prelude.{◌≡◌, ℕ, ◌+◌, Bool, false, List, [], ◌∷◌, ◌++◌, drop, flat_map, map, Option}
+use Rattle.std.specs.Prelude.{Some, None, Result, Ok, Err, option_map}
 use Rattle.std.proofs.Common.{ap, ◌∙◌, sym, subst}
 use Rattle.mc_text.specs.Steps.{◌>>=◌, map_fault}
 use Rattle.mc_text.proofs.StepLemmas.{bind_ok, ok_injective}
@@ -52,12 +52,14 @@ module _ (files : List FileText) where
     read_tables_and_reports-from_contents read rest e =
         by (read_tables_and_reports Input (part_from_file files) t)
         (sym (ap (λ (r : Result (ContentsRead × NextParts) SourceFault). r
-        >>= λ x. (let q : Result (InputValue × NextParts) SourceFault = Ok (input_of_contents t x.0, x.1) in q)) e)
+        >>= λ x. (let q : Result (InputValue × NextParts) SourceFault =
+        Ok (input_of_contents t x.0, x.1) in q)) e)
         ∙ read_contents-source (part_from_file files) false t)
       where
         by : (r : Result InputValue SourceFault)
             → (let q : Result (InputValue × NextParts) SourceFault = Ok (input_of_contents t read, rest) in q)
-            ≡ (r >>= λ input. Ok (input, parts_of_slots (part_from_file files) (certificate_number t) (certificate_slots false)))
+            ≡ (r >>= λ input. Ok
+            (input, parts_of_slots (part_from_file files) (certificate_number t) (certificate_slots false)))
             → r ≡ Ok (input_of_contents t read)
         by (Ok own) e =
             ap Ok (sym (ap (λ (p : InputValue × NextParts). p.0) (ok_injective {E = SourceFault} _ _ e)))
@@ -69,12 +71,14 @@ module _ (files : List FileText) where
     read_tables_and_reports-contents_Err fault e =
         by (read_tables_and_reports Input (part_from_file files) t)
         (sym (ap (λ (r : Result (ContentsRead × NextParts) SourceFault). r
-        >>= λ x. (let q : Result (InputValue × NextParts) SourceFault = Ok (input_of_contents t x.0, x.1) in q)) e)
+        >>= λ x. (let q : Result (InputValue × NextParts) SourceFault =
+        Ok (input_of_contents t x.0, x.1) in q)) e)
         ∙ read_contents-source (part_from_file files) false t)
       where
         by : (r : Result InputValue SourceFault)
             → (let q : Result (InputValue × NextParts) SourceFault = Err fault in q)
-            ≡ (r >>= λ input. Ok (input, parts_of_slots (part_from_file files) (certificate_number t) (certificate_slots false)))
+            ≡ (r >>= λ input. Ok
+            (input, parts_of_slots (part_from_file files) (certificate_number t) (certificate_slots false)))
             → r ≡ Err fault
         by (Ok own) e = absurd cc
         by (Err other) e = cc
@@ -94,7 +98,8 @@ module _ (files : List FileText) where
     IsSummaryOf-from_read r n more own summary e =
         let parts = part_from_file files n (vif_slot r.name)
         ∷ part_from_file files (n + 1) (cache_slot r.name) ∷ more in
-        let vifs = bind_ok (read_first vifs_of parts) (λ vifs. read_first (cache_and_text r.order) (drop 1 parts)
+        let vifs = bind_ok (read_first vifs_of parts) (λ vifs.
+        read_first (cache_and_text r.order) (drop 1 parts)
         >>= λ cache. (let q : Result (RouterRead × NextParts) SourceFault =
         Ok (router_read vifs cache.0 r.order cache.1, more) in q)) own e in
         let cache = bind_ok (read_first (cache_and_text r.order) (drop 1 parts))
@@ -126,7 +131,8 @@ module _ (files : List FileText) where
         → Pairwise IsOwn reads summary → Pairwise (IsSummaryOf all files t.flows) rs summary
     unfolding read_each
     summaries-of_routers [] n more reads rest summary e each =
-        let none : [] ≡ reads = ap (λ (p : List RouterRead × NextParts). p.0) (ok_injective {E = SourceFault} _ _ e) in
+        let none : [] ≡ reads = ap (λ (p : List RouterRead × NextParts). p.0)
+        (ok_injective {E = SourceFault} _ _ e) in
         by summary (subst (λ (rs : List RouterRead). Pairwise IsOwn rs summary) (sym none) each)
       where
         by : (ss : List SummaryValue) → Pairwise IsOwn [] ss → Pairwise (IsSummaryOf all files t.flows) [] ss
@@ -144,7 +150,8 @@ module _ (files : List FileText) where
         Ok (own.0.0 ∷ others.0, others.1) in q)) (reads, rest) own.2 in
         let same : own.0.0 ∷ others.0.0 ≡ reads =
         ap (λ (p : List RouterRead × NextParts). p.0) (ok_injective {E = SourceFault} _ _ others.2) in
-        by (λ found left ss. summaries-of_routers rs (n + 1 + 1) more found left ss) own.0 others.0 own.1 others.1 summary
+        by (λ found left ss. summaries-of_routers rs (n + 1 + 1) more found left ss)
+        own.0 others.0 own.1 others.1 summary
         (subst (λ (xs : List RouterRead). Pairwise IsOwn xs summary) (sym same) each)
       where
         later : NextParts
@@ -174,7 +181,8 @@ module _ (files : List FileText) where
         >>= λ reports. (let q : Result (ContentsRead × NextParts) SourceFault =
         Ok ((routers.0, reports.0), reports.1) in q)) (read, rest) e in
         let reports = bind_ok (read_lans t.lans routers.0.1) (λ reports.
-        (let q : Result (ContentsRead × NextParts) SourceFault = Ok ((routers.0.0, reports.0), reports.1) in q))
+        (let q : Result (ContentsRead × NextParts) SourceFault =
+        Ok ((routers.0.0, reports.0), reports.1) in q))
         (read, rest) routers.2 in
         let same : routers.0.0 ≡ read.0 =
         ap (λ (p : ContentsRead × NextParts). p.0.0) (ok_injective {E = SourceFault} _ _ reports.2) in

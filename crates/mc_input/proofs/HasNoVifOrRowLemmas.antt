@@ -77,7 +77,8 @@ module _ (source : ℕ → Slot → Result PartText SourceFault) where
       all_tables-slice_get (n + 2) rs first.1 k r t first.3 at
       (ap (λ (l : List TablesValue). slice_get l (suc k)) (sym first.4) ∙ here)
 
-  read_tables_and_reports-parts : (t : TopologyValue) (v : InputValue) → read_tables_and_reports Input source t ≡ Ok v
+  read_tables_and_reports-parts : (t : TopologyValue) (v : InputValue)
+      → read_tables_and_reports Input source t ≡ Ok v
       → (v.topology ≡ t) × (all_tables Input source 1 t.routers ≡ Ok v.tables)
       × (all_reports Input source (first_lan_number t) t.lans ≡ Ok v.reports)
   unfolding read_tables_and_reports
@@ -153,7 +154,8 @@ RouterRow-from_name (Some r) name e = (r, refl, cc)
 
 module _ (names : List (List ℕ)) (files : List FileText) (d : DomainValue) (router : ℕ)
     (row : RouterRow) (means : FilesMeanDomain (files_with_exclusions names files) d)
-    (here : slice_get d.topology.routers router ≡ Some row) (is : is_excluded_name names row.name ≡ true) where
+    (here : slice_get d.topology.routers router ≡ Some row)
+    (is : is_excluded_name names row.name ≡ true) where
   empty_tables-excluded : (t : TablesValue) → slice_get means.input.tables router ≡ Some t → empty_tables ≡ t
   empty_tables-excluded t there =
       let input = means.input in
@@ -192,4 +194,5 @@ pub HasNoVifOrRow-excluded : (names : List (List ℕ)) (files : List FileText) (
 HasNoVifOrRow-excluded names files d router name means named own =
     let row = RouterRow-from_name (slice_get d.topology.routers router) name own in
     HasNoVifOrRow-at names files d router row.0 means row.1
-    (subst (λ (n : List ℕ). is_excluded_name names n ≡ true) (sym row.2) (is_excluded_name-from_Contains names name named))
+    (subst (λ (n : List ℕ). is_excluded_name names n ≡ true) (sym row.2)
+    (is_excluded_name-from_Contains names name named))

@@ -1,6 +1,6 @@
 -- What is seen of a slot's file, where routers are excluded.
-use Rattle.std.specs.Prelude.{◌≡◌, ℕ, ◌+◌, ◌-◌, ◌*◌, ◌/◌, ◌%◌, ◌<◌, Bool, true, false, List, Option, Some, None}
-use Rattle.std.specs.Prelude.{length, option_map, slice_get, cond, refl}
+use Rattle.std.specs.Prelude.{◌≡◌, ℕ, ◌+◌, ◌-◌, ◌*◌, ◌/◌, ◌%◌, ◌<◌, Bool, true, false, List, Option, Some}
+use Rattle.std.specs.Prelude.{None, length, option_map, slice_get, cond, refl}
 use Rattle.std.proofs.Common.{ap, ◌∙◌, sym, subst, arith}
 use Rattle.mc_topology.specs.Topology.{TopologyValue}
 use Rattle.mc_files.specs.Files.{FileText, file_named}
@@ -51,11 +51,13 @@ module _ (t : TopologyValue) (n : ℕ) (names : List (List ℕ)) (files : List F
         sees-slot header (vif_slot name) (router_slot false t n k (vif_slot name) number
         (λ more. slice_get-vif_slot more t.routers (k / 2) k name (omega (arith, even)) named))
         (subst (λ h. Sees h (vif_slot name)) (sym is) (file_named-vif_slot names files name
-        ∙ header_or_file-by_case (is_excluded_name names name) _ (file_named files (file_name (vif_slot name)))))
+        ∙ header_or_file-by_case (is_excluded_name names name) _
+        (file_named files (file_name (vif_slot name)))))
 
     pub sees-cache : ¬ k % 2 ≡ 0 → header ≡ header_of_excluded names name false → Sees header slot
     sees-cache odd is =
         sees-slot header (cache_slot name) (router_slot false t n k (cache_slot name) number
         (λ more. slice_get-cache_slot more t.routers (k / 2) k name (omega (arith, odd)) named))
         (subst (λ h. Sees h (cache_slot name)) (sym is) (file_named-cache_slot names files name
-        ∙ header_or_file-by_case (is_excluded_name names name) _ (file_named files (file_name (cache_slot name)))))
+        ∙ header_or_file-by_case (is_excluded_name names name) _
+        (file_named files (file_name (cache_slot name)))))

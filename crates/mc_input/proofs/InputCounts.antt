@@ -29,9 +29,11 @@ length-PartsDenoteTables (router ∷ routers) (vif ∷ cache ∷ here) (own ∷ 
     ap suc (length-PartsDenoteTables routers here all rest h.1)
 
 -- the parts
-pub AreCounted-from_PartsDenoteInput : (parts : List PartText) (v : InputValue) (c : Option (List ℕ)) → PartsDenoteInput parts v c
-    → HaveMatchingCounts v.topology v.tables v.reports
+pub AreCounted-from_PartsDenoteInput : (parts : List PartText) (v : InputValue) (c : Option (List ℕ))
+    → PartsDenoteInput parts v c → HaveMatchingCounts v.topology v.tables v.reports
 AreCounted-from_PartsDenoteInput parts v c parts_denote = record {
-  routers = length-PartsDenoteTables v.topology.routers parts_denote.of_routers v.tables parts_denote.of_lans parts_denote.tables;
-  lans = length-PartsDenoteReports v.topology.lans parts_denote.of_lans v.reports parts_denote.last parts_denote.reports;
+  routers = length-PartsDenoteTables v.topology.routers parts_denote.of_routers v.tables parts_denote.of_lans
+      parts_denote.tables;
+  lans = length-PartsDenoteReports v.topology.lans parts_denote.of_lans v.reports parts_denote.last
+      parts_denote.reports;
 }

@@ -46,7 +46,8 @@ module _ (files : List FileText) where
       by : (tables : Result (List TablesValue) SourceFault)
           → (let q : Result (List TablesValue × NextParts) SourceFault =
           Ok (map (λ (read : RouterRead). read.tables) reads, rest) in q)
-          ≡ (tables >>= λ own. (let q : Result (List TablesValue × NextParts) SourceFault = Ok (own, later) in q))
+          ≡ (tables >>= λ own. (let q : Result (List TablesValue × NextParts) SourceFault =
+          Ok (own, later) in q))
           → rest ≡ later
       by (Ok own) e = ap (λ (p : List TablesValue × NextParts). p.1) (ok_injective {E = SourceFault} _ _ e)
       by (Err fault) e = absurd cc
@@ -60,7 +61,8 @@ module _ (files : List FileText) where
       let first = bind_ok (read_first reports_of parts) (λ records.
       (let q : Result (List Record × NextParts) SourceFault = Ok (records, more) in q)) own e in
       let whole = ok_injective {E = SourceFault} _ own first.2 in
-      let part = bind_ok (source n (reports_slot lan)) (λ part. map_fault Input (reports_of part)) first.0 first.1 in
+      let part = bind_ok (source n (reports_slot lan))
+      (λ part. map_fault Input (reports_of part)) first.0 first.1 in
       let records = Ok-from_refused_as (Reports part.0.name) (read_list part.0.bytes) first.0
       (Ok-from_refused_as Input (reports_of part.0) first.0 part.2) in (
         sym (ap (λ (p : List Record × NextParts). p.1) whole),
@@ -116,7 +118,8 @@ module _ (files : List FileText) where
       let same : reports.0.0 ≡ read.1 =
       ap (λ (p : ContentsRead × NextParts). p.0.1) (ok_injective {E = SourceFault} _ _ reports.2) in
       let after = rest-of_routers t.routers 1 more routers.0.0 routers.0.1 routers.1 in
-      let all_of = lists-of_lans t.lans (1 + 2 * length t.routers) (certificate_slots false) reports.0.0 reports.0.1
+      let all_of = lists-of_lans t.lans (1 + 2 * length t.routers)
+      (certificate_slots false) reports.0.0 reports.0.1
       (ap (read_lans t.lans) (sym after) ∙ reports.1) in
       let own = subst (Pairwise (IsListOf files) t.lans) same all_of in
       record {

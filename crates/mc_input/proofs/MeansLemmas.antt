@@ -38,7 +38,8 @@ read_rest-at_start certified s text is = rw is refl
 -- no more is read than the greatest bundle and a line
 pub ConsumesUpTo-from_ConsumesWithin : (most after : ℕ) (old new : Option (List ℕ)) → most ≡ max_input
     → ConsumesWithin most after old new → ConsumesUpTo max_input old new
-ConsumesUpTo-from_ConsumesWithin most after old new is spends = (spends.0, omega (arith, spends.1, is), spends.2)
+ConsumesUpTo-from_ConsumesWithin most after old new is spends =
+    (spends.0, omega (arith, spends.1, is), spends.2)
 
 -- ---- what it means
 
@@ -76,12 +77,14 @@ pub input_of_bundle-Err : (certified : Bool) (s : PartsState) (text : List ℕ) 
     → s.stage ≡ stages.Start → s.remaining ≡ Some text → IsFaultOf s (read_all_parts certified) own
     → ¬ IsReadOrMemory own → map_fault Input (input_of_bundle certified text) ≡ Err own
 input_of_bundle-Err certified s text own start remaining refused loud =
-    let found = Err-from_map_fault (read_rest s text (read_all_parts certified)) own (refused text remaining loud) in
+    let found = Err-from_map_fault (read_rest s text (read_all_parts certified)) own
+    (refused text remaining loud) in
     ap (map_fault Input) (input_of_bundle-Err_from_read_bundle certified text found.0
     (sym (read_rest-at_start certified s text start) ∙ found.1)) ∙ ap Err (sym found.2)
 
 -- a fault that isn't silent is that of a text without a meaning
-pub IsReadOrMemory-by_contradiction : (own : SourceFault) (P : Type 0) → (¬ IsReadOrMemory own → P) → (P → ⊥) → IsReadOrMemory own
+pub IsReadOrMemory-by_contradiction : (own : SourceFault) (P : Type 0) → (¬ IsReadOrMemory own → P) → (P → ⊥)
+    → IsReadOrMemory own
 IsReadOrMemory-by_contradiction Read P loud none = inl refl
 IsReadOrMemory-by_contradiction (Input input.Memory) P loud none = inr refl
 IsReadOrMemory-by_contradiction (Input fault) P loud none =
@@ -92,7 +95,8 @@ pub IsReadOrMemory-from_MeansDomain : (certified : Bool) (text : List ℕ) (cert
     → MeansDomain text certificate d
     → (¬ IsReadOrMemory own → map_fault Input (input_of_bundle certified text) ≡ Err own) → IsReadOrMemory own
 IsReadOrMemory-from_MeansDomain certified text certificate d own is means refused =
-    IsReadOrMemory-by_contradiction own (map_fault Input (input_of_bundle certified text) ≡ Err own) refused (λ e.
+    IsReadOrMemory-by_contradiction own
+    (map_fault Input (input_of_bundle certified text) ≡ Err own) refused (λ e.
     let read = input_of_bundle-Ok certified text means.input certificate is means.denotes in
     never (sym (ap (map_fault Input) read) ∙ e))
   where
@@ -135,7 +139,8 @@ module _ {X : Type 0} (d : X → DomainValue) (cert : X → Option (List ℕ)) (
 
   pub input_of_bundle-Err_of_result : (r : Result X SourceFault) (text : List ℕ) → s.remaining ≡ Some text
       → IfErr r (IsFaultOf s (read_all_parts certified))
-      → IfErr r (λ fault. ¬ IsReadOrMemory fault → map_fault Input (input_of_bundle certified text) ≡ Err fault)
+      → IfErr r (λ fault. ¬ IsReadOrMemory fault
+      → map_fault Input (input_of_bundle certified text) ≡ Err fault)
   input_of_bundle-Err_of_result (Ok x) text remaining refused = tt
   input_of_bundle-Err_of_result (Err fault) text remaining refused =
       input_of_bundle-Err certified s text fault start remaining refused

@@ -48,16 +48,18 @@ check_names_from-first_mismatch n (slot ∷ ss) (part ∷ parts) =
 
 part_name_fault_from-zero : (o : Option ℕ) → part_name_fault_from 0 o ≡ part_name_fault o
 part_name_fault_from-zero None = refl
-part_name_fault_from-zero (Some n) = let same : 0 + n + 1 ≡ n + 1 = omega arith in ap (λ m. Err (Parts m)) same
+part_name_fault_from-zero (Some n) =
+    let same : 0 + n + 1 ≡ n + 1 = omega arith in ap (λ m. Err (Parts m)) same
 
 pub check_names_from-zero : (certified : Bool) (t : TopologyValue) (parts : List PartText)
     → check_names_from 0 (slots certified t) parts ≡ check_part_names certified parts t
 check_names_from-zero certified t parts =
-    check_names_from-first_mismatch 0 (slots certified t) parts ∙ part_name_fault_from-zero (first_part_mismatch certified t parts)
+    check_names_from-first_mismatch 0 (slots certified t) parts
+    ∙ part_name_fault_from-zero (first_part_mismatch certified t parts)
 
 -- parts that pass the check have the names
-pub names-from_check_names_from : (n : ℕ) (ss : List Slot) (parts : List PartText) → check_names_from n ss parts ≡ Ok tt
-    → map (λ part. part.name) parts ≡ map part_name ss
+pub names-from_check_names_from : (n : ℕ) (ss : List Slot) (parts : List PartText)
+    → check_names_from n ss parts ≡ Ok tt → map (λ part. part.name) parts ≡ map part_name ss
 names-from_check_names_from n [] [] e = refl
 names-from_check_names_from n [] (part ∷ parts) e = absurd cc
 names-from_check_names_from n (slot ∷ ss) [] e = absurd cc

@@ -27,13 +27,14 @@ module _ {K Y : Type 0} (Keeps : K → Y → Type 0) where
   Ok-from_IsPartResult (Err fault) read kept is e = absurd cc
 
   -- a fault that isn't lack of memory is the part's
-  pub Err-from_IsPartResult : (fault : InputFault) (read : Result Y InputFault) → IsPartResult Keeps (Err fault) read
-      → fault ≢ input.Memory → read ≡ Err fault
+  pub Err-from_IsPartResult : (fault : InputFault) (read : Result Y InputFault)
+      → IsPartResult Keeps (Err fault) read → fault ≢ input.Memory → read ≡ Err fault
   Err-from_IsPartResult input.Memory read is loud = absurd (loud refl)
   Err-from_IsPartResult fault read is loud = is
 
-  pub Err-from_part_result : (part_result : Result K InputFault) (read : Result Y InputFault) (fault : InputFault)
-      → IsPartResult Keeps part_result read → part_result ≡ Err fault → fault ≢ input.Memory → read ≡ Err fault
+  pub Err-from_part_result : (part_result : Result K InputFault) (read : Result Y InputFault)
+      (fault : InputFault) → IsPartResult Keeps part_result read → part_result ≡ Err fault
+      → fault ≢ input.Memory → read ≡ Err fault
   Err-from_part_result (Ok own) read fault is e loud = absurd cc
   Err-from_part_result (Err own) read fault is e loud =
       let same : own ≡ fault = cc in
@@ -46,7 +47,8 @@ pub cache_start-same_pairs : (order : Order) (listed pairs : List (ℕ × ℕ)) 
     → reader ≡ cache_start order (Some listed) → AreSamePairs listed pairs
     → reader ≡ cache_start order (Some pairs)
 cache_start-same_pairs order listed pairs reader start same =
-    start ∙ ap (λ (s : set.FinSet key_cmp). table_start (rows_start order (Some s))) (same_set listed pairs same)
+    start
+    ∙ ap (λ (s : set.FinSet key_cmp). table_start (rows_start order (Some s))) (same_set listed pairs same)
 
 -- and reads a text in it
 pub cache_if-listed_in : (order : Order) (pairs : List (ℕ × ℕ)) (reader : CacheSoFar)

@@ -18,7 +18,8 @@ pub Ok-injective : {A E : Type 0} {x y : A} → (let r : Result A E = Ok x in r)
 Ok-injective e = cc
 
 -- an input with its certificate
-abbrev with_certificate_text : (certified : Bool) → List PartText → InputValue → Result InputAndCertificate InputFault
+abbrev with_certificate_text : (certified : Bool) → List PartText → InputValue
+    → Result InputAndCertificate InputFault
 with_certificate_text certified parts v = Ok (v, certificate_in certified parts v.topology)
 
 -- ---- a bundle
@@ -35,7 +36,8 @@ DenotesInput-from_read_bundle certified text v c e =
     let bundle = bundle_of-sound text parts.0 (Ok-from_refused_as Bundle (bundle_of text) parts.0 parts.1) in
     let input = bind_ok (input_of_parts certified parts.0) (with_certificate_text certified parts.0) (v, c)
     parts.2 in
-    let both : (let p : InputAndCertificate = (input.0, certificate_in certified parts.0 input.0.topology) in p)
+    let both : (let p : InputAndCertificate =
+    (input.0, certificate_in certified parts.0 input.0.topology) in p)
     ≡ (v, c) = Ok-injective input.2 in
     let denotes = PartsDenoteInput-from_input_of_parts certified parts.0 input.0 input.1 in
     let P : InputAndCertificate → Type 0 = λ p. PartsDenoteInput parts.0 p.0 p.1 in
@@ -66,4 +68,5 @@ pub input_of_bundle-Ok : (certified : Bool) (text : List ℕ) (v : InputValue) (
     → is_some c ≡ certified → DenotesInput text v c → input_of_bundle certified text ≡ Ok v
 unfolding input_of_bundle
 input_of_bundle-Ok certified text v c is h =
-    rw (bundle_of-complete text h.parts h.bundle) (input_of_parts-Ok certified h.parts v c is h.parts_denote).0
+    rw (bundle_of-complete text h.parts h.bundle)
+    (input_of_parts-Ok certified h.parts v c is h.parts_denote).0

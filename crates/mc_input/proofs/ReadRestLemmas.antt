@@ -44,7 +44,8 @@ module _ {X : Type 0} (s : PartsState) (text : List ℕ) (read : List PartText �
         → ¬ IsReadOrMemory own → map_fault Input (read_rest s text read) ≡ Err own
     read_rest-framing_refused fault own is e loud =
         let known = from_bundle_fault-Bundle fault (subst (λ f. ¬ IsReadOrMemory f) is loud) in
-        ap (map_fault Input) (read_rest-framing_fault fault (e known.0 known.1)) ∙ ap Err (sym known.2 ∙ sym is)
+        ap (map_fault Input) (read_rest-framing_fault fault (e known.0 known.1))
+        ∙ ap Err (sym known.2 ∙ sym is)
 
     -- or there is none
     pub read_rest-none : rest_of_bundle s text ≡ Ok [] → read_rest s text read ≡ read []
@@ -69,7 +70,8 @@ bind-both_Err : {X Y : Type 0} (r : Result (List PartText) InputFault)
 bind-both_Err (Ok parts) a b fault each e = each parts e
 bind-both_Err (Err other) a b fault each e = cc
 
-pub Err-from_map_fault : {X : Type 0} (r : Result X InputFault) (own : SourceFault) → map_fault Input r ≡ Err own
+pub Err-from_map_fault : {X : Type 0} (r : Result X InputFault) (own : SourceFault)
+    → map_fault Input r ≡ Err own
     → (fault : InputFault) × (r ≡ Err fault) × (own ≡ Input fault)
 Err-from_map_fault (Ok x) own e = absurd cc
 Err-from_map_fault (Err fault) own e = (fault, refl, cc)
@@ -115,8 +117,8 @@ module _ {X : Type 0} where
 
   pub read_rest-checked_part_passed : (certified : Bool) (t : TopologyValue) (n : ℕ) (s new : PartsState)
       (text later : List ℕ) (part : PartText) (read : List PartText → Result X InputFault)
-      → rest_of_bundle s text ≡ prepend_parts (part ∷ []) (rest_of_bundle new later) → HasNameOfSlot certified t n part.name
-      → read_rest s text (check_names_then certified t n read)
+      → rest_of_bundle s text ≡ prepend_parts (part ∷ []) (rest_of_bundle new later)
+      → HasNameOfSlot certified t n part.name → read_rest s text (check_names_then certified t n read)
       ≡ read_rest new later (check_names_then certified t (n + 1) (λ parts. read (part ∷ parts)))
   read_rest-checked_part_passed certified t n s new text later part read e at =
       read_rest-part_passed s new text later part (check_names_then certified t n read) e
@@ -134,12 +136,14 @@ prepend_parts-bind_ignored xs (Err fault) = refl
 
 -- the rest before a part has the same fault of framing as the rest after it
 pub framing-part_passed : (s new : PartsState) (done text later : List ℕ)
-    → parts_from_current s done text ≡ prepend_parts (current_part s done text) (parts_from_current new [] later)
+    → parts_from_current s done text
+    ≡ prepend_parts (current_part s done text) (parts_from_current new [] later)
     → read_rest s text (λ _. Ok tt)
     ≡ read_rest new later (λ _. (let u : Result (Unit {0}) InputFault = Ok tt in u))
 framing-part_passed s new done text later e =
     ap (λ r. map_fault Bundle r >>= λ _. (let u : Result (Unit {0}) InputFault = Ok tt in u))
-    (rest_of_bundle-opened s done text (parts_from_current new [] later) e ∙ parts_from_current-prepend new [] later)
+    (rest_of_bundle-opened s done text (parts_from_current new [] later) e
+    ∙ parts_from_current-prepend new [] later)
     ∙ prepend_parts-bind_ignored (current_part new [] later) (rest_of_bundle new later)
 
 -- the framing of the rest is right, or wrong
@@ -175,7 +179,8 @@ read_rest-framing_Err s new text later xs read own e wrong =
 -- where it is right, the result for the first part decides
 pub read_rest-first_part_Err : {X : Type 0} (s new : PartsState) (text later : List ℕ) (part : PartText)
     (parts : List PartText) (read : List PartText → Result X InputFault) (fault : InputFault)
-    → rest_of_bundle s text ≡ prepend_parts (part ∷ []) (rest_of_bundle new later) → rest_of_bundle new later ≡ Ok parts
+    → rest_of_bundle s text ≡ prepend_parts (part ∷ []) (rest_of_bundle new later)
+    → rest_of_bundle new later ≡ Ok parts
     → read (part ∷ parts) ≡ Err fault → read_rest s text read ≡ Err fault
 read_rest-first_part_Err s new text later part parts read fault e right refused =
     read_rest-part_passed s new text later part read e ∙ rw right refused
@@ -202,7 +207,8 @@ IsFaultOf-check_names_from ss s n slot (Ok u) at refused = tt
 IsFaultOf-check_names_from ss s n slot (Err own) at refused = λ text known loud.
     read_rest-both_Err s text (λ parts. named (slice_get parts 0) (part_name slot) n)
     (check_names_from n (drop n ss)) own
-    (λ parts fault e. rw (drop-slice_get ss n slot at) (check_names_from-Err n slot (drop (n + 1) ss) parts fault e))
+    (λ parts fault e. rw (drop-slice_get ss n slot at)
+    (check_names_from-Err n slot (drop (n + 1) ss) parts fault e))
     (refused text known loud)
 
 -- ---- the names alone
@@ -218,7 +224,8 @@ check_names_from-part_passed certified t n part parts at =
 
 pub read_rest-name_passed : (certified : Bool) (t : TopologyValue) (n : ℕ) (s new : PartsState)
     (text later : List ℕ) (part : PartText)
-    → rest_of_bundle s text ≡ prepend_parts (part ∷ []) (rest_of_bundle new later) → HasNameOfSlot certified t n part.name
+    → rest_of_bundle s text ≡ prepend_parts (part ∷ []) (rest_of_bundle new later)
+    → HasNameOfSlot certified t n part.name
     → read_rest s text (check_names_from n (drop n (slots certified t)))
     ≡ read_rest new later (check_names_from (n + 1) (drop (n + 1) (slots certified t)))
 read_rest-name_passed certified t n s new text later part e at =

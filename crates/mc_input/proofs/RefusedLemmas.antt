@@ -42,24 +42,29 @@ use Rattle.mc_input.specs.declared.source_fault.SourceFault.TheVariants.{Input, 
 -- ---- one file
 
 -- a fault that isn't that of the source or of memory isn't silent
-not_IsReadOrMemory-from_fault : (fault : InputFault) → (let own : Option SourceFault = Some (Input fault) in own) ≢ Some (Input Memory)
+not_IsReadOrMemory-from_fault : (fault : InputFault)
+    → (let own : Option SourceFault = Some (Input fault) in own) ≢ Some (Input Memory)
     → ¬ IsReadOrMemory (Input fault)
 not_IsReadOrMemory-from_fault fault loud silent = elim silent [ inl e ↦ absurd cc | inr e ↦ loud (ap Some e) ]
 
 -- what is read of a slot gives the fault of its file
-pub IsOwnFaultUnlessMemory-of_slot : {K Y : Type 0} (files : List FileText) (t : TopologyValue) (n : ℕ) (slot : Slot)
+pub IsOwnFaultUnlessMemory-of_slot : {K Y : Type 0} (files : List FileText) (t : TopologyValue)
+    (n : ℕ) (slot : Slot)
     (read : PartText → Result Y InputFault) (gives later : Option Stream) (Keeps : K → Y → Type 0)
     (r : Result K SourceFault) → slice_get (slots false t) n ≡ Some slot → gives ≡ Some (files_give t n files)
     → IfOk r (λ kept. KeepsOfFirst gives later read (Keeps kept))
     → IfErr r (IsFaultOfStream gives (read_first read))
     → IsOwnFaultUnlessMemory (result_err r) (file_fault files slot read)
-IsOwnFaultUnlessMemory-of_slot {K = K} {Y = Y} files t n slot read gives later Keeps r at known keeps refused =
+IsOwnFaultUnlessMemory-of_slot {K = K} {Y = Y} files t n slot read gives later Keeps r at
+    known keeps refused =
     by r keeps refused
   where
-    same : read_stream (read_first read) (files_give t n files) ≡ read_part Input (part_from_file files 0 slot) read
+    same : read_stream (read_first read) (files_give t n files)
+        ≡ read_part Input (part_from_file files 0 slot) read
     same = rw (drop-slice_get (slots false t) n slot at) refl
 
-    kept : (y : Y) (part : PartText) (rest : Stream) → read part ≡ Ok y → files_give t n files ≡ part_then part rest
+    kept : (y : Y) (part : PartText) (rest : Stream) → read part ≡ Ok y
+        → files_give t n files ≡ part_then part rest
         → read_part Input (part_from_file files 0 slot) read ≡ Ok y
     kept y part (Ok others) is e =
         sym same ∙ ap (read_stream (read_first read)) e ∙ ap (map_fault Input) is
@@ -79,14 +84,17 @@ file_fault-listed_part : (files : List FileText) (slot : Slot) (order : Order) (
     → file_fault files slot (listed_part order pairs) ≡ file_fault files slot (cache_of order)
 file_fault-listed_part files slot order pairs = by (part_from_file files 0 slot)
   where
-    by_part : (part : PartText) (r : Result CacheValue TableFault) → listed_in order (Some pairs) part.bytes ≡ r
-        → result_err (map_fault Input (map_fault (Cache part.name) r)) ≡ result_err (map_fault Input (cache_of order part))
+    by_part : (part : PartText) (r : Result CacheValue TableFault)
+        → listed_in order (Some pairs) part.bytes ≡ r
+        → result_err (map_fault Input (map_fault (Cache part.name) r))
+        ≡ result_err (map_fault Input (cache_of order part))
     by_part part (Ok listed) is =
         let whole = listed_in-is_part order (Some pairs) part.bytes listed is in rw whole.1 refl
     by_part part (Err own) is = rw ((listed_in-same_fault order (Some pairs) part.bytes own).0 is) refl
 
     by : (given : Result PartText SourceFault)
-        → result_err (read_part Input given (listed_part order pairs)) ≡ result_err (read_part Input given (cache_of order))
+        → result_err (read_part Input given (listed_part order pairs))
+        ≡ result_err (read_part Input given (cache_of order))
     by (Ok part) = by_part part (listed_in order (Some pairs) part.bytes) refl
     by (Err fault) = refl
 
@@ -109,11 +117,13 @@ unread_count-append [] ys = omega arith
 unread_count-append (x ∷ xs) ys = omega (arith, unread_count-append xs ys)
 
 -- those without a fault can be read
-pub unread_count-files_with_fault : (files : List JudgedFile) → unread_count (files_with_fault files) ≡ unread_count files
+pub unread_count-files_with_fault : (files : List JudgedFile)
+    → unread_count (files_with_fault files) ≡ unread_count files
 unread_count-files_with_fault [] = refl
 unread_count-files_with_fault (file ∷ files) = by file.name file.fault (unread_count-files_with_fault files)
   where
-    by : (name : List ℕ) (fault : Option SourceFault) → unread_count (files_with_fault files) ≡ unread_count files
+    by : (name : List ℕ) (fault : Option SourceFault)
+        → unread_count (files_with_fault files) ≡ unread_count files
         → unread_count (files_with_fault ((record { name = name; fault = fault }) ∷ files))
         ≡ unread_count ((record { name = name; fault = fault }) ∷ files)
     by name None rest = rest ∙ omega arith
@@ -129,7 +139,8 @@ flat_map-take_more : {A B : Type 0} (f : A → List B) (xs : List A) (i : ℕ) (
 flat_map-take_more f [] i x at = absurd cc
 flat_map-take_more f (y ∷ ys) zero x at = let same : y ≡ x = cc in append-nil (f y) ∙ ap f same
 flat_map-take_more f (y ∷ ys) (suc i) x at =
-    ap (λ l. f y ++ l) (flat_map-take_more f ys i x at) ∙ sym (append_assoc (f y) (flat_map f (take i ys)) (f x))
+    ap (λ l. f y ++ l) (flat_map-take_more f ys i x at)
+    ∙ sym (append_assoc (f y) (flat_map f (take i ys)) (f x))
 
 map-take_more : {A B : Type 0} (f : A → B) (xs : List A) (i : ℕ) (x : A) → slice_get xs i ≡ Some x
     → map f (take (suc i) xs) ≡ map f (take i xs) ++ f x ∷ []
@@ -193,7 +204,8 @@ module _ (contents : Option (List FileText)) where
   }
 
 -- with a source of the same contents
-pub JudgesFiles-same_source : (contents other : Option (List FileText)) (files : List FileText → List JudgedFile)
+pub JudgesFiles-same_source : (contents other : Option (List FileText))
+    (files : List FileText → List JudgedFile)
     (old new : List JudgedFile) (before after : ℕ) → other ≡ contents
     → JudgesFiles other files old new before after → JudgesFiles contents files old new before after
 JudgesFiles-same_source contents other files old new before after same judges =
@@ -205,10 +217,13 @@ pub JudgesFiles-one_of_slot : {X : Type 0} (contents : Option (List FileText)) (
     (before after : ℕ) (pushed : Slot) → pushed ≡ slot
     → new ≡ old ++ files_with_fault ((record { name = file_name pushed; fault = fault }) ∷ [])
     → fault ≢ Some (Input Memory) → after ≡ saturating_failures (failure_count fault) before
-    → ((known : List FileText) → contents ≡ Some known → IsOwnFaultUnlessMemory fault (file_fault known slot read))
+    → ((known : List FileText) → contents ≡ Some known
+    → IsOwnFaultUnlessMemory fault (file_fault known slot read))
     → JudgesFiles contents (λ known. judged_file known slot read ∷ []) old new before after
-JudgesFiles-one_of_slot contents slot read fault old new before after pushed of_slot listed loud failures given =
-    JudgesFiles-one contents (λ known. judged_file known slot read) (file_name pushed) fault old new before after listed
+JudgesFiles-one_of_slot contents slot read fault old new before after pushed of_slot listed loud
+    failures given =
+    JudgesFiles-one contents (λ known. judged_file known slot read)
+    (file_name pushed) fault old new before after listed
     failures (λ known is. record { name = ap file_name of_slot; fault = given known is loud })
 
 -- two clauses of one call together
@@ -228,9 +243,10 @@ module _ (contents : Option (List FileText)) (names : List (List ℕ)) (r : Rout
   -- both of another
   pub JudgesFiles-router : list_any (λ name. bytes_eq name r.name) names ≡ false
       → (old between new : List JudgedFile) (before middle after : ℕ)
-      → JudgesFiles contents (λ known. judged_file known (vif_slot r.name) vifs_of ∷ []) old between before middle
-      → JudgesFiles contents (λ known. judged_file known (cache_slot r.name) (cache_of r.order) ∷ []) between new
-      middle after
+      → JudgesFiles contents (λ known. judged_file known (vif_slot r.name) vifs_of ∷ [])
+      old between before middle
+      → JudgesFiles contents (λ known. judged_file known (cache_slot r.name) (cache_of r.order) ∷ [])
+      between new middle after
       → JudgesFiles contents (λ known. judged_tables names known r) old new before after
   JudgesFiles-router own old between new before middle after vifs cache =
       JudgesFiles-same_files contents
@@ -247,9 +263,11 @@ module _ (contents : Option (List FileText)) (names : List (List ℕ)) (rs : Lis
     (old between new : List JudgedFile) (before middle after : ℕ) where
   -- of those of some routers and of the next one
   pub JudgesFiles-routers_more : (r : RouterRow) → slice_get rs i ≡ Some r
-      → JudgesFiles contents (λ known. flat_map (judged_tables names known) (take i rs)) old between before middle
+      → JudgesFiles contents (λ known. flat_map (judged_tables names known) (take i rs))
+      old between before middle
       → JudgesFiles contents (λ known. judged_tables names known r) between new middle after
-      → JudgesFiles contents (λ known. flat_map (judged_tables names known) (take (i + 1) rs)) old new before after
+      → JudgesFiles contents (λ known. flat_map (judged_tables names known) (take (i + 1) rs))
+      old new before after
   JudgesFiles-routers_more r at one other =
       JudgesFiles-same_files contents
       (λ known. flat_map (judged_tables names known) (take i rs) ++ judged_tables names known r)
@@ -260,8 +278,8 @@ module _ (contents : Option (List FileText)) (names : List (List ℕ)) (rs : Lis
       (λ known. judged_tables names known r) old between new before middle after one other)
 
 -- of all
-pub JudgesFiles-routers_all : (contents : Option (List FileText)) (names : List (List ℕ)) (rs : List RouterRow) (i : ℕ)
-    (old new : List JudgedFile) (before after : ℕ) → length rs ≤ i
+pub JudgesFiles-routers_all : (contents : Option (List FileText)) (names : List (List ℕ))
+    (rs : List RouterRow) (i : ℕ) (old new : List JudgedFile) (before after : ℕ) → length rs ≤ i
     → JudgesFiles contents (λ known. flat_map (judged_tables names known) (take i rs)) old new before after
     → JudgesFiles contents (λ known. flat_map (judged_tables names known) rs) old new before after
 JudgesFiles-routers_all contents names rs i old new before after all judges =
@@ -299,8 +317,8 @@ JudgesFiles-lans_all contents lans i old new before after all judges =
 abbrev IsReadOnlyIfMissing : List FileText → JudgedFile → Type 0
 IsReadOnlyIfMissing files file = file_named files file.name ≡ None → file.fault ≡ Some Read
 
-IsReadOnlyIfMissing-one : {X : Type 0} (files : List FileText) (slot : Slot) (read : PartText → Result X InputFault)
-    → IsReadOnlyIfMissing files (judged_file files slot read)
+IsReadOnlyIfMissing-one : {X : Type 0} (files : List FileText) (slot : Slot)
+    (read : PartText → Result X InputFault) → IsReadOnlyIfMissing files (judged_file files slot read)
 IsReadOnlyIfMissing-one files slot read none = rw (none) refl
 
 IsReadOnlyIfMissing-tables : (names : List (List ℕ)) (files : List FileText) (r : RouterRow)
@@ -320,7 +338,8 @@ IsReadOnlyIfMissing-routers : (names : List (List ℕ)) (files : List FileText) 
     → AllByRecursion (IsReadOnlyIfMissing files) (flat_map (judged_tables names files) rs)
 IsReadOnlyIfMissing-routers names files [] = tt
 IsReadOnlyIfMissing-routers names files (r ∷ rs) =
-    AllByRecursion-append (IsReadOnlyIfMissing files) (judged_tables names files r) (flat_map (judged_tables names files) rs)
+    AllByRecursion-append (IsReadOnlyIfMissing files) (judged_tables names files r)
+    (flat_map (judged_tables names files) rs)
     (IsReadOnlyIfMissing-tables names files r) (IsReadOnlyIfMissing-routers names files rs)
 
 IsReadOnlyIfMissing-lans : (files : List FileText) (lans : List (List ℕ))
@@ -332,7 +351,8 @@ IsReadOnlyIfMissing-lans files (lan ∷ lans) = (
 )
 
 -- one file that isn't listed as unread although it exists
-same_file-from_missing : (files : List FileText) (own : JudgedFile) (name : List ℕ) (fault : Option SourceFault)
+same_file-from_missing : (files : List FileText) (own : JudgedFile) (name : List ℕ)
+    (fault : Option SourceFault)
     → IsSameFileOrUnread own (record { name = name; fault = fault }) → IsReadOnlyIfMissing files own
     → (fault ≡ Some Read → file_named files name ≡ None)
     → (let given : JudgedFile = record { name = name; fault = fault } in given) ≡ own
@@ -344,15 +364,17 @@ same_file-from_missing files own name (Some Read) given honest missing =
     let none = ap (file_named files) (sym given.name) ∙ missing refl in
     λ i. record { name = given.name i; fault = sym (honest none) i }
 
-same_files-from_missing : (files : List FileText) (own given : List JudgedFile) → Pairwise IsSameFileOrUnread own given
-    → AllByRecursion (IsReadOnlyIfMissing files) own → AreUnreadFilesMissing files (files_with_fault given) → given ≡ own
+same_files-from_missing : (files : List FileText) (own given : List JudgedFile)
+    → Pairwise IsSameFileOrUnread own given → AllByRecursion (IsReadOnlyIfMissing files) own
+    → AreUnreadFilesMissing files (files_with_fault given) → given ≡ own
 same_files-from_missing files [] [] are honest missing = refl
 same_files-from_missing files [] (g ∷ given) are honest missing = absurd are
 same_files-from_missing files (o ∷ own) [] are honest missing = absurd are
 same_files-from_missing files (o ∷ own) (g ∷ given) are honest missing =
     by g.name g.fault are.0 missing (λ left. same_files-from_missing files own given are.1 honest.1 left)
   where
-    by : (name : List ℕ) (fault : Option SourceFault) → IsSameFileOrUnread o (record { name = name; fault = fault })
+    by : (name : List ℕ) (fault : Option SourceFault)
+        → IsSameFileOrUnread o (record { name = name; fault = fault })
         → AreUnreadFilesMissing files (files_with_fault ((record { name = name; fault = fault }) ∷ given))
         → (AreUnreadFilesMissing files (files_with_fault given) → given ≡ own)
         → (let g : JudgedFile = record { name = name; fault = fault } in g ∷ given) ≡ o ∷ own
@@ -365,7 +387,8 @@ same_files-from_missing files (o ∷ own) (g ∷ given) are honest missing =
 
 -- If the source fails at no existing file, the refused files are listed.
 pub refused_files_of-exact : (names : List (List ℕ)) (files : List FileText) (listed : List JudgedFile)
-    → AreRefusedFiles names files listed → AreUnreadFilesMissing files listed → listed ≡ refused_files_of names files
+    → AreRefusedFiles names files listed → AreUnreadFilesMissing files listed
+    → listed ≡ refused_files_of names files
 refused_files_of-exact names files listed (given, are, is) missing =
     is ∙ ap files_with_fault (by are)
   where
@@ -374,7 +397,8 @@ refused_files_of-exact names files listed (given, are, is) missing =
 
     by : AreSameFilesOrUnread names files given → given ≡ judged_files names files
     by (inl alone) =
-        let none = (subst (λ fs. AreUnreadFilesMissing files (files_with_fault fs)) alone missing_given).0 refl in
+        let none =
+        (subst (λ fs. AreUnreadFilesMissing files (files_with_fault fs)) alone missing_given).0 refl in
         alone ∙ unread none
       where
         unread : file_named files (file_name topology_slot) ≡ None
@@ -384,10 +408,12 @@ refused_files_of-exact names files listed (given, are, is) missing =
       where
         honest_by : (t : Result TopologyValue SourceFault)
             → read_part Input (part_from_file files 0 topology_slot) topology_of ≡ t
-            → Pairwise IsSameFileOrUnread (judged_with_topology names files t) given → given ≡ judged_with_topology names files t
+            → Pairwise IsSameFileOrUnread (judged_with_topology names files t) given
+            → given ≡ judged_with_topology names files t
         honest_by (Ok t) is each =
             same_files-from_missing files (judged_with_topology names files (Ok t)) given each
-            (AllByRecursion-append (IsReadOnlyIfMissing files) (flat_map (judged_tables names files) t.routers)
+            (AllByRecursion-append (IsReadOnlyIfMissing files)
+            (flat_map (judged_tables names files) t.routers)
             (map (judged_reports files) t.lans) (IsReadOnlyIfMissing-routers names files t.routers)
             (IsReadOnlyIfMissing-lans files t.lans)) missing_given
         honest_by (Err fault) is each =
@@ -404,14 +430,16 @@ module _ (names : List (List ℕ)) (files : List FileText) (contents : Option (L
       → AreRefusedFiles names files new
   AreRefusedFiles-with_topology t new before after read judges = (
     judges.given,
-    inr (subst (λ (r : Result TopologyValue SourceFault). Pairwise IsSameFileOrUnread (judged_with_topology names files r) judges.given)
+    inr (subst (λ (r : Result TopologyValue SourceFault).
+        Pairwise IsSameFileOrUnread (judged_with_topology names files r) judges.given)
         (sym read) (judges.each files is)),
     judges.listed,
   )
 
   -- for a refused topology
   pub AreRefusedFiles-topology_alone : (fault : SourceFault) (new : List JudgedFile)
-      → ((¬ IsReadOrMemory fault) → read_part Input (part_from_file files 0 topology_slot) topology_of ≡ Err fault)
+      → ((¬ IsReadOrMemory fault)
+      → read_part Input (part_from_file files 0 topology_slot) topology_of ≡ Err fault)
       → (let own : Option SourceFault = Some fault in own) ≢ Some (Input Memory)
       → new ≡ files_with_fault ((record { name = file_name topology_slot; fault = Some fault }) ∷ [])
       → AreRefusedFiles names files new
@@ -420,40 +448,50 @@ module _ (names : List (List ℕ)) (files : List FileText) (contents : Option (L
       let alone : List JudgedFile =
       (record { name = file_name topology_slot; fault = Some (Input fault) }) ∷ [] in (
         alone,
-        inr (subst (λ (r : Result TopologyValue SourceFault). Pairwise IsSameFileOrUnread (judged_with_topology names files r) alone)
-            (sym (read (not_IsReadOrMemory-from_fault fault loud))) (record { name = refl; fault = refl }, tt)),
+        inr (subst (λ (r : Result TopologyValue SourceFault).
+            Pairwise IsSameFileOrUnread (judged_with_topology names files r) alone)
+            (sym (read (not_IsReadOrMemory-from_fault fault loud)))
+            (record { name = refl; fault = refl }, tt)),
         listed,
       )
 
 -- the same from an empty list on, with a source of the same contents
-pub AreRefusedFiles-with_topology_of_source : (names : List (List ℕ)) (files : List FileText) (contents other : Option (List FileText))
+pub AreRefusedFiles-with_topology_of_source : (names : List (List ℕ)) (files : List FileText)
+    (contents other : Option (List FileText))
     (t : TopologyValue) (old new : List JudgedFile) (before after : ℕ)
     → contents ≡ Some files → other ≡ contents → old ≡ []
     → read_part Input (part_from_file files 0 topology_slot) topology_of ≡ Ok t
     → JudgesFiles other (λ known. judged_with_topology names known (Ok t)) old new before after
     → AreRefusedFiles names files new
-AreRefusedFiles-with_topology_of_source names files contents other t old new before after is same none read judges =
+AreRefusedFiles-with_topology_of_source names files contents other t old new before after is same
+    none read judges =
     AreRefusedFiles-with_topology names files contents is t new before after read
-    (subst (λ (l : List JudgedFile). JudgesFiles contents (λ known. judged_with_topology names known (Ok t)) l new before after)
+    (subst (λ (l : List JudgedFile).
+    JudgesFiles contents (λ known. judged_with_topology names known (Ok t)) l new before after)
     none
-    (JudgesFiles-same_source contents other (λ known. judged_with_topology names known (Ok t)) old new before after same judges))
+    (JudgesFiles-same_source contents other (λ known. judged_with_topology names known (Ok t))
+    old new before after same judges))
 
-pub AreRefusedFiles-topology_alone_of_source : (names : List (List ℕ)) (files : List FileText) (contents : Option (List FileText))
-    (fault : SourceFault) (pushed : Slot) (old new : List JudgedFile)
+pub AreRefusedFiles-topology_alone_of_source : (names : List (List ℕ)) (files : List FileText)
+    (contents : Option (List FileText)) (fault : SourceFault) (pushed : Slot) (old new : List JudgedFile)
     → contents ≡ Some files → pushed ≡ topology_slot → old ≡ []
-    → ((¬ IsReadOrMemory fault) → read_part Input (part_from_file files 0 topology_slot) topology_of ≡ Err fault)
+    → ((¬ IsReadOrMemory fault)
+    → read_part Input (part_from_file files 0 topology_slot) topology_of ≡ Err fault)
     → new ≡ old ++ files_with_fault ((record { name = file_name pushed; fault = Some fault }) ∷ [])
     → (let own : Option SourceFault = Some fault in own) ≢ Some (Input Memory)
     → AreRefusedFiles names files new
-AreRefusedFiles-topology_alone_of_source names files contents fault pushed old new is of_slot none read listed loud =
+AreRefusedFiles-topology_alone_of_source names files contents fault pushed old new is of_slot none
+    read listed loud =
     AreRefusedFiles-topology_alone names files contents is fault new read loud
     (listed
-    ∙ ap (λ (l : List JudgedFile). l ++ files_with_fault ((record { name = file_name pushed; fault = Some fault }) ∷ []))
+    ∙ ap (λ (l : List JudgedFile).
+    l ++ files_with_fault ((record { name = file_name pushed; fault = Some fault }) ∷ []))
     none
     ∙ ap (λ (s : Slot). files_with_fault ((record { name = file_name s; fault = Some fault }) ∷ [])) of_slot)
 
 -- the source failed at the files that are listed as unread
-pub saturating_failures-with_topology : (contents : Option (List FileText)) (files : List FileText → List JudgedFile)
+pub saturating_failures-with_topology : (contents : Option (List FileText))
+    (files : List FileText → List JudgedFile)
     (old new : List JudgedFile) (first before after : ℕ) → old ≡ [] → before ≡ saturating_failures 0 first
     → JudgesFiles contents files old new before after → after ≡ saturating_failures (unread_count new) first
 saturating_failures-with_topology contents files old new first before after none same judges =
@@ -463,8 +501,8 @@ saturating_failures-with_topology contents files old new first before after none
     ap unread_count listed ∙ unread_count-files_with_fault judges.given in
     omega (arith, judges.failures, same, count)
 
-pub saturating_failures-topology_alone : (fault : SourceFault) (pushed : Slot) (old new : List JudgedFile) (before after : ℕ)
-    → old ≡ [] → after ≡ saturating_failures (failure_count (Some fault)) before
+pub saturating_failures-topology_alone : (fault : SourceFault) (pushed : Slot) (old new : List JudgedFile)
+    (before after : ℕ) → old ≡ [] → after ≡ saturating_failures (failure_count (Some fault)) before
     → new ≡ old ++ files_with_fault ((record { name = file_name pushed; fault = Some fault }) ∷ [])
     → after ≡ saturating_failures (unread_count new) before
 saturating_failures-topology_alone fault pushed old new before after none is listed =

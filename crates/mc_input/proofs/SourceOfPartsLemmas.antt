@@ -55,7 +55,8 @@ module _ {F : Type 0} (as_ours : InputFault → F) (source : ℕ → Slot → Re
     denote : PartsDenoteTables rs parts ts rest
     served : Serves source n (flat_map router_slots rs ++ more) parts end
 
-  HasTableParts-from_all_tables : GivesSlotNames source → (n : ℕ) (rs : List RouterRow) (ts : List TablesValue)
+  HasTableParts-from_all_tables : GivesSlotNames source
+      → (n : ℕ) (rs : List RouterRow) (ts : List TablesValue)
       (rest : List PartText) (more : List Slot) (end : List PartText)
       → all_tables as_ours source n rs ≡ Ok ts → Serves source (n + 2 * length rs) more rest end
       → HasTableParts n rs ts rest more end
@@ -78,7 +79,8 @@ module _ {F : Type 0} (as_ours : InputFault → F) (source : ℕ → Slot → Re
       (λ part. map_fault as_ours (vifs_of part)) v.0 v.1 in
       let q = bind_ok (source (n + 1) (cache_slot r.name))
       (λ part. map_fault as_ours (cache_of r.order part)) w.0 w.1 in
-      let vifs = (vifs_in-iff_denotes p.0.bytes v.0).0 (Ok-from_refused_as (Vif p.0.name) (vifs_in p.0.bytes) v.0
+      let vifs = (vifs_in-iff_denotes p.0.bytes v.0).0
+      (Ok-from_refused_as (Vif p.0.name) (vifs_in p.0.bytes) v.0
       (Ok-from_refused_as as_ours (vifs_of p.0) v.0 p.2)) in
       let entries = (cache_in-iff_denotes r.order q.0.bytes w.0).0
       (Ok-from_refused_as (Cache q.0.name) (cache_in r.order q.0.bytes) w.0
@@ -130,8 +132,8 @@ module _ {F : Type 0} (as_ours : InputFault → F) (source : ℕ → Slot → Re
           (cache_in-iff_denotes r.order cache.bytes t.cache).1 h.0.entries,
           later.0,
         ) refl,
-        Serves-same_number source (n + 2 * length (r ∷ rs)) (n + 2 + 2 * length rs) more rest end (omega arith)
-            later.1,
+        Serves-same_number source (n + 2 * length (r ∷ rs)) (n + 2 + 2 * length rs)
+            more rest end (omega arith) later.1,
       )
 
   -- ---- the LANs' reports
@@ -142,7 +144,8 @@ module _ {F : Type 0} (as_ours : InputFault → F) (source : ℕ → Slot → Re
     denote : PartsDenoteReports lans parts all rest
     served : Serves source n (map reports_slot lans ++ more) parts end
 
-  HasReportParts-from_all_reports : GivesSlotNames source → (n : ℕ) (lans : List (List ℕ)) (all : List (List Record))
+  HasReportParts-from_all_reports : GivesSlotNames source
+      → (n : ℕ) (lans : List (List ℕ)) (all : List (List Record))
       (rest : List PartText) (more : List Slot) (end : List PartText)
       → all_reports as_ours source n lans ≡ Ok all → Serves source (n + length lans) more rest end
       → HasReportParts n lans all rest more end
@@ -217,7 +220,8 @@ module _ {F : Type 0} (as_ours : InputFault → F) (source : ℕ → Slot → Re
       subst (λ (w : InputValue). judge w.topology ≡ Ok tt) is b.1
 
   -- the parts denote what is read, with any certificate behind them
-  pub HasInputParts-from_read_input : GivesSlotNames source → (judge : TopologyValue → Result (Unit {0}) F) (v : InputValue)
+  pub HasInputParts-from_read_input : GivesSlotNames source
+      → (judge : TopologyValue → Result (Unit {0}) F) (v : InputValue)
       (last : List PartText) (certificate : Option (List ℕ))
       → read_input as_ours source judge ≡ Ok v → PartsDenoteCertificate last certificate
       → HasInputParts v last certificate
@@ -230,9 +234,11 @@ module _ {F : Type 0} (as_ours : InputFault → F) (source : ℕ → Slot → Re
       let is : (record { topology = a.0; tables = c.0; reports = d.0 }) ≡ v = cc in
       let p = bind_ok (source 0 topology_slot)
       (λ part. map_fault as_ours (topology_of part)) a.0 a.1 in
-      let denotes = parse_topology-denotes p.0.bytes a.0 (Ok-from_refused_as Topology (parse_topology p.0.bytes) a.0
+      let denotes = parse_topology-denotes p.0.bytes a.0
+      (Ok-from_refused_as Topology (parse_topology p.0.bytes) a.0
       (Ok-from_refused_as as_ours (topology_of p.0) a.0 p.2)) in
-      let reports = HasReportParts-from_all_reports named (first_lan_number a.0) a.0.lans d.0 last [] last d.1 refl in
+      let reports = HasReportParts-from_all_reports named
+      (first_lan_number a.0) a.0.lans d.0 last [] last d.1 refl in
       let tables = HasTableParts-from_all_tables named 1 a.0.routers c.0 reports.parts
       (map reports_slot a.0.lans ++ []) last c.1 reports.served in
       let top : p.0 ≡ record { name = part_name topology_slot; bytes = p.0.bytes }
@@ -273,7 +279,8 @@ module _ {F : Type 0} (as_ours : InputFault → F) (source : ℕ → Slot → Re
       subst (λ (ps : List PartText). Serves source 0 (slots false t) ps end) h.in_order served in
       let tables = all_tables-denoted 1 t.routers h.of_routers v.tables h.of_lans
       (map reports_slot t.lans ++ []) end h.tables
-      (Serves-same_number source 1 (0 + 1) (flat_map router_slots t.routers ++ (map reports_slot t.lans ++ []))
+      (Serves-same_number source 1 (0 + 1)
+      (flat_map router_slots t.routers ++ (map reports_slot t.lans ++ []))
       h.of_routers end (omega arith) here.1) in
       let reports = all_reports-denoted (first_lan_number t) t.lans h.of_lans v.reports h.last [] end
       h.reports tables.1 in

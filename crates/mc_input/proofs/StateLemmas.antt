@@ -46,8 +46,8 @@ states_alone vifs rows (w ∷ wants) =
 
 -- what a reader makes of the rows in the file
 pub AreStatesOfRouter-from_rows : (files : List FileText) (wants : List (Want × List ℕ))
-    (vifs : FinMap nat_cmp VifValue) (r : RouterRow) (rows : List RowValue) (own : PartText) (reader : RowsOfStates)
-    (made : WantStatesValue)
+    (vifs : FinMap nat_cmp VifValue) (r : RouterRow) (rows : List RowValue) (own : PartText)
+    (reader : RowsOfStates) (made : WantStatesValue)
     → file_part files (cache_slot r.name) ≡ Ok own → cache_rows_in r.order own.bytes ≡ Ok rows
     → each_row_if states_with_row reader own.bytes
     ≡ Ok (with_rows states_with_row (states_start vifs wants) rows)

@@ -36,7 +36,8 @@ module _ (s : PartsState) (certified : Bool) (t : TopologyValue) (n : ℕ) where
       → map_fault Input (read_rest s text (check_names_from n (drop n (slots certified t)))) ≡ Err own
       → bundle_gives s certified t n text ≡ Err own
   bundle_gives-names_Err text own e =
-      rw (read_rest-names_Err s text (check_names_from n (drop n (slots certified t))) (λ parts. Ok parts) own e)
+      rw (read_rest-names_Err s text (check_names_from n (drop n (slots certified t)))
+      (λ parts. Ok parts) own e)
       refl
 
   pub gives-names_Err : (own : SourceFault)

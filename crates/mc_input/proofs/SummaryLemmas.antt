@@ -66,19 +66,21 @@ pub summary_in-same_pairs : (all : Bool) (order : Order) (listed pairs : List (�
     → AreSamePairs listed pairs → summary_in all order listed text ≡ summary_in all order pairs text
 summary_in-same_pairs all order listed pairs text same =
     let one = same_set listed pairs same in
-    let groups = from_list-same_groups listed pairs (keys_for_every_source pairs) (keys_for_every_source pairs)
-    same refl (λ q. (λ there. there, λ there. there)) in
-    let every = is_listed-same_set (keys_for_every_source listed) (keys_for_every_source pairs) (sym groups) in
+    let groups = from_list-same_groups listed pairs (keys_for_every_source pairs)
+    (keys_for_every_source pairs) same refl (λ q. (λ there. there, λ there. there)) in
+    let every = is_listed-same_set (keys_for_every_source listed)
+    (keys_for_every_source pairs) (sym groups) in
     λ i. cache_rows_in order text >>= λ rows. Ok (record {
-      table = table_of (filter (λ (row : RowValue). is_kept_key-same_set listed pairs one (key_of row) i) rows);
+      table = table_of (filter
+          (λ (row : RowValue). is_kept_key-same_set listed pairs one (key_of row) i) rows);
       summary = summary_by all (λ key. is_listed-same_set listed pairs one key i) (λ key. every key i) rows;
     })
 
 -- ---- a cache that is read with a summary
 
 -- a cache that is read with a summary is read alone, as one of which the listed part is kept
-pub cache_in-from_summary_in : (all : Bool) (order : Order) (pairs : List (ℕ × ℕ)) (text : List ℕ) (summarized : SummarizedCache)
-    → summary_in all order pairs text ≡ Ok summarized
+pub cache_in-from_summary_in : (all : Bool) (order : Order) (pairs : List (ℕ × ℕ)) (text : List ℕ)
+    (summarized : SummarizedCache) → summary_in all order pairs text ≡ Ok summarized
     → (whole : CacheValue) × (cache_in order text ≡ Ok whole)
     × IsListedPart (Some pairs) summarized.table whole
 cache_in-from_summary_in all order pairs text summarized e =
@@ -86,14 +88,15 @@ cache_in-from_summary_in all order pairs text summarized e =
     (table_without_summary-listed_in all order pairs text ∙ ap table_without_summary e)
 
 -- its faults are those of the whole cache,
-pub cache_in-Err_from_summary_in : (all : Bool) (order : Order) (pairs : List (ℕ × ℕ)) (text : List ℕ) (fault : TableFault)
-    → summary_in all order pairs text ≡ Err fault → cache_in order text ≡ Err fault
+pub cache_in-Err_from_summary_in : (all : Bool) (order : Order) (pairs : List (ℕ × ℕ)) (text : List ℕ)
+    (fault : TableFault) → summary_in all order pairs text ≡ Err fault → cache_in order text ≡ Err fault
 cache_in-Err_from_summary_in all order pairs text fault e =
-    (listed_in-same_fault order (Some pairs) text fault).0 (table_without_summary-listed_in all order pairs text ∙ ap table_without_summary e)
+    (listed_in-same_fault order (Some pairs) text fault).0
+    (table_without_summary-listed_in all order pairs text ∙ ap table_without_summary e)
 
 -- and its summary is that of its rows
-pub cache_rows_in-from_summary_in : (all : Bool) (order : Order) (pairs : List (ℕ × ℕ)) (text : List ℕ) (summarized : SummarizedCache)
-    → summary_in all order pairs text ≡ Ok summarized
+pub cache_rows_in-from_summary_in : (all : Bool) (order : Order) (pairs : List (ℕ × ℕ)) (text : List ℕ)
+    (summarized : SummarizedCache) → summary_in all order pairs text ≡ Ok summarized
     → (rows : List RowValue) × (cache_rows_in order text ≡ Ok rows)
     × (summarized.summary ≡ summary_of all pairs rows)
 cache_rows_in-from_summary_in all order pairs text summarized e =
@@ -104,13 +107,14 @@ cache_rows_in-from_summary_in all order pairs text summarized e =
     let read = bind_ok (cache_rows_in order text) (λ rows. Ok (both rows)) summarized e in (
       read.0,
       read.1,
-      sym (ap (λ (n : SummarizedCache). n.summary) (ok_injective {E = TableFault} (both read.0) summarized read.2)),
+      sym (ap (λ (n : SummarizedCache). n.summary)
+          (ok_injective {E = TableFault} (both read.0) summarized read.2)),
     )
 
 -- ---- at most one list of summaries
 
-IsSummaryOf-unique : (all : Bool) (files : List FileText) (flows : List Flow) (r : RouterRow) (a b : SummaryValue)
-    → IsSummaryOf all files flows r a → IsSummaryOf all files flows r b → a ≡ b
+IsSummaryOf-unique : (all : Bool) (files : List FileText) (flows : List Flow) (r : RouterRow)
+    (a b : SummaryValue) → IsSummaryOf all files flows r a → IsSummaryOf all files flows r b → a ≡ b
 IsSummaryOf-unique all files flows r a b one other =
     let part = ok_injective {E = FileFault} one.part other.part (sym one.made ∙ other.made) in
     let rows = ok_injective {E = TableFault} one.rows other.rows

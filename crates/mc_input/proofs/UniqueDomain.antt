@@ -42,8 +42,8 @@ wants_of-slice_get d lan flow row b at here =
     ∙ get_or_from_slice_get row flow b false here
 
 -- whatever the routers' tables are
-pub same_wants-from_IsAssembled : (v : InputValue) (others : List TablesValue) (d e : DomainValue) → IsDomain d
-    → IsDomain e → length v.reports ≡ length v.topology.lans
+pub same_wants-from_IsAssembled : (v : InputValue) (others : List TablesValue) (d e : DomainValue)
+    → IsDomain d → IsDomain e → length v.reports ≡ length v.topology.lans
     → IsAssembled v.topology v.tables v.reports d → IsAssembled v.topology others v.reports e
     → d.wants ≡ e.wants
 same_wants-from_IsAssembled v others d e ok_d ok_e count is_d is_e =
@@ -79,12 +79,13 @@ same_domain-from_IsAssembled v d e ok_d ok_e count is_d is_e =
     λ i. record { topology = topology i; vifs = vifs i; rows = rows i; wants = wants i }
 
 -- the domains of two inputs that are the same
-same_domain-from_same_inputs : (v w : InputValue) (c : Option (List ℕ)) (parts : List PartText) (d e : DomainValue)
-    → v ≡ w → PartsDenoteInput parts v c → IsDomain d → IsDomain e
+same_domain-from_same_inputs : (v w : InputValue) (c : Option (List ℕ)) (parts : List PartText)
+    (d e : DomainValue) → v ≡ w → PartsDenoteInput parts v c → IsDomain d → IsDomain e
     → IsAssembled v.topology v.tables v.reports d → IsAssembled w.topology w.tables w.reports e
     → d ≡ e
 same_domain-from_same_inputs v w c parts d e same parts_denote ok_d ok_e is_d is_e =
-    same_domain-from_IsAssembled v d e ok_d ok_e (AreCounted-from_PartsDenoteInput parts v c parts_denote).lans is_d
+    same_domain-from_IsAssembled v d e ok_d ok_e
+    (AreCounted-from_PartsDenoteInput parts v c parts_denote).lans is_d
     (subst (λ (x : InputValue). IsAssembled x.topology x.tables x.reports e) (sym same) is_e)
 
 -- ---- and so the text and the files mean one
@@ -93,8 +94,8 @@ pub MeansDomain-unique : (text : List ℕ) (a b : Option (List ℕ)) (d e : Doma
     → is_some b ≡ is_some a → MeansDomain text a d → MeansDomain text b e → (d ≡ e) × (a ≡ b)
 MeansDomain-unique text a b d e is m n =
     let one = DenotesInput-unique text m.input n.input a b is m.denotes n.denotes in (
-      same_domain-from_same_inputs m.input n.input a m.denotes.parts d e one.0 m.denotes.parts_denote m.rules n.rules m.assembled
-          n.assembled,
+      same_domain-from_same_inputs m.input n.input a m.denotes.parts d e one.0 m.denotes.parts_denote
+          m.rules n.rules m.assembled n.assembled,
       one.1,
     )
 

@@ -61,8 +61,8 @@ ArePacked-unique files (n ∷ ns) (a ∷ ps) (b ∷ qs) p q =
         ∙ ap (λ xs. b ∷ xs) rest
 
 -- the parts that are packed of files that denote an input
-pub DenotesInput-from_packed : (files : List FileText) (parts : List PartText) (text : List ℕ) (v : InputValue)
-    → FilesDenoteInput files v → IsPacked files false parts → IsBundle text parts
+pub DenotesInput-from_packed : (files : List FileText) (parts : List PartText) (text : List ℕ)
+    (v : InputValue) → FilesDenoteInput files v → IsPacked files false parts → IsBundle text parts
     → DenotesInput text v None
 DenotesInput-from_packed files parts text v h p bundle =
     let top : PartText = record { name = part_name topology_slot; bytes = h.parts_denote.topology } in

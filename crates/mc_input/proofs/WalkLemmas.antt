@@ -116,7 +116,8 @@ pub ReadsFirst-part_result : {X Y : Type 0} (old between : Option Stream) (part_
     (own (record { name = name; bytes = bytes })))
     → ReadsFirst old between (IsFedPart name before after)
     → ReadsFirst old between (λ part. IsPartResult (λ kept value. kept ≡ value) part_result (read part))
-ReadsFirst-part_result old between part_result own read name before after same finished passes = λ stream known.
+ReadsFirst-part_result old between part_result own read name before after same finished passes =
+    λ stream known.
     let x = passes stream known in (
       x.0,
       x.1,
@@ -129,7 +130,8 @@ ReadsFirst-part_result old between part_result own read name before after same f
   where
     named : (part : PartText) → part.name ≡ name
         → (let fed : PartText = record { name = name; bytes = part.bytes } in fed) ≡ part
-    named part is = ap (λ (n : List ℕ). let fed : PartText = record { name = n; bytes = part.bytes } in fed) (sym is)
+    named part is =
+        ap (λ (n : List ℕ). let fed : PartText = record { name = n; bytes = part.bytes } in fed) (sym is)
 
 -- what is kept of a part is kept of another reading of it
 pub KeepsOfFirst-implied : {Y Z : Type 0} (old new : Option Stream) (a : PartText → Result Y InputFault)
@@ -233,7 +235,8 @@ module _ (t : TopologyValue) where
       → read_stream (read_routers t.routers) stream ≡ value_and_rest routers later
       → read_stream (read_lans t.lans) later ≡ Err own → read_stream (read_contents t) stream ≡ Err own
   read_contents-reports_Err (Ok parts) (Ok others) routers own e refused = rw (e, refused) refl
-  read_contents-reports_Err (Ok parts) (Err fault) routers own e refused = rw e (ap Err (let f : fault ≡ own = cc in f))
+  read_contents-reports_Err (Ok parts) (Err fault) routers own e refused =
+      rw e (ap Err (let f : fault ≡ own = cc in f))
   read_contents-reports_Err (Err fault) (Ok others) routers own e refused = absurd cc
   read_contents-reports_Err (Err fault) (Err other) routers own e refused = cc
 
@@ -246,7 +249,8 @@ module _ (t : TopologyValue) where
   read_contents-Ok (Ok parts) (Ok others) (Ok more) routers reports e next = rw (e, next) refl
   read_contents-Ok (Ok parts) (Ok others) (Err fault) routers reports e next = rw (e, next) refl
   read_contents-Ok (Ok parts) (Err fault) (Ok more) routers reports e next = absurd cc
-  read_contents-Ok (Ok parts) (Err fault) (Err other) routers reports e next = rw e (ap Err (let f : fault ≡ other = cc in f))
+  read_contents-Ok (Ok parts) (Err fault) (Err other) routers reports e next =
+      rw e (ap Err (let f : fault ≡ other = cc in f))
   read_contents-Ok (Err fault) (Ok others) later routers reports e next = absurd cc
   read_contents-Ok (Err fault) (Err other) (Ok more) routers reports e next = absurd cc
   read_contents-Ok (Err fault) (Err other) (Err last) routers reports e next =
@@ -256,4 +260,5 @@ module _ (t : TopologyValue) where
 pub map-tables_push : (reads : List RouterRead) (own : RouterRead)
     → map (λ read. read.tables) (reads ++ own ∷ []) ≡ map (λ read. read.tables) reads ++ own.tables ∷ []
 map-tables_push [] own = refl
-map-tables_push (read ∷ reads) own = ap (λ (ts : List TablesValue). read.tables ∷ ts) (map-tables_push reads own)
+map-tables_push (read ∷ reads) own =
+    ap (λ (ts : List TablesValue). read.tables ∷ ts) (map-tables_push reads own)

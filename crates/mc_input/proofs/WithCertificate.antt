@@ -32,8 +32,8 @@ PartsDenoteReports-append (lan ∷ lans) (part ∷ here) (records ∷ all) rest 
     (h.0, PartsDenoteReports-append lans here all rest more h.1)
 
 -- and so are the parts
-PartsDenoteInput-with_certificate : (parts : List PartText) (v : InputValue) (text : List ℕ) → PartsDenoteInput parts v None
-    → PartsDenoteInput (with_certificate parts text) v (Some text)
+PartsDenoteInput-with_certificate : (parts : List PartText) (v : InputValue) (text : List ℕ)
+    → PartsDenoteInput parts v None → PartsDenoteInput (with_certificate parts text) v (Some text)
 PartsDenoteInput-with_certificate parts v text h =
     let more : List PartText = with_certificate [] text in
     record {
@@ -49,8 +49,8 @@ PartsDenoteInput-with_certificate parts v text h =
     }
 
 -- so it means the same domain
-pub MeansDomain-with_certificate : (text bundle : List ℕ) (parts : List PartText) (certificate : List ℕ) (d : DomainValue)
-    → MeansDomain text None d → IsBundle text parts
+pub MeansDomain-with_certificate : (text bundle : List ℕ) (parts : List PartText) (certificate : List ℕ)
+    (d : DomainValue) → MeansDomain text None d → IsBundle text parts
     → IsBundle bundle (with_certificate parts certificate)
     → MeansDomain bundle (Some certificate) d
 MeansDomain-with_certificate text bundle parts certificate d means is more = record {
@@ -60,7 +60,8 @@ MeansDomain-with_certificate text bundle parts certificate d means is more = rec
     bundle = more;
     parts_denote = PartsDenoteInput-with_certificate parts means.input certificate
         (subst (λ (ps : List PartText). PartsDenoteInput ps means.input None)
-        (bundle_has_unique_parts text means.denotes.parts parts means.denotes.bundle is) means.denotes.parts_denote);
+        (bundle_has_unique_parts text means.denotes.parts parts means.denotes.bundle is)
+        means.denotes.parts_denote);
   };
   assembled = means.assembled;
   rules = means.rules;

@@ -26,7 +26,8 @@ pub record AreListsOf (files : List FileText) (t : TopologyValue) (lists : List 
 
 -- What answers wants: the topology's flows and sources. Wants of these ranges of groups are left aside.
 abbrev pub answers_of : TopologyValue → (ignored : List (ℕ × ℕ)) → AnswersValue
-answers_of t ignored = record { flows = flow_pairs t.flows; sources = source_pairs t.sources; ignored = ignored }
+answers_of t ignored =
+    record { flows = flow_pairs t.flows; sources = source_pairs t.sources; ignored = ignored }
 
 -- What is kept, LAN by LAN, of what the lists ask for: with `all` each want that nothing answers, else of
 -- each LAN the lowest ones.

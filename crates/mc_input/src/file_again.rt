@@ -1,7 +1,7 @@
 //! Reads a single file of a folder, whichever was read before.
 
-ghost use Rattle.std.specs.Prelude.{◌≡◌, ◌<◌, ℕ, List, IfErr, IfOk, Ok, Result, Some, false, length, slice_get};
-ghost use Rattle.std.specs.Prelude.{true};
+ghost use Rattle.std.specs.Prelude.{◌≡◌, ◌<◌, ℕ, List, IfErr, IfOk, Ok, Result, Some, false, length};
+ghost use Rattle.std.specs.Prelude.{slice_get, true};
 ghost use Rattle.mc_text.specs.Bundle.{PartText};
 ghost use Rattle.mc_text.specs.Device.{failures_after};
 ghost use Rattle.mc_files.specs.FilePart.{file_part};

@@ -1,6 +1,7 @@
 //! The files of a folder as the parts of a domain's slots. Each is judged as its turn comes.
 
-ghost use Rattle.std.specs.Prelude.{◌≡◌, ◌<◌, ◌≤◌, ℕ, List, Some, IfErr, IfSome, false, length, slice_get, true};
+ghost use Rattle.std.specs.Prelude.{◌≡◌, ◌<◌, ◌≤◌, ℕ, List, Some, IfErr, IfSome, false, length, slice_get};
+ghost use Rattle.std.specs.Prelude.{true};
 ghost use Rattle.mc_text.specs.Device.{failures_after};
 ghost use Rattle.mc_files.specs.Files.{FileText};
 ghost use Rattle.mc_files.specs.Layout.{Slot as SlotText, slots, topology_slot};

@@ -13,7 +13,8 @@ returns-clause-text g c = λ text remaining.
     let opened = c.in_ok-open_slot.ensures.opened in
     let bytes = c.in_ok-collect_part.field-0.items in
     let whole = c.in_ok-collect_part.ensures.whole in
-    let passed = rest_of_bundle-part_collected c.args.parts.now c.open_slot.new.parts c.collect_part.new.parts opened.0
+    let passed = rest_of_bundle-part_collected c.args.parts.now c.open_slot.new.parts
+    c.collect_part.new.parts opened.0
     bytes bytes text (c.in_ok-open_slot.ensures.part text remaining) c.in_ok-collect_part.ensures.bytes
     whole (whole.1 ∙ opened.1.named) refl in (
       passed.0,

@@ -25,7 +25,8 @@ returns-in-Ok-clause-topology g c = λ text remaining.
     let slot : name ≡ part_name topology_slot =
     Some-injective (sym c.name.ensures.item ∙ whole.1 ∙ c.in_ok-open_named.ensures.opened.named)
     ∙ ap part_name c.topology.ensures in
-    let passed = rest_of_bundle-part_collected c.args.parts.now c.open_named.new.parts c.collect_part.new.parts name
+    let passed = rest_of_bundle-part_collected c.args.parts.now c.open_named.new.parts
+    c.collect_part.new.parts name
     bytes c.in_ok-bytes.bytes.items text (c.in_ok-open_named.ensures.part text remaining)
     c.in_ok-bytes.ensures.bytes whole c.name.ensures.item c.deref.ensures.value in (
       passed.0,
@@ -54,7 +55,8 @@ returns-in_err-drain-in-Err-clause-fault g c =
     let name = c.name.result in
     let bytes = c.deref.result.now in
     rw (p.1, p.2) (λ text remaining loud.
-    let passed = rest_of_bundle-part_collected s c.open_named.new.parts new name bytes c.in_ok-bytes.bytes.items text
+    let passed = rest_of_bundle-part_collected s c.open_named.new.parts new name bytes
+    c.in_ok-bytes.bytes.items text
     (c.in_ok-open_named.ensures.part text remaining) c.in_ok-bytes.ensures.bytes
     c.in_ok-bytes.ensures.whole c.name.ensures.item c.deref.ensures.value in
     read_rest-framing_Err s new text passed.0 (record { name = name; bytes = bytes } ∷ []) read_first_topology
@@ -81,7 +83,8 @@ returns-clause-fault g c = λ text remaining loud.
     ∙ ap part_name c.topology.ensures in
     let named : bytes_eq name (part_name topology_slot) ≡ true =
     (bytes_eq-Decides name (part_name topology_slot)).1 slot in
-    let passed = rest_of_bundle-part_collected s c.open_named.new.parts new name bytes c.in_ok-bytes.bytes.items text
+    let passed = rest_of_bundle-part_collected s c.open_named.new.parts new name bytes
+    c.in_ok-bytes.bytes.items text
     (c.in_ok-open_named.ensures.part text remaining) c.in_ok-bytes.ensures.bytes whole c.name.ensures.item
     c.deref.ensures.value in
     let right = framing-Ok new passed.0 tt

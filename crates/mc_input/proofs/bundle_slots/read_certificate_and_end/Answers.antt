@@ -1,4 +1,5 @@
-use Rattle.std.proofs.Common.{◌≡◌, ℕ, ◌+◌, ◌∙◌, ◌∷◌, [], Ok, Some, Bool, true, false, ap, arith, length, option_map, subst, sym}
+use Rattle.std.proofs.Common.{◌≡◌, ℕ, ◌+◌, ◌∙◌, ◌∷◌, [], Ok, Some, Bool, true, false, ap, arith, length}
+use Rattle.std.proofs.Common.{option_map, subst, sym}
 use Rattle.std.proofs.lemmas.List.{drop_all}
 use Rattle.std.proofs.lemmas.Result.{err_from_is_err_and}
 use Rattle.mc_text.specs.Bundle.{PartText}
@@ -7,7 +8,8 @@ use Rattle.mc_files.specs.Layout.{certificate_slot, certificate_slots, part_name
 use Rattle.mc_input.specs.PartsOneByOne.{certificate_number}
 use Rattle.mc_input.specs.Stream.{Stream, bundle_gives, part_then}
 use Rattle.mc_input.proofs.FinishLemmas.{length-slots_from_certificate_number}
-use Rattle.mc_input.proofs.StreamLemmas.{ReadsFirst-of_bundle, certificate_part-named, gives-ended, gives-names_Err}
+use Rattle.mc_input.proofs.StreamLemmas.{ReadsFirst-of_bundle, certificate_part-named, gives-ended}
+use Rattle.mc_input.proofs.StreamLemmas.{gives-names_Err}
 use Rattle.mc_input.proofs.bundle_slots.read_certificate_and_end.Goals as goal
 
 pub returns-in_err-check_names_to_end-clause-fault : goal.returns-in_err-check_names_to_end-clause-fault
@@ -19,7 +21,8 @@ returns-in_err-check_names_to_end-clause-fault g c = λ stream known.
     omega (arith, c.slot_count-number.ensures.count, length-slots_from_certificate_number false t) in
     rw (p.1, p.2) (gives-names_Err s c.args.certified t c.slot_count-number.result
     c.in_err-check_names_to_end.field-0.0 c.in_err-check_names_to_end.ensures.names stream
-    (subst (λ (n : ℕ). option_map (bundle_gives s c.args.certified t n) s.remaining ≡ Some stream) number known))
+    (subst (λ (n : ℕ). option_map (bundle_gives s c.args.certified t n) s.remaining ≡ Some stream)
+    number known))
 
 pub returns-then-not-certified-clause-certificate : goal.returns-then-not-certified-clause-certificate
 returns-then-not-certified-clause-certificate g c = λ stream known.
@@ -36,7 +39,8 @@ returns-then-not-certified-clause-certificate g c = λ stream known.
       ap (λ (b : Bool). length (certificate_slots b)) none,
       length-slots_from_certificate_number c.args.certified t,
     ))) c.in_ok-check_names_to_end.ensures.names stream
-    (subst (λ (k : ℕ). option_map (bundle_gives s c.args.certified t k) s.remaining ≡ Some stream) number known)
+    (subst (λ (k : ℕ). option_map (bundle_gives s c.args.certified t k) s.remaining ≡ Some stream)
+    number known)
 
 pub returns-in_err-text-clause-fault : goal.returns-in_err-text-clause-fault
 returns-in_err-text-clause-fault g c = λ stream known.
@@ -48,7 +52,8 @@ returns-in_err-text-clause-fault g c = λ stream known.
     omega (arith, c.slot_count-number.ensures.count, length-slots_from_certificate_number false t) in
     rw (p.1, p.2) (gives-names_Err s c.args.certified t c.slot_count-number.result c.in_err-text.field-0.0
     c.in_err-text.ensures.fault stream
-    (subst (λ (n : ℕ). option_map (bundle_gives s c.args.certified t n) s.remaining ≡ Some stream) number known))
+    (subst (λ (n : ℕ). option_map (bundle_gives s c.args.certified t n) s.remaining ≡ Some stream)
+    number known))
 
 pub returns-in_err-check_names_to_end-2-clause-fault : goal.returns-in_err-check_names_to_end-2-clause-fault
 returns-in_err-check_names_to_end-2-clause-fault g c = λ stream known.
@@ -62,11 +67,14 @@ returns-in_err-check_names_to_end-2-clause-fault g c = λ stream known.
     omega (arith, c.slot_count-number.ensures.count, length-slots_from_certificate_number false t) in
     let x = ReadsFirst-of_bundle s c.args.certified t n c.certificate_in.new.parts
     (λ part. part.bytes ≡ c.in_ok-text.text.items) c.in_ok-text.ensures.text stream
-    (subst (λ (k : ℕ). option_map (bundle_gives s c.args.certified t k) s.remaining ≡ Some stream) number known) in
-    rw (p.1, p.2) (λ loud. x.3 ∙ ap (part_then x.1) (gives-names_Err c.certificate_in.new.parts c.args.certified t
+    (subst (λ (k : ℕ). option_map (bundle_gives s c.args.certified t k) s.remaining ≡ Some stream)
+    number known) in
+    rw (p.1, p.2) (λ loud. x.3
+    ∙ ap (part_then x.1) (gives-names_Err c.certificate_in.new.parts c.args.certified t
     (n + 1) own c.in_err-check_names_to_end-2.ensures.names x.0 x.2 loud))
 
-pub returns-in_err-check_names_to_end-2-clause-advances : goal.returns-in_err-check_names_to_end-2-clause-advances
+pub returns-in_err-check_names_to_end-2-clause-advances :
+    goal.returns-in_err-check_names_to_end-2-clause-advances
 returns-in_err-check_names_to_end-2-clause-advances g c =
     advances_trans c.args.parts.now c.certificate_in.new.parts c.check_names_to_end-2.new.parts
     c.in_ok-text.ensures.advances c.in_err-check_names_to_end-2.ensures.advances
@@ -90,7 +98,8 @@ returns-clause-certificate g c = λ stream known.
       y.3,
       (y.4.0, certificate_part-named c.args.certified t n y.1 bytes one (sym number) y.4.0 y.4.1),
     )) stream
-    (subst (λ (k : ℕ). option_map (bundle_gives s c.args.certified t k) s.remaining ≡ Some stream) number known) in
+    (subst (λ (k : ℕ). option_map (bundle_gives s c.args.certified t k) s.remaining ≡ Some stream)
+    number known) in
     let ended = gives-ended c.certificate_in.new.parts c.args.certified t (n + 1) tt
     (drop_all (n + 1) (slots c.args.certified t) (omega (
       arith,

@@ -13,8 +13,10 @@ returns-in-Ok-clause-refused g c = λ contents is.
     on_ok_map c.judge_topologys_files.result c.judge_topologys_files.ensures.judged (λ judges.
     AreRefusedFiles-with_topology_of_source (map (λ (n : Bor (List ℕ)). n.now) c.args.without.now) contents
     (g.F.FileSource.contents c.args.files.now) (g.F.FileSource.contents c.topology_unless_u64_max.new.files)
-    c.in-Ok.topology (map as_judged_file c.args.refused.now.items) (map as_judged_file c.judge_topologys_files.new.refused.items)
-    (g.F.FileSource.failed c.topology_unless_u64_max.new.files) (g.F.FileSource.failed c.judge_topologys_files.new.files)
+    c.in-Ok.topology (map as_judged_file c.args.refused.now.items)
+    (map as_judged_file c.judge_topologys_files.new.refused.items)
+    (g.F.FileSource.failed c.topology_unless_u64_max.new.files)
+    (g.F.FileSource.failed c.judge_topologys_files.new.files)
     is c.topology_unless_u64_max.ensures.kept (ap (map as_judged_file) c.requires.empty)
     (c.in-Ok.ensures.topology contents is) judges)
 
@@ -22,19 +24,23 @@ pub returns-in-Ok-clause-failures : goal.returns-in-Ok-clause-failures
 returns-in-Ok-clause-failures g c =
     on_ok_map c.judge_topologys_files.result c.judge_topologys_files.ensures.judged (λ judges.
     saturating_failures-with_topology (g.F.FileSource.contents c.topology_unless_u64_max.new.files)
-    (λ known. judged_with_topology (map (λ (n : Bor (List ℕ)). n.now) c.args.without.now) known (Ok c.in-Ok.topology))
-    (map as_judged_file c.args.refused.now.items) (map as_judged_file c.judge_topologys_files.new.refused.items)
+    (λ known. judged_with_topology (map (λ (n : Bor (List ℕ)). n.now) c.args.without.now) known
+    (Ok c.in-Ok.topology))
+    (map as_judged_file c.args.refused.now.items)
+    (map as_judged_file c.judge_topologys_files.new.refused.items)
     (g.F.FileSource.failed c.args.files.now) (g.F.FileSource.failed c.topology_unless_u64_max.new.files)
     (g.F.FileSource.failed c.judge_topologys_files.new.files) (ap (map as_judged_file) c.requires.empty)
     c.in-Ok.ensures.failures judges)
 
 pub returns-in-Err-clause-refused : goal.returns-in-Err-clause-refused
 returns-in-Err-clause-refused g c = λ contents is.
-    OnOk-both c.push_if_fault.result c.push_if_fault.ensures.listed c.push_if_fault.ensures.not_out_of_memory (λ pushed enough.
+    OnOk-both c.push_if_fault.result c.push_if_fault.ensures.listed c.push_if_fault.ensures.not_out_of_memory
+    (λ pushed enough.
     AreRefusedFiles-topology_alone_of_source (map (λ (n : Bor (List ℕ)). n.now) c.args.without.now) contents
     (g.F.FileSource.contents c.args.files.now) c.in-Err.fault c.topology.result
     (map as_judged_file c.args.refused.now.items) (map as_judged_file c.push_if_fault.new.refused.items)
-    is c.topology.ensures (ap (map as_judged_file) c.requires.empty) (c.in-Err.ensures.topology contents is) pushed enough)
+    is c.topology.ensures (ap (map as_judged_file) c.requires.empty)
+    (c.in-Err.ensures.topology contents is) pushed enough)
 
 pub returns-in-Err-clause-failures : goal.returns-in-Err-clause-failures
 returns-in-Err-clause-failures g c =

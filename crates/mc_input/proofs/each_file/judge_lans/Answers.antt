@@ -17,8 +17,8 @@ loop-lan-init g c = record {
   room = c.requires.room;
   same = refl;
   kept = refl;
-  judged = JudgesFiles-none (g.F.FileSource.contents c.args.files.now) (map as_judged_file c.args.refused.now.items)
-      (g.F.FileSource.failed c.args.files.now);
+  judged = JudgesFiles-none (g.F.FileSource.contents c.args.files.now)
+      (map as_judged_file c.args.refused.now.items) (g.F.FileSource.failed c.args.files.now);
 }
 
 pub judge_slot-requires-clause-within : goal.judge_slot-requires-clause-within
@@ -50,7 +50,8 @@ loop-lan-preserved g c =
       same = c.judge_slot.ensures.same ∙ c.loop-lan.invariant.same;
       kept = c.judge_slot.ensures.kept ∙ c.loop-lan.invariant.kept;
       judged = JudgesFiles-lans_more contents t.lans k (map as_judged_file c.args.refused.now.items)
-          between new (g.F.FileSource.failed c.args.files.now) middle after lan.0 lan.1 c.loop-lan.invariant.judged
+          between new (g.F.FileSource.failed c.args.files.now) middle after lan.0 lan.1
+          c.loop-lan.invariant.judged
           (JudgesFiles-same_source contents (g.F.FileSource.contents c.loop-lan.files)
           (λ known. judged_reports known lan.0 ∷ []) between new middle after c.loop-lan.invariant.kept
           (c.in_ok-judge_slot.ensures.judged reports_of (reports_slot lan.0)

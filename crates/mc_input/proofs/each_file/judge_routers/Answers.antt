@@ -12,8 +12,8 @@ loop-router-init g c = record {
   room = c.requires.room;
   same = refl;
   kept = refl;
-  judged = JudgesFiles-none (g.F.FileSource.contents c.args.files.now) (map as_judged_file c.args.refused.now.items)
-      (g.F.FileSource.failed c.args.files.now);
+  judged = JudgesFiles-none (g.F.FileSource.contents c.args.files.now)
+      (map as_judged_file c.args.refused.now.items) (g.F.FileSource.failed c.args.files.now);
 }
 
 pub loop-router-preserved : goal.loop-router-preserved
@@ -26,14 +26,17 @@ loop-router-preserved g c =
     let new = map as_judged_file c.judge_tables.new.refused.items in
     let middle = g.F.FileSource.failed c.loop-router.files in
     let after = g.F.FileSource.failed c.judge_tables.new.files in
-    let r = slice_get-exists t.routers k (omega (arith, c.loop-router-test.true, c.loop-router.invariant.count)) in
+    let r = slice_get-exists t.routers k
+    (omega (arith, c.loop-router-test.true, c.loop-router.invariant.count)) in
     record {
       count = c.loop-router.invariant.count;
       room = search rules;
       same = c.judge_tables.ensures.same ∙ c.loop-router.invariant.same;
       kept = c.judge_tables.ensures.kept ∙ c.loop-router.invariant.kept;
-      judged = JudgesFiles-routers_more contents names t.routers k (map as_judged_file c.args.refused.now.items)
-          between new (g.F.FileSource.failed c.args.files.now) middle after r.0 r.1 c.loop-router.invariant.judged
+      judged = JudgesFiles-routers_more contents names t.routers k
+          (map as_judged_file c.args.refused.now.items)
+          between new (g.F.FileSource.failed c.args.files.now) middle after r.0 r.1
+          c.loop-router.invariant.judged
           (JudgesFiles-same_source contents (g.F.FileSource.contents c.loop-router.files)
           (λ known. judged_tables names known r.0) between new middle after c.loop-router.invariant.kept
           (c.in_ok-judge_tables.ensures.judged r.0 r.1));
@@ -41,7 +44,8 @@ loop-router-preserved g c =
 
 pub returns-clause-judged : goal.returns-clause-judged
 returns-clause-judged g c =
-    JudgesFiles-routers_all (g.F.FileSource.contents c.args.files.now) (map (λ (n : Bor (List ℕ)). n.now) c.args.without.now)
+    JudgesFiles-routers_all (g.F.FileSource.contents c.args.files.now)
+    (map (λ (n : Bor (List ℕ)). n.now) c.args.without.now)
     c.args.topology.now.routers c.loop-router.router
     (map as_judged_file c.args.refused.now.items) (map as_judged_file c.loop-router.refused.items)
     (g.F.FileSource.failed c.args.files.now) (g.F.FileSource.failed c.loop-router.files)

@@ -9,9 +9,11 @@ one_slot e = cc
 
 pub returns-clause-judged : goal.returns-clause-judged
 returns-clause-judged g c = λ read slot same at.
-    OnOk-both c.push_if_fault.result c.push_if_fault.ensures.listed c.push_if_fault.ensures.not_out_of_memory (λ pushed enough.
+    OnOk-both c.push_if_fault.result c.push_if_fault.ensures.listed c.push_if_fault.ensures.not_out_of_memory
+    (λ pushed enough.
     JudgesFiles-one_of_slot (g.F.FileSource.contents c.args.files.now) slot read
-    c.slot_fault-fault.result (map as_judged_file c.args.refused.now.items) (map as_judged_file c.push_if_fault.new.refused.items)
+    c.slot_fault-fault.result (map as_judged_file c.args.refused.now.items)
+    (map as_judged_file c.push_if_fault.new.refused.items)
     (g.F.FileSource.failed c.args.files.now) (g.F.FileSource.failed c.slot_fault-fault.new.files)
     c.in-Some.slot (one_slot (c.in-Some.ensures ∙ at)) pushed enough c.slot_fault-fault.ensures.failures
     (λ known is. c.slot_fault-fault.ensures.fault read slot known same at is))

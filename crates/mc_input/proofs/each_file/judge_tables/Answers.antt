@@ -12,7 +12,8 @@ use Rattle.mc_input.specs.RefusedFiles.{JudgedFile, as_judged_file, judged_file}
 use Rattle.mc_input.specs.declared.fault.InputFault.TheVariants.{Cache, Vif}
 use Rattle.mc_input.proofs.CacheLemmas.{listed_part}
 use Rattle.mc_input.proofs.FinishLemmas.{router_slots-within_count}
-use Rattle.mc_input.proofs.RefusedLemmas.{JudgesFiles-excluded_router, JudgesFiles-router, JudgesFiles-same_files}
+use Rattle.mc_input.proofs.RefusedLemmas.{JudgesFiles-excluded_router, JudgesFiles-router}
+use Rattle.mc_input.proofs.RefusedLemmas.{JudgesFiles-same_files}
 use Rattle.mc_input.proofs.RefusedLemmas.{JudgesFiles-same_source, judged_file-listed_part}
 use Rattle.mc_input.proofs.WalkLemmas.{name-at, order-at}
 use Rattle.mc_text.proofs.StepLemmas.{on_ok_map}

@@ -7,4 +7,5 @@ use Rattle.mc_input.proofs.each_file.refused_files.Goals as goal
 pub returns-clause-exact : goal.returns-clause-exact
 returns-clause-exact g c = λ contents is.
     refused_files_of-exact (map (λ (n : Bor (List ℕ)). n.now) c.args.without.now) contents
-    (map as_judged_file c.judge_all_files.new.refused.items) (c.in_ok-judge_all_files.ensures.refused contents is)
+    (map as_judged_file c.judge_all_files.new.refused.items)
+    (c.in_ok-judge_all_files.ensures.refused contents is)

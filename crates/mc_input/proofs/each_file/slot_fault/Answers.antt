@@ -12,6 +12,7 @@ returns-clause-fault g c = λ read slot contents same at is.
     let n = c.args.number in
     subst (λ (f : Option SourceFault). IsOwnFaultUnlessMemory f (file_fault contents slot read))
     (sym c.err-fault.ensures.value)
-    (IsOwnFaultUnlessMemory-of_slot contents t n slot read _ _ (λ kept value. kept ≡ value) c.read_slot.result at
+    (IsOwnFaultUnlessMemory-of_slot contents t n slot read _ _
+    (λ kept value. kept ≡ value) c.read_slot.result at
     (ap (option_map (λ (files : List FileText). files_give t n files)) is)
     (c.read_slot.ensures.value read same) (c.read_slot.ensures.fault read same))

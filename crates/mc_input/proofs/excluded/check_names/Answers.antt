@@ -8,8 +8,8 @@ pub returns-then-is_none-clause-names : goal.returns-then-is_none-clause-names
 returns-then-is_none-clause-names c =
     let refused : ℕ → Result (Unit {0}) ExclusionFault = λ n. Err (NoSuchRouter n) in
     ap refused c.min-number.ensures
-    ∙ sym (check_router_names-Err c.args.topology.now c.args.without.now c.loop-place.place _ c.router_no.result
-    c.loop-place-test.true c.router_no.ensures.number c.if-is_none.ensures)
+    ∙ sym (check_router_names-Err c.args.topology.now c.args.without.now c.loop-place.place _
+    c.router_no.result c.loop-place-test.true c.router_no.ensures.number c.if-is_none.ensures)
     ∙ c.loop-place.invariant.left
 
 pub loop-place-preserved : goal.loop-place-preserved

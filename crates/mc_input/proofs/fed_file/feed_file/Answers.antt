@@ -8,7 +8,8 @@ pub returns-clause-bytes : goal.returns-clause-bytes
 returns-clause-bytes g c = λ contents is.
     let found = file_named-from_open c.args.name.now contents _ _ is c.in_ok-open.ensures.bytes in
     bytes_within_max_part-fed (file_named contents c.args.name.now) found.0 c.feed_open-fed.result
-    (g.P.PieceReader.result_after c.args.reader.now) (g.P.PieceReader.result_after c.feed_open-fed.new.reader [])
+    (g.P.PieceReader.result_after c.args.reader.now)
+    (g.P.PieceReader.result_after c.feed_open-fed.new.reader [])
     found.1 (c.feed_open-fed.ensures.within found.0 found.2)
 
 pub returns-clause-fault : goal.returns-clause-fault

@@ -12,7 +12,8 @@ returns-in_ok-file-in-None-clause-bytes g c = λ contents seen is sees.
     subst (SeesHeaderOrFile contents seen c.args.slot.now) c.in-None.is sees in
     on_ok_map c.feed_file.result (c.feed_file.ensures.bytes contents is) (λ fed. (
       fed.0,
-      ap bytes_within_max_part (same ∙ ap (file_named contents) (sym (c.deref.ensures ∙ c.in_ok-file-in-None.ensures)))
+      ap bytes_within_max_part
+          (same ∙ ap (file_named contents) (sym (c.deref.ensures ∙ c.in_ok-file-in-None.ensures)))
           ∙ fed.1,
       fed.2,
       fed.3,

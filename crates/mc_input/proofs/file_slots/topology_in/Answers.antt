@@ -41,5 +41,6 @@ pub returns-in_err-topology_of-clause-faults : goal.returns-in_err-topology_of-c
 returns-in_err-topology_of-clause-faults g c =
     let p = err_from_is_err_and c.from_residual-in_err-topology_of.result
     c.from_residual-in_err-topology_of.ensures.1 in
-    rw (p.1 ∙ ap (λ f. Err f) p.2) (is_possible_for_files-from_reader c.in_err-topology_of.field-0.0 RefusedTopology
+    rw (p.1 ∙ ap (λ f. Err f) p.2)
+    (is_possible_for_files-from_reader c.in_err-topology_of.field-0.0 RefusedTopology
     (parse_topology (part_text c.as_part.result).bytes) (λ e. refl) c.in_err-topology_of.ensures)

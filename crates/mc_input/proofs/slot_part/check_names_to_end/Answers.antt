@@ -33,7 +33,8 @@ loop-next-preserved g c =
       names = λ text remaining.
           let known = c.loop-next.invariant.names text remaining in
           let next = c.in_ok-open_slot.ensures.part known.0 known.1 in
-          let here = next.2 ∙ parts_from_current-in_part new denotes.0 [] next.0 denotes.1.stage denotes.1.named in (
+          let here = next.2
+          ∙ parts_from_current-in_part new denotes.0 [] next.0 denotes.1.stage denotes.1.named in (
             next.0,
             next.1,
             known.2 ∙ read_rest-name_passed c.args.certified t c.loop-next.next s new known.0 next.0
@@ -124,7 +125,8 @@ returns-clause-names g c = λ text remaining.
     let none : check_names_from c.loop-next.next (drop c.loop-next.next ss) [] ≡ Ok tt = rw end refl in
     ap (map_fault refused) (known.2 ∙ read_rest-none s known.0
     (check_names_from c.loop-next.next (drop c.loop-next.next ss))
-    (rest_of_bundle-ended s [] known.0 (c.in_ok-next.ensures.ended known.0 [] known.1 (ap Ok c.if-branch.false)))
+    (rest_of_bundle-ended s [] known.0
+    (c.in_ok-next.ensures.ended known.0 [] known.1 (ap Ok c.if-branch.false)))
     ∙ none)
 
 pub returns-clause-advances : goal.returns-clause-advances

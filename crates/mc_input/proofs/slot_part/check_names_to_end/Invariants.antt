@@ -12,6 +12,7 @@ invariant-loop-next g l = record {
   few : l.count ≤ 1538;
   names : (text : List ℕ) → l.fn.parts.remaining ≡ Some text →
       (later : List ℕ) × (l.parts.remaining ≡ Some later)
-      × (read_rest l.fn.parts text (check_names_from l.fn.number (drop l.fn.number (slots l.fn.certified l.fn.topology)))
+      × (read_rest l.fn.parts text
+      (check_names_from l.fn.number (drop l.fn.number (slots l.fn.certified l.fn.topology)))
       ≡ read_rest l.parts later (check_names_from l.next (drop l.next (slots l.fn.certified l.fn.topology))));
 }

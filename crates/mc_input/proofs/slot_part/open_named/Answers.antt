@@ -52,8 +52,8 @@ returns-in_err-drain-clause-fault g c =
     let here = rest_of_bundle-opened s [] text _ next.2
     ∙ parts_from_current-in_part new c.name.result [] next.0 denotes.0 c.name.ensures.item in
     read_rest-framing_Err s new text next.0
-    (record { name = c.name.result; bytes = [] ++ take new.left next.0 } ∷ []) read c.in_err-drain.field-0.0 here
-    (c.in_err-drain.ensures.framing next.0 next.1 loud))
+    (record { name = c.name.result; bytes = [] ++ take new.left next.0 } ∷ [])
+    read c.in_err-drain.field-0.0 here (c.in_err-drain.ensures.framing next.0 next.1 loud))
 
 pub returns-in_err-drain-clause-advances : goal.returns-in_err-drain-clause-advances
 returns-in_err-drain-clause-advances g c =

@@ -1,4 +1,5 @@
-use Rattle.std.proofs.Common.{◌∙◌, ap, arith, rules, subst, List, ℕ, Some, [], ◌++◌, ◌∷◌, length, slice_get, ◌≡◌}
+use Rattle.std.proofs.Common.{◌∙◌, ap, arith, rules, subst, List, ℕ, Some, [], ◌++◌, ◌∷◌, length, slice_get}
+use Rattle.std.proofs.Common.{◌≡◌}
 use Rattle.std.proofs.lemmas.List.{length-append}
 use Rattle.std.proofs.lemmas.Result.{err_from_is_err_and}
 use Rattle.std.specs.FinMap.{FinMap}
@@ -36,7 +37,8 @@ loop-router-preserved g c =
           c.in_ok-own.ensures.states all contents summary r vifs (c.loop-router.invariant.kept ∙ is) summaries
           (subst (λ (k : ℕ). slice_get d.topology.routers k ≡ Some r) c.loop-router.invariant.count r_at)
           (subst (λ (k : ℕ). slice_get d.vifs k ≡ Some vifs) c.loop-router.invariant.count vifs_at))
-          router states (subst (λ (xs : List (List RouterState)). slice_get xs router ≡ Some states) items states_at)
+          router states
+          (subst (λ (xs : List (List RouterState)). slice_get xs router ≡ Some states) items states_at)
           r vifs at vifs_at;
     }
 

@@ -1,6 +1,7 @@
 use Rattle.std.proofs.lemmas.Result.{err_from_is_err_and}
 use Rattle.mc_forward.proofs.IndexLemmas.{slice_get-exists}
-use Rattle.std.proofs.Common.{ℕ, ◌≡◌, ◌<◌, ◌+◌, ◌*◌, ◌∙◌, Ok, Some, ap, arith, false, length, option_map, refl, subst, sym, slice_get}
+use Rattle.std.proofs.Common.{ℕ, ◌≡◌, ◌<◌, ◌+◌, ◌*◌, ◌∙◌, Ok, Some, ap, arith, false, length, option_map}
+use Rattle.std.proofs.Common.{refl, subst, sym, slice_get}
 use Rattle.mc_text.specs.Steps.{map_fault}
 use Rattle.mc_text.specs.declared.text.addr.Order.{Order}
 use Rattle.mc_tables.specs.CacheReading.{cache_rows_in}
@@ -14,7 +15,8 @@ use Rattle.mc_asked.specs.WantStates.{WantStatesValue, states_start, states_with
 use Rattle.mc_input.specs.ExcludedRouters.{files_without}
 use Rattle.mc_input.specs.declared.fault.InputFault.TheVariants.{Cache}
 use Rattle.mc_input.proofs.FinishLemmas.{router_slots-within_count}
-use Rattle.mc_input.proofs.StateLemmas.{AreStatesOfRouter-from_rows, AreStatesOfRouter-of_none, IsSummaryOf-at}
+use Rattle.mc_input.proofs.StateLemmas.{AreStatesOfRouter-from_rows, AreStatesOfRouter-of_none}
+use Rattle.mc_input.proofs.StateLemmas.{IsSummaryOf-at}
 use Rattle.std.proofs.lemmas.Bool.{eqb-true}
 use Rattle.mc_input.proofs.WalkLemmas.{order-at}
 use Rattle.std.specs.FinMap.{FinMap}
@@ -36,8 +38,8 @@ order-of : (t own : TopologyValue) (k : ℕ) (r : RouterRow) (order : Order) →
     → slice_get t.routers k ≡ Some r → order ≡ r.order
 order-of t own k r order same item at =
     order-at (slice_get t.routers k) r order
-    (subst (λ (u : TopologyValue). option_map (λ (r : RouterRow). r.order) (slice_get u.routers k) ≡ Some order)
-    same item) at
+    (subst (λ (u : TopologyValue). option_map (λ (r : RouterRow). r.order) (slice_get u.routers k)
+    ≡ Some order) same item) at
 
 one_table : {x y : FinMap nat_cmp VifValue} → Some x ≡ Some y → x ≡ y
 one_table e = cc
@@ -45,7 +47,8 @@ one_table e = cc
 pub read_file_again-requires-clause-within : goal.read_file_again-requires-clause-within
 read_file_again-requires-clause-within g c =
     let number = c.cache_slot_number-number.result in
-    subst (λ (t : TopologyValue). number < length (slots false t)) (sym c.topology-topology.ensures.topology) (omega (
+    subst (λ (t : TopologyValue). number < length (slots false t))
+    (sym c.topology-topology.ensures.topology) (omega (
       arith,
       c.cache_slot_number-number.ensures.value,
       router_slots-within_count false c.args.domain.now.topology c.args.router c.requires.router,
@@ -56,13 +59,15 @@ returns-then-is_empty-clause-states g c = λ all contents summary r vifs is summ
     let d = c.args.domain.now in
     let files = files_without c.args.without.now contents in
     let own = IsSummaryOf-at all files d.topology summary c.args.router r summaries c.requires.router at in
-    AreStatesOfRouter-of_none files c.args.wants.now vifs r all d.topology.flows own.0 c.new.result.items own.1
+    AreStatesOfRouter-of_none files c.args.wants.now vifs r all d.topology.flows own.0
+    c.new.result.items own.1
     (eqb-true (length c.args.wants.now) 0 (sym c.if-is_empty.ensures)) c.new.ensures.items
 
 -- a cache whose rows can be read is refused for nothing in it
 pub returns-in_err-stated-clause-fault : goal.returns-in_err-stated-clause-fault
 returns-in_err-stated-clause-fault g c = λ all contents summary is summaries.
-    let p = err_from_is_err_and c.from_residual-in_err-stated.result c.from_residual-in_err-stated.ensures.1 in
+    let p = err_from_is_err_and c.from_residual-in_err-stated.result
+    c.from_residual-in_err-stated.ensures.1 in
     let t = c.args.domain.now.topology in
     let k = c.args.router in
     let files = files_without c.args.without.now contents in
@@ -76,10 +81,12 @@ returns-in_err-stated-clause-fault g c = λ all contents summary is summaries.
     let own = IsSummaryOf-at all files t summary k r summaries c.requires.router row.1 in
     let rows = ap (λ (o : Order). cache_rows_in o own.1.part.bytes) order ∙ own.1.read in
     rw (p.1, p.2)
-    (c.in_err-stated.ensures.fault (λ part. map_fault (Cache part.name) (each_row_if states_with_row reader part.bytes))
+    (c.in_err-stated.ensures.fault
+    (λ part. map_fault (Cache part.name) (each_row_if states_with_row reader part.bytes))
     (cache_slot r.name) contents own.1.part (with_rows states_with_row c.in_ok-start.start own.1.rows)
     (λ part small. refl) here is own.1.made
-    (ap (map_fault (Cache own.1.part.name)) (c.handing_on-reader.ensures.reads own.1.part.bytes own.1.rows rows)))
+    (ap (map_fault (Cache own.1.part.name))
+    (c.handing_on-reader.ensures.reads own.1.part.bytes own.1.rows rows)))
 
 pub returns-clause-states : goal.returns-clause-states
 returns-clause-states g c = λ all contents summary r vifs is summaries at vifs_at.
@@ -99,7 +106,8 @@ returns-clause-states g c = λ all contents summary r vifs is summaries at vifs_
     c.in_ok-start.ensures ∙ ap (λ (v : FinMap nat_cmp VifValue). states_start v wants) table in
     let reads = c.handing_on-reader.ensures.reads own.1.part.bytes own.1.rows rows
     ∙ ap (λ (s : WantStatesValue). Ok (with_rows states_with_row s own.1.rows)) start in
-    rw c.in_ok-states.ensures (AreStatesOfRouter-from_rows files wants vifs r own.1.rows own.1.part reader c.in_ok-stated.stated
-    own.1.made own.1.read reads
-    (c.in_ok-stated.ensures.value (λ part. map_fault (Cache part.name) (each_row_if states_with_row reader part.bytes))
+    rw c.in_ok-states.ensures (AreStatesOfRouter-from_rows files wants vifs r own.1.rows own.1.part reader
+    c.in_ok-stated.stated own.1.made own.1.read reads
+    (c.in_ok-stated.ensures.value
+    (λ part. map_fault (Cache part.name) (each_row_if states_with_row reader part.bytes))
     (cache_slot r.name) contents (λ part small. refl) here is))

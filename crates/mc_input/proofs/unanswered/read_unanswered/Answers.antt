@@ -12,7 +12,8 @@ use Rattle.mc_input.proofs.unanswered.read_unanswered.Goals as goal
 
 pub read_asked_wants-requires : goal.read_asked_wants-requires
 read_asked_wants-requires g c = record {
-  count = c.requires.count ∙ sym (ap (λ (t : TopologyValue). length t.lans) c.topology-topology.ensures.topology);
+  count = c.requires.count
+      ∙ sym (ap (λ (t : TopologyValue). length t.lans) c.topology-topology.ensures.topology);
   sorted = subst (λ (l : List (Want × List ℕ)). IsStrictlySortedBy key_cmp (map (λ line. line.0) l))
       (sym c.deref.ensures.value) c.in_ok-asked.ensures.ascending;
   room = c.requires.room;
@@ -21,15 +22,18 @@ read_asked_wants-requires g c = record {
 
 pub returns-in_err-needed-clause-fault : goal.returns-in_err-needed-clause-fault
 returns-in_err-needed-clause-fault g c = λ ignored summary contents is wants summaries.
-    let p = err_from_is_err_and c.from_residual-in_err-needed.result c.from_residual-in_err-needed.ensures.1 in
+    let p = err_from_is_err_and c.from_residual-in_err-needed.result
+    c.from_residual-in_err-needed.ensures.1 in
     let files = files_without c.args.without.now contents in
     rw (p.1, p.2)
     (c.in_err-needed.ensures.fault wants.lists contents is
-    (subst (λ (t : TopologyValue). AreListsOf files t wants.lists) (sym c.topology-topology.ensures.topology) wants.of))
+    (subst (λ (t : TopologyValue). AreListsOf files t wants.lists)
+    (sym c.topology-topology.ensures.topology) wants.of))
 
 pub returns-in_err-states-clause-fault : goal.returns-in_err-states-clause-fault
 returns-in_err-states-clause-fault g c = λ ignored summary contents is wants summaries.
-    let p = err_from_is_err_and c.from_residual-in_err-states.result c.from_residual-in_err-states.ensures.1 in
+    let p = err_from_is_err_and c.from_residual-in_err-states.result
+    c.from_residual-in_err-states.ensures.1 in
     rw (p.1, p.2)
     (c.in_err-states.ensures.fault c.args.all contents summary (c.in_ok-needed.ensures.kept ∙ is) summaries)
 
@@ -51,6 +55,7 @@ returns-clause-asked g c = λ ignored summary contents is wants summaries.
       count = c.count_wants.ensures;
       further = c.in_ok-asked.ensures.further;
       services = c.in_ok-services.ensures;
-      states = subst (λ (ws : List (Want × List ℕ)). AreStatesOf files ws d c.in_ok-states.states.items) needed
-          (c.in_ok-states.ensures.states c.args.all contents summary (c.in_ok-needed.ensures.kept ∙ is) summaries);
+      states = subst (λ (ws : List (Want × List ℕ)). AreStatesOf files ws d c.in_ok-states.states.items)
+          needed (c.in_ok-states.ensures.states c.args.all contents summary
+          (c.in_ok-needed.ensures.kept ∙ is) summaries);
     }

@@ -31,7 +31,8 @@ returns-in_err-list-clause-fault g c = λ lists contents is are.
     (omega (arith, c.first_lan_slot_number.ensures.value)) own.1 in
     rw (p.1, p.2)
     (c.in_err-list.ensures.fault reports_of (reports_slot own.0) contents own.4.part own.2
-    (λ part small. ap (map_fault (Reports part.name)) (c.new-reader.ensures.reads part.bytes)) here is own.4.made
+    (λ part small. ap (map_fault (Reports part.name)) (c.new-reader.ensures.reads part.bytes))
+    here is own.4.made
     (ap (map_fault (Reports own.4.part.name)) own.4.read))
 
 pub returns-clause-sources : goal.returns-clause-sources

@@ -10,7 +10,8 @@ pub returns-in_err-tables-clause-fault : goal.returns-in_err-tables-clause-fault
 returns-in_err-tables-clause-fault g c =
     let p = err_from_is_err_and c.from_residual.result c.from_residual.ensures.1 in
     let t = c.args.topology.now in
-    rw (p.1, p.2) (IsFaultOfStream-implied (read_routers t.routers) (read_contents t) (read_contents-tables_Err t)
+    rw (p.1, p.2) (IsFaultOfStream-implied (read_routers t.routers) (read_contents t)
+    (read_contents-tables_Err t)
     (g.S.Slots.gives c.args.slots.now t 1) c.in_err-tables.field-0.0 c.in_err-tables.ensures.fault)
 
 pub returns-in_err-wants-clause-fault : goal.returns-in_err-wants-clause-fault

@@ -24,8 +24,8 @@ returns-clause-value g c = λ read same.
     (ReadsFirst-part_result old between c.finished.result (g.R.PartReader.part_result c.args.reader) read
     c.in_ok-name.name (after c.args.reader) (after c.feed.new.reader) same
     (c.finished.ensures.result c.args.reader) c.in_ok-name.ensures.part)
-    (λ s. g.S.Slots.gives s t (n + 1)) c.feed.new.self c.value_or_refusal.new.slots c.value_or_refusal.result refl
-    c.value_or_refusal.ensures.kept
+    (λ s. g.S.Slots.gives s t (n + 1)) c.feed.new.self c.value_or_refusal.new.slots
+    c.value_or_refusal.result refl c.value_or_refusal.ensures.kept
 
 pub returns-clause-fault : goal.returns-clause-fault
 returns-clause-fault g c = λ read same.

@@ -1,5 +1,5 @@
-use Rattle.std.proofs.Common.{◌≡◌, ℕ, ◌+◌, ◌*◌, ◌∙◌, ◌∷◌, ◌++◌, [], Bool, Err, List, Ok, Result, Some, ap, arith, drop, false, length, map}
-use Rattle.std.proofs.Common.{refl, rules, subst, sym}
+use Rattle.std.proofs.Common.{◌≡◌, ℕ, ◌+◌, ◌*◌, ◌∙◌, ◌∷◌, ◌++◌, [], Bool, Err, List, Ok, Result, Some, ap}
+use Rattle.std.proofs.Common.{arith, drop, false, length, map, refl, rules, subst, sym}
 use Rattle.std.proofs.lemmas.List.{drop_all, length-append}
 use Rattle.std.proofs.lemmas.Result.{err_from_is_err_and}
 use Rattle.mc_text.specs.Steps.{map_fault}
@@ -11,8 +11,8 @@ use Rattle.mc_forward.proofs.IndexLemmas.{slice_get-exists}
 use Rattle.mc_forward.proofs.ListedTableLemmas.{with_router-of_listed_part}
 use Rattle.mc_input.specs.Kept.{AreFlowPairs}
 use Rattle.mc_input.specs.PartsReading.{first_lan_number, vifs_of}
-use Rattle.mc_input.specs.Stream.{NextParts, RouterRead, cache_and_text, part_then, read_each_after, read_first}
-use Rattle.mc_input.specs.Stream.{read_router, read_stream, router_read}
+use Rattle.mc_input.specs.Stream.{NextParts, RouterRead, cache_and_text, part_then, read_each_after}
+use Rattle.mc_input.specs.Stream.{read_first, read_router, read_stream, router_read}
 use Rattle.mc_input.specs.declared.fault.InputFault.TheVariants.{Vif}
 use Rattle.mc_input.specs.declared.source_fault.SourceFault.{SourceFault}
 use Rattle.mc_input.proofs.ReadingLemmas.{drop-slice_get}
@@ -88,7 +88,8 @@ returns-in_err-vifs-clause-fault g c =
     (read_each-Err read x.1 r.0 (drop (k + 1) rs)) x.0 own
     (read_stream-Err_implied (read_first vifs_of) (read r.0) (read_router-vifs_Err r.0.order) x.0 own
     (c.in_err-vifs.ensures.fault vifs_of
-    (λ part small. ap (map_fault (Vif part.name)) (c.new-reader.ensures.reads part.bytes small)) x.0 vifs_next loud)))
+    (λ part small. ap (map_fault (Vif part.name)) (c.new-reader.ensures.reads part.bytes small))
+    x.0 vifs_next loud)))
 
 pub returns-in_err-cache-clause-fault : goal.returns-in_err-cache-clause-fault
 returns-in_err-cache-clause-fault g c =
@@ -99,13 +100,15 @@ returns-in_err-cache-clause-fault g c =
     let r = slice_get-exists rs k (omega (arith, c.loop-router-test.true, c.loop-router.invariant.end)) in
     let order = order-at _ r.0 c.order-order.result c.order-order.ensures.item r.1 in
     let number_of_cache : c.vif_slot_number-vif_number.result + 1 ≡ c.cache_slot_number-cache_number.result =
-    omega (arith, c.vif_slot_number-vif_number.ensures.value, c.cache_slot_number-cache_number.ensures.value) in
+    omega
+    (arith, c.vif_slot_number-vif_number.ensures.value, c.cache_slot_number-cache_number.ensures.value) in
     rw (p.1, p.2) (λ stream known loud.
     let x = c.loop-router.invariant.taken stream known in
     let vifs_next = subst (λ (n : ℕ). g.S.Slots.gives c.loop-router.slots c.args.topology.now n ≡ Some x.0)
     (sym c.vif_slot_number-vif_number.ensures.value) x.2 in
     let v = c.in_ok-vifs.ensures.value vifs_of
-    (λ part small. ap (map_fault (Vif part.name)) (c.new-reader.ensures.reads part.bytes small)) x.0 vifs_next in
+    (λ part small. ap (map_fault (Vif part.name)) (c.new-reader.ensures.reads part.bytes small))
+    x.0 vifs_next in
     let cache_next = subst (λ (n : ℕ). g.S.Slots.gives c.read_slot.new.slots c.args.topology.now n ≡ Some v.0)
     number_of_cache v.2 in
     x.5 ∙ ap (λ (more : List RouterRow). read_stream (read_each_after read x.1 more) x.0)
@@ -148,7 +151,8 @@ loop-router-preserved g c =
       advances = g.met.S.Slots.advances_twice c.args.slots.now c.read_slot.new.slots c.read_cache.new.slots
           (g.met.S.Slots.advances_twice c.args.slots.now c.loop-router.slots c.read_slot.new.slots
           c.loop-router.invariant.advances c.in_ok-vifs.ensures.advances) c.in_ok-cache.ensures.advances;
-      failures = c.in_ok-cache.ensures.failures ∙ c.in_ok-vifs.ensures.failures ∙ c.loop-router.invariant.failures;
+      failures = c.in_ok-cache.ensures.failures ∙ c.in_ok-vifs.ensures.failures
+          ∙ c.loop-router.invariant.failures;
       room = search rules;
       end = c.loop-router.invariant.end;
       settings = c.in_ok-cache.ensures.settings ∙ c.loop-router.invariant.settings;
@@ -173,7 +177,8 @@ loop-router-preserved g c =
             added ∙ with_router-of_listed_part t.flows c.loop-router.tables before own read_own.tables x.3
                 (record { vifs = v.4.2; cache = y.4.2.0 })
                 ∙ ap (kept_of_tables t.flows) (sym (map-tables_push x.1 read_own)),
-            subst (λ (o : Order). kept c.read_cache.new.self t.flows (x.1 ++ router_read v.4.0 y.4.0.0 o y.4.0.1 ∷ []))
+            subst (λ (o : Order). kept c.read_cache.new.self t.flows
+                (x.1 ++ router_read v.4.0 y.4.0.0 o y.4.0.1 ∷ []))
                 order (y.4.2.1 x.1 v.4.0 y.4.0.0 x.4),
             x.5 ∙ ap (λ (more : List RouterRow). read_stream (read_each_after read x.1 more) x.0)
                 (drop-slice_get rs k r.0 r.1)

@@ -16,7 +16,8 @@ returns-in_err-open_slot-clause-fault g c =
     let p = err_from_is_err_and c.from_residual.result c.from_residual.ensures.1 in
     let s = c.args.self.now in
     rw (p.1, p.2) (λ stream known loud. ap (read_stream first_part) (gives-names_Err s.parts s.certified
-    c.args.topology.now c.args.number c.in_err-open_slot.field-0.0 c.in_err-open_slot.ensures.fault stream known loud))
+    c.args.topology.now c.args.number c.in_err-open_slot.field-0.0 c.in_err-open_slot.ensures.fault
+    stream known loud))
 
 pub returns-in_err-feed_part-clause-fault : goal.returns-in_err-feed_part-clause-fault
 returns-in_err-feed_part-clause-fault g c =
@@ -31,7 +32,8 @@ returns-in_err-feed_part-clause-fault g c =
     let next = c.in_ok-open_slot.ensures.part text remaining in
     read_rest-framing_refused s.parts text (check_names_from n (drop n (slots s.certified t))) fault
     (from_bundle_fault fault) refl
-    (λ read memory. next.2 ∙ c.in_err-feed_part.ensures.fault next.0 next.1 read memory) real) stream known loud))
+    (λ read memory. next.2 ∙ c.in_err-feed_part.ensures.fault next.0 next.1 read memory) real)
+    stream known loud))
 
 pub returns-in_err-feed_part-clause-advances : goal.returns-in_err-feed_part-clause-advances
 returns-in_err-feed_part-clause-advances g c = (

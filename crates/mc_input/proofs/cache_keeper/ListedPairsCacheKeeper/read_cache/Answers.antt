@@ -9,7 +9,8 @@ use Rattle.mc_input.specs.Stream.{KeepsCacheText, KeepsOfFirst, cache_and_text, 
 use Rattle.mc_input.specs.declared.fault.InputFault.TheVariants.{Cache}
 use Rattle.mc_input.proofs.CacheLemmas.{cache_and_text-from_listed, cache_and_text-listed_Err, listed_part}
 use Rattle.mc_input.proofs.PartResultLemmas.{cache_if-listed_in, cache_start-same_pairs}
-use Rattle.mc_input.proofs.WalkLemmas.{IfErr-IsFaultOfStream_implied, KeepsOfFirst-implied, read_first-Err_implied}
+use Rattle.mc_input.proofs.WalkLemmas.{IfErr-IsFaultOfStream_implied, KeepsOfFirst-implied}
+use Rattle.mc_input.proofs.WalkLemmas.{read_first-Err_implied}
 use Rattle.mc_input.proofs.cache_keeper.ListedPairsCacheKeeper.read_cache.Goals as goal
 
 pub returns-clause-cache : goal.returns-clause-cache
@@ -22,7 +23,8 @@ returns-clause-cache g c =
     let gives = g.S.Slots.gives in
     let start = cache_start-same_pairs order c.args.self.now pairs c.new-reader.result
     (c.new-reader.ensures.start
-    ∙ ap (λ (ps : List (ℕ × ℕ)). cache_start order (Some ps)) c.in_ok-clone.ensures.cases) c.requires.listed in
+    ∙ ap (λ (ps : List (ℕ × ℕ)). cache_start order (Some ps)) c.in_ok-clone.ensures.cases)
+    c.requires.listed in
     if_ok_map (λ kept. KeepsOfFirst (gives c.args.slots.now t n) (gives c.read_slot.new.slots t (n + 1)) read
     (λ value. kept ≡ value))
     (λ kept. KeepsOfFirst (gives c.args.slots.now t n) (gives c.read_slot.new.slots t (n + 1))
@@ -30,7 +32,8 @@ returns-clause-cache g c =
     × KeepsCacheText (λ _. Unit {0}) (λ _. Unit {0}) order found.1))
     c.read_slot.result (c.read_slot.ensures.value read (λ part small. ap (map_fault (Cache part.name))
     (cache_if-listed_in order pairs c.new-reader.result start part.bytes small)))
-    (λ kept keeps. KeepsOfFirst-implied (gives c.args.slots.now t n) (gives c.read_slot.new.slots t (n + 1)) read
+    (λ kept keeps. KeepsOfFirst-implied (gives c.args.slots.now t n)
+    (gives c.read_slot.new.slots t (n + 1)) read
     (cache_and_text order) (λ value. kept ≡ value) _ (λ part value is same.
     let whole = cache_and_text-from_listed order pairs part value is in (
       (whole.0, part.bytes),
@@ -46,7 +49,8 @@ returns-clause-fault g c =
     let read = listed_part order pairs in
     let start = cache_start-same_pairs order c.args.self.now pairs c.new-reader.result
     (c.new-reader.ensures.start
-    ∙ ap (λ (ps : List (ℕ × ℕ)). cache_start order (Some ps)) c.in_ok-clone.ensures.cases) c.requires.listed in
+    ∙ ap (λ (ps : List (ℕ × ℕ)). cache_start order (Some ps)) c.in_ok-clone.ensures.cases)
+    c.requires.listed in
     IfErr-IsFaultOfStream_implied (read_first read) (read_first (cache_and_text order))
     (read_first-Err_implied read (cache_and_text order) (cache_and_text-listed_Err order pairs))
     (g.S.Slots.gives c.args.slots.now t c.args.number) c.read_slot.result

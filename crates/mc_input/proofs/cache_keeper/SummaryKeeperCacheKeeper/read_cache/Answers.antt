@@ -41,7 +41,8 @@ returns-clause-cache g c =
     let read = summary_of_part all order pairs in
     let own = c.in_ok-read.read in
     let before = c.args.self.now.summary.items in
-    KeepsOfFirst-implied (g.S.Slots.gives c.args.slots.now t n) (g.S.Slots.gives c.read_slot.new.slots t (n + 1)) read
+    KeepsOfFirst-implied (g.S.Slots.gives c.args.slots.now t n)
+    (g.S.Slots.gives c.read_slot.new.slots t (n + 1)) read
     (cache_and_text order) (λ value. own ≡ value) _ (λ part value is same.
     let whole = cache_and_text-from_summary order pairs all part own
     (subst (λ (v : SummarizedCache). read part ≡ Ok v) (sym same) is) in (

@@ -24,7 +24,8 @@ returns-clause-part g c =
     ReadsFirst-of_file c.args.topology.now c.args.number c.in-Some.slot at seen
     (g.F.FileSource.contents c.args.self.now.files) (g.F.FileSource.contents c.feed_header_or_file.new.files)
     (IsFedPart c.in_ok-name.name (g.P.PieceReader.result_after c.args.reader.now)
-    (g.P.PieceReader.result_after c.feed_header_or_file.new.reader)) c.in_ok-feed_header_or_file.ensures.kept (λ files is.
+    (g.P.PieceReader.result_after c.feed_header_or_file.new.reader))
+    c.in_ok-feed_header_or_file.ensures.kept (λ files is.
     let x = c.in_ok-feed_header_or_file.ensures.bytes files (seen files) is
     (c.header_of_slot-header.ensures.header files c.in-Some.slot at) in (
       record { name = part_name c.in-Some.slot; bytes = x.0 },

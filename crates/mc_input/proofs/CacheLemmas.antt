@@ -60,8 +60,12 @@ module _ (order : Order) (pairs : List (ℕ × ℕ)) where
         × (own.summary ≡ summary_of all pairs rows))
     cache_and_text-from_summary part own e =
         let found = Ok-from_refused_as (Cache part.name) (summary_in all order pairs part.bytes) own e in
-        let whole = cache_in-from_summary_in all order pairs part.bytes own found in
-        (whole.0, rw whole.1 refl, whole.2, cache_rows_in-from_summary_in all order pairs part.bytes own found)
+        let whole = cache_in-from_summary_in all order pairs part.bytes own found in (
+          whole.0,
+          rw whole.1 refl,
+          whole.2,
+          cache_rows_in-from_summary_in all order pairs part.bytes own found,
+        )
 
     pub cache_and_text-summary_Err : (part : PartText) (fault : InputFault)
         → summary_of_part all order pairs part ≡ Err fault → cache_and_text order part ≡ Err fault

@@ -417,8 +417,10 @@ refused_files_of-exact names files listed (given, are, is) missing =
             (map (judged_reports files) t.lans) (IsReadOnlyIfMissing-routers names files t.routers)
             (IsReadOnlyIfMissing-lans files t.lans)) missing_given
         honest_by (Err fault) is each =
-            same_files-from_missing files (judged_with_topology names files (Err fault)) given each
-            ((λ none. ap result_err (sym is) ∙ IsReadOnlyIfMissing-one files topology_slot topology_of none), tt)
+            same_files-from_missing files (judged_with_topology names files (Err fault)) given each (
+              (λ none. ap result_err (sym is) ∙ IsReadOnlyIfMissing-one files topology_slot topology_of none),
+              tt,
+            )
             missing_given
 
 module _ (names : List (List ℕ)) (files : List FileText) (contents : Option (List FileText))

@@ -1,4 +1,5 @@
-//! What is kept of the LANs' lists of reports beside which flows each LAN wants: nothing, or what hosts ask for.
+//! What is kept of the LANs' lists of reports beside which flows each LAN wants: nothing, or what hosts ask
+//! for.
 
 ghost use Rattle.std.specs.Prelude.{◌≡◌, ◌++◌, ◌∷◌, [], Bool, List, OnOk, false, length};
 ghost use Rattle.mc_igmp.specs.declared.record.Record.{Record};

@@ -18,8 +18,8 @@ use Rattle.mc_input.specs.declared.source_fault.SourceFault.{SourceFault}
 use Rattle.mc_input.specs.declared.source_fault.SourceFault.TheVariants.{Input}
 use Rattle.mc_input.proofs.FinishLemmas.{lan_slot-within_count, length-answers_push}
 use Rattle.mc_input.proofs.ReadingLemmas.{drop-slice_get}
-use Rattle.mc_input.proofs.WalkLemmas.{read_each-Err, read_each-end, read_each-more, read_each-start, read_lan-Err}
-use Rattle.mc_input.proofs.WalkLemmas.{read_lan-Ok, read_stream-Err_implied}
+use Rattle.mc_input.proofs.WalkLemmas.{read_each-Err, read_each-end, read_each-more, read_each-start}
+use Rattle.mc_input.proofs.WalkLemmas.{read_lan-Err, read_lan-Ok, read_stream-Err_implied}
 use Rattle.mc_input.proofs.walk.read_wants.Goals as goal
 
 abbrev read : List ℕ → NextParts → Result (List Record × NextParts) SourceFault
@@ -75,7 +75,8 @@ returns-in_err-reports-clause-fault g c =
     let lan = slice_get-exists t.lans k (omega (arith, c.loop-lan-test.true, c.loop-lan.invariant.end)) in
     let number : c.first_lan_slot_number-first.result + k ≡ first_lan_number t + k =
     omega (arith, c.first_lan_slot_number-first.ensures.value) in
-    let refused = subst (λ (n : ℕ). IsFaultOfStream (g.S.Slots.gives c.loop-lan.slots t n) (read_first reports_of) own)
+    let refused = subst (λ (n : ℕ). IsFaultOfStream (g.S.Slots.gives c.loop-lan.slots t n)
+    (read_first reports_of) own)
     number (c.in_err-reports.ensures.fault reports_of
     (λ part small. ap (map_fault (Reports part.name)) (c.new-reader.ensures.reads part.bytes))) in
     rw (p.1, p.2) (λ stream known loud.
@@ -137,9 +138,11 @@ loop-lan-preserved g c =
             subst (λ (ws : List (List Bool)). AreWantedBy t (x.1 ++ y.4.0 ∷ []) ws) (sym items)
                 (pairwise-more (AreWanted t.flows) x.1 c.loop-lan.wants.items y.4.0 own
                 x.3 (are_wanted-from_channels t.flows y.4.0 c.in_ok-channels.channels own are
-                (subst (λ (records : List Record). AreChannelsWanted c.in_ok-channels.channels records own) y.4.2
+                (subst (λ (records : List Record). AreChannelsWanted c.in_ok-channels.channels records
+                own) y.4.2
                 c.in_ok-own.ensures.wanted))),
-            subst (λ (records : List Record). g.L.ListKeeper.has_kept c.keep_list.new.self (x.1 ++ records ∷ [])) y.4.2
+            subst (λ (records : List Record). g.L.ListKeeper.has_kept c.keep_list.new.self
+                (x.1 ++ records ∷ [])) y.4.2
                 (c.in_ok-keep_list.ensures.kept x.1 x.5 x.4),
             length-append x.1 (y.4.0 ∷ []) ∙ ap (λ n. n + 1) x.5,
             x.6 ∙ ap (λ (more : List (List ℕ)). read_stream (read_each_after read x.1 more) x.0)

@@ -17,7 +17,8 @@ invariant-loop-lan g l = record {
   flows : (lan : ℕ) (wanted : List Bool) → slice_get l.wants.items lan ≡ Some wanted
       → length wanted ≡ length l.fn.topology.flows;
   some : (lists : List (List Record)) × (length lists ≡ l.lan) × g.L.ListKeeper.has_kept l.keeper lists;
-  taken : (stream : Stream) → g.S.Slots.gives l.fn.slots l.fn.topology (first_lan_number l.fn.topology) ≡ Some stream →
+  taken : (stream : Stream)
+      → g.S.Slots.gives l.fn.slots l.fn.topology (first_lan_number l.fn.topology) ≡ Some stream →
       (later : Stream) × (reports : List (List Record))
       × (g.S.Slots.gives l.slots l.fn.topology (first_lan_number l.fn.topology + l.lan) ≡ Some later)
       × AreWantedBy l.fn.topology reports l.wants.items

@@ -38,7 +38,10 @@ returns-clause-cache g c =
     let whole = cache_and_text-from_listed order pairs part value is in (
       (whole.0, part.bytes),
       whole.1,
-      (subst (λ (v : CacheValue). IsListedPart (Some pairs) v whole.0) (sym same) whole.2, λ reads vifs entries old. tt),
+      (
+        subst (λ (v : CacheValue). IsListedPart (Some pairs) v whole.0) (sym same) whole.2,
+        λ reads vifs entries old. tt,
+      ),
     )) keeps)
 
 pub returns-clause-fault : goal.returns-clause-fault

@@ -239,6 +239,7 @@ fn merges_after_a_refused_growth(rt: HostRuntime) -> Result<(), Fail> {
 
 // Reports of one record each, as above: INCLUDE A of group 5, and EXCLUDE A of group 7.
 const INCLUDE_A: &[u8] = b"2200e1f50000000101000001ef0102050a000001\n";
+
 const EXCLUDE_A: &[u8] = b"2200e0f30000000102000001ef0102070a000001\n";
 
 // Whether one report may ask for something else than the sources and groups with these last numbers.

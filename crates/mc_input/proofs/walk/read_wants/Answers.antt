@@ -97,7 +97,9 @@ pub loop-lan-preserved : goal.loop-lan-preserved
 loop-lan-preserved g c =
     let t = c.args.topology.now in
     let k = c.loop-lan.lan in
-    let own = c.in_ok-own.own.wanted.items in
+    let own = c.of-in-loop-lan.result in
+    let answers = subst (λ (ws : List Bool). AreChannelsWanted c.in_ok-channels.channels c.in_ok-reports.reports ws)
+    (sym c.of-in-loop-lan.ensures) c.in_ok-own.ensures.wanted in
     let items = c.in_ok-push.ensures.items in
     let are = c.in_ok-channels.ensures in
     let lan = slice_get-exists t.lans k (omega (arith, c.loop-lan-test.true, c.loop-lan.invariant.end)) in
@@ -120,7 +122,7 @@ loop-lan-preserved g c =
       settings = c.keep_list.ensures.settings ∙ c.loop-lan.invariant.settings;
       flows = rw items (length-answers_push (length t.flows) c.loop-lan.wants.items own
           c.loop-lan.invariant.flows
-          (c.in_ok-own.ensures.wanted.count ∙ length-flow_pairs t.flows c.in_ok-channels.channels are));
+          (answers.count ∙ length-flow_pairs t.flows c.in_ok-channels.channels are));
       some =
           let lists = c.loop-lan.invariant.some in (
             lists.0 ++ c.in_ok-reports.reports ∷ [],
@@ -140,7 +142,7 @@ loop-lan-preserved g c =
                 x.3 (are_wanted-from_channels t.flows y.4.0 c.in_ok-channels.channels own are
                 (subst (λ (records : List Record). AreChannelsWanted c.in_ok-channels.channels records
                 own) y.4.2
-                c.in_ok-own.ensures.wanted))),
+                answers))),
             subst (λ (records : List Record). g.L.ListKeeper.has_kept c.keep_list.new.self
                 (x.1 ++ records ∷ [])) y.4.2
                 (c.in_ok-keep_list.ensures.kept x.1 x.5 x.4),

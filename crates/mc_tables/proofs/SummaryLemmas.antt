@@ -133,7 +133,7 @@ lines_after_header-summary_from so_far (header ∷ lines) =
 
 -- ---- the summary of some rows
 
--- which elements pass a filter by listed keys, and which by keys that aren't listed
+-- the listed keys, the others, and the entries of listed keys
 abbrev ListedOf : List (ℕ × ℕ) → List (ℕ × ℕ) → List (ℕ × ℕ)
 ListedOf listed keys = filter (is_listed (Some listed)) keys
 
@@ -527,6 +527,7 @@ list_any-listed_of listed (k ∷ keys) key =
           ∙ is_listed-unlisted_key listed key k rest other
     ]
 
+-- the summary has a key as unresolved exactly if it is listed and an unresolved row has it
 pub summary_of-unresolved : (all : Bool) (listed : List (ℕ × ℕ)) (rows : List RowValue) (key : ℕ × ℕ)
     → set.contains (summary_of all listed rows).unresolved key
     ≡ (is_listed (Some listed) key && list_any (same_key key) (filter_map unresolved_key rows))
@@ -552,6 +553,7 @@ find-listed_entries listed (e ∷ es) key is =
           ∙ ap (λ b. cond b (Some e.1) (map.find key_cmp key es)) (sym differs)
     ]
 
+-- at a listed group the summary has the first entry for every source
 pub summary_of-every_source : (all : Bool) (listed : List (ℕ × ℕ)) (rows : List RowValue) (group : ℕ)
     → is_listed (Some (keys_for_every_source listed)) (0, group) ≡ true
     → map.get (summary_of all listed rows).for_every_source (0, group)

@@ -104,9 +104,9 @@ no_feed-ssm_text want =
     no_feed-cond (is_ignored_by_routers want) (codes "; SSM: routers ignore it") []
     (no_feed-from_list_all (codes "; SSM: routers ignore it") refl) tt
 
-ends_line-asked : (t : TopologyValue) (line : Want × List ℕ) (what : List ℕ) → IsValidTopology t
-    → HasNoByte 10 what → AreLines IsAskedLine (asked_line_text t line what)
-ends_line-asked t line what ok none =
+are_asked_lines-asked_line_text : (t : TopologyValue) (line : Want × List ℕ) (what : List ℕ)
+    → IsValidTopology t → HasNoByte 10 what → AreLines IsAskedLine (asked_line_text t line what)
+are_asked_lines-asked_line_text t line what ok none =
     are_asked_lines-line _
     (ends_line-append (address_text line.0.1) _ (no_feed-address_text line.0.1)
     (ends_line-append (codes " ") _ (no_feed-from_list_all (codes " ") refl)
@@ -123,7 +123,7 @@ pub are_asked_lines-asked_text : (t : TopologyValue) (are_excluded : Bool) (flow
     (states : List RouterState) (line : Want × List ℕ) → IsValidTopology t
     → AreLines IsAskedLine (asked_text t are_excluded flows states line)
 are_asked_lines-asked_text t are_excluded flows states line ok =
-    ends_line-asked t line _ ok
+    are_asked_lines-asked_line_text t line _ ok
     (no_feed-append (forwarding_text t are_excluded states) _
     (no_feed-forwarding_text t are_excluded states ok)
     (no_feed-append (listed_text (listed_sources flows line.0.0)) (ssm_text line.0)

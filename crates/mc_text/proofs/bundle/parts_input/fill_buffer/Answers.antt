@@ -15,7 +15,7 @@ filling-preserved g c =
     let new = c.read.new.buffer in
     let count = c.filling.count in
     let more = c.in-Ok.more in
-    let both = Consumes-trans _ _ _ (take count old) (take more new) c.filling.invariant.bytes
+    let consumed = Consumes-trans _ _ _ (take count old) (take more new) c.filling.invariant.bytes
     c.in-Ok.ensures.bytes.0 in
     record {
       same = c.read.ensures.same ∙ c.filling.invariant.same;
@@ -25,7 +25,7 @@ filling-preserved g c =
           (λ (l : List ℕ). Consumes (g.R.Input.remaining c.args.input.now)
           (g.R.Input.remaining c.read.new.self) l)
           (sym (take-filled_buffer old new _ count more c.filling.invariant.within
-          c.in-Ok.ensures.bound.0)) both;
+          c.in-Ok.ensures.bound.0)) consumed;
     }
 
 -- the input ended

@@ -172,8 +172,8 @@ impl UnadmittedSources {
         Ok(UnadmittedSources { keys, sources })
     }
 
-    /// Whether the list of the next LAN is needed, of whose wants these are kept. If not, this has what it is
-    /// to have with that LAN.
+    /// Whether the next LAN's list has to be read. If not, the sources already are what `add_list` would
+    /// make them.
     pub fn needs_list(&self, own: &LanWants) -> bool
         ensures value { result
             ≡ list_any (is_shared_any (map (λ s. s.want) self.now)) own.now.lowest }
@@ -235,8 +235,8 @@ impl UnadmittedSources {
         Ok(())
     }
 
-    /// Takes the list of the next LAN, of whose wants these are kept. The list is read twice, in time in
-    /// proportion to n log n.
+    /// Takes the list of the next LAN, with that LAN's wants. The list is read twice, in time in proportion
+    /// to n log n.
     ///
     /// # Errors
     ///

@@ -1,4 +1,4 @@
--- What strings of JSON stand for.
+-- What strings of JSON stand for. Only contracts inside this crate use these definitions.
 use Rattle.std.specs.Prelude.{◌≡◌, ◌<◌, ℕ, List, [], ◌∷◌, length}
 use Rattle.std.specs.Char.{digit_value}
 use Rattle.json.specs.Lex.{in_string, lex}
@@ -16,7 +16,8 @@ pub record IsHexDigit (byte digit : ℕ) : Type 0 where
   pub value : digit_value byte ≡ digit
   pub small : digit < 16
 
--- inside a string, the text begins with what denotes this byte, and these follow
+-- Inside a string, the text begins with what stands for this byte, and these follow: they stand for the
+-- rest, have the same lexemes, and are shorter.
 pub record DenotesByte (text : List ℕ) (byte : ℕ) (rest : List ℕ) : Type 0 where
   pub content : content plain text ≡ prepend (byte ∷ []) (content plain rest)
   pub lexemes : lex in_string text ≡ lex in_string rest

@@ -1,4 +1,5 @@
--- The tokens of JSON that a text still has, by where a reader stands in it.
+-- The tokens of JSON that a text still has, by where a reader stands in it. Only contracts inside this crate
+-- use these definitions.
 use Rattle.std.specs.Prelude.{◌≡◌, ℕ, List, ◌∷◌, Bool, true, false}
 use Rattle.json.specs.Token.{Token}
 use Rattle.json.specs.Lex.{between, lex, fresh, after_value, after_comma, punctuate}
@@ -23,5 +24,5 @@ may_close AfterValue = true
 may_close AfterComma = false
 
 -- the text begins with this byte, after white space, and these follow
-abbrev pub BeginsWith : ℕ → List ℕ → List ℕ → Type 0
+abbrev pub BeginsWith : (byte : ℕ) → (text rest : List ℕ) → Type 0
 BeginsWith byte text rest = lex between text ≡ lex between (byte ∷ rest)

@@ -83,6 +83,7 @@ fn verdict_on(
     ensures ok { IfOk result
         (IsCorrectVerdict (length domain.now.topology.lans) (net_of domain.now flow) entries.now) }
 {
+    // This brings in the domain's rules: one is that it has at most 1,024 LANs.
     let _rules = domain.topology();
     let reason = first_reason_of(alloc, domain, flow, entries)?;
     Ok(verdict_by(reason, entries))

@@ -39,6 +39,7 @@ record EndsLine (text : List ℕ) : Type 0 where
 ends_line-feed : EndsLine (codes "\n")
 ends_line-feed = record { line = []; feedless = tt; is = refl }
 
+-- a piece without a line feed in front
 ends_line-append : (xs rest : List ℕ) → HasNoByte 10 xs → EndsLine rest → EndsLine (xs ++ rest)
 ends_line-append xs rest none ends = record {
   line = xs ++ ends.line;
@@ -46,6 +47,7 @@ ends_line-append xs rest none ends = record {
   is = ap (λ (l : List ℕ). xs ++ l) ends.is ∙ sym (append_assoc xs ends.line (codes "\n"));
 }
 
+-- such a text after `asked ` is one line
 are_asked_lines-line : (rest : List ℕ) → EndsLine rest → AreLines IsAskedLine (codes "asked " ++ rest)
 are_asked_lines-line rest ends = record {
   lines = (codes "asked " ++ ends.line) ∷ [];
@@ -102,9 +104,9 @@ no_feed-ssm_text want =
     no_feed-cond (is_ignored_by_routers want) (codes "; SSM: routers ignore it") []
     (no_feed-from_list_all (codes "; SSM: routers ignore it") refl) tt
 
-ends_line-asked : (t : TopologyValue) (line : Want × List ℕ) (what : List ℕ) → IsValidTopology t
-    → HasNoByte 10 what → AreLines IsAskedLine (asked_line_text t line what)
-ends_line-asked t line what ok none =
+are_asked_lines-asked_line_text : (t : TopologyValue) (line : Want × List ℕ) (what : List ℕ)
+    → IsValidTopology t → HasNoByte 10 what → AreLines IsAskedLine (asked_line_text t line what)
+are_asked_lines-asked_line_text t line what ok none =
     are_asked_lines-line _
     (ends_line-append (address_text line.0.1) _ (no_feed-address_text line.0.1)
     (ends_line-append (codes " ") _ (no_feed-from_list_all (codes " ") refl)
@@ -121,7 +123,7 @@ pub are_asked_lines-asked_text : (t : TopologyValue) (are_excluded : Bool) (flow
     (states : List RouterState) (line : Want × List ℕ) → IsValidTopology t
     → AreLines IsAskedLine (asked_text t are_excluded flows states line)
 are_asked_lines-asked_text t are_excluded flows states line ok =
-    ends_line-asked t line _ ok
+    are_asked_lines-asked_line_text t line _ ok
     (no_feed-append (forwarding_text t are_excluded states) _
     (no_feed-forwarding_text t are_excluded states ok)
     (no_feed-append (listed_text (listed_sources flows line.0.0)) (ssm_text line.0)
@@ -129,6 +131,7 @@ are_asked_lines-asked_text t are_excluded flows states line ok =
 
 -- ---- the other lines
 
+-- the line that counts further wants
 pub are_asked_lines-asked_more : (more : ℕ) → AreLines IsAskedLine (asked_more_text more)
 are_asked_lines-asked_more more =
     elim (more == 0) as (λ b. AreLines IsAskedLine (cond b []
@@ -165,6 +168,7 @@ no_feed-some_services lines =
     (no_feed-append_front (codes " ") _ refl (no_feed-service_name line.0.0)))))
     (no_feed-more_text (length lines - 8))
 
+-- the line of services
 pub are_asked_lines-services : (lines : List (Want × List ℕ)) → AreLines IsAskedLine (services_text lines)
 are_asked_lines-services [] = are_lines-none IsAskedLine
 are_asked_lines-services (line ∷ lines) =

@@ -107,6 +107,7 @@ pub record KeepsToChannels (groups channels : List ℕ) (r : Record) : Type 0 wh
   pub sources : ListsAsChannels channels r r.sources
 
 -- if the tally says that no more is asked for, all records keep to the channels if those that are left do
-abbrev pub TellsMore : (groups channels : List ℕ) → List Record → Tally → (left : List Record) → Type 0
-TellsMore groups channels records tally left = tally.asks_more ≡ false →
+abbrev pub KeepToChannelsUnlessMore : (groups channels : List ℕ) → List Record → Tally
+    → (left : List Record) → Type 0
+KeepToChannelsUnlessMore groups channels records tally left = tally.asks_more ≡ false →
     All (KeepsToChannels groups channels) left → All (KeepsToChannels groups channels) records

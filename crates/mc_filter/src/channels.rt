@@ -7,7 +7,7 @@ ghost use Rattle.mc_text.specs.Pair.{pair_number};
 ghost use Rattle.mc_filter.specs.ChannelPlaces.{AreAnswersOfTally, IsChannelPlace, channel_at};
 ghost use Rattle.mc_filter.specs.ChannelPlaces.{IsWantedAnswer};
 ghost use Rattle.mc_filter.specs.ChannelWants.{AreAllAskedFor};
-ghost use Rattle.mc_filter.specs.Tallies.{IsTallyOf, TellsMore};
+ghost use Rattle.mc_filter.specs.Tallies.{IsTallyOf, KeepToChannelsUnlessMore};
 
 use crate::tally::Tally;
 use mc_igmp::ReportList;
@@ -80,7 +80,8 @@ fn tally_of(
     ensures groups { IfOk result (λ tally. length tally.excludes.items ≡ length groups.now) }
     ensures channels { IfOk result (λ tally. length tally.states.items ≡ length channels.now) }
     ensures each { IfOk result (λ tally. IsTallyOf groups.now channels.now reports.now tally []) }
-    ensures more { IfOk result (λ tally. TellsMore groups.now channels.now reports.now tally []) }
+    ensures more { IfOk result (λ tally.
+        KeepToChannelsUnlessMore groups.now channels.now reports.now tally []) }
 {
     let mut tally = Tally::none(alloc, groups.count(), channels.count())?;
     for group_record in reports.records() {

@@ -15,7 +15,7 @@ use Rattle.mc_input.specs.PartsReading.{read_input}
 use Rattle.mc_input.specs.declared.fault.InputFault.{InputFault}
 use Rattle.mc_input.specs.declared.fault.InputFault.TheVariants.{Bundle, Parts, Memory}
 
--- that memory ran out says nothing of a bundle
+-- the fault of which the definitions say nothing: memory ran out
 abbrev pub IsMemory : InputFault → Type 0
 IsMemory fault = fault ≡ Memory
 

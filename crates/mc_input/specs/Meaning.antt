@@ -6,7 +6,7 @@ use Rattle.mc_forward.specs.Domains.{DomainValue, IsDomain}
 use Rattle.mc_input.specs.FilesInput.{FilesDenoteInput}
 use Rattle.mc_input.specs.Input.{InputValue, DenotesInput}
 
--- It denotes an input, and the domain is assembled of that.
+-- It denotes an input, and the domain is assembled of that; `rules` is what holds of every domain.
 pub record Means {X : Type 0} (Denotes : X → InputValue → Type 0) (x : X) (d : DomainValue) : Type 0
   where
     pub input : InputValue

@@ -114,6 +114,7 @@ pub fn read_bundle_domain<R: Input>(
     let parts = Parts::new(input);
     let mut slots = BundleSlots { parts, certified };
     let read = read_parts(alloc, &mut slots);
+    // This ends the loan of the input, so that the contract can speak of what is left of it.
     let _input = slots.into_input();
     read
 }
@@ -144,9 +145,9 @@ pub struct FolderOptions {
 /// Each file may have up to 16,777,216 bytes, and is parsed before the next one is opened. Tables and
 /// report lists are read in pieces. Of a cache the rows of listed flows are kept, with a summary of
 /// all its rows: of the sources and groups that no flow has, the summary holds all or the lowest
-/// ones. So it is with the wants that no flow answers. Where there are any, the lists of their LANs and
-/// the caches are read once more: what the first reading leaves is too little to say who forwards them.
-/// The source's count of failures has to be below `u64::MAX`.
+/// ones. Of the wants that no flow answers, too, all are kept or the lowest. Where there are any, the lists
+/// of their LANs and the caches are read once more: what the first reading leaves is too little to say who
+/// forwards them. The source's count of failures has to be below `u64::MAX`.
 ///
 /// # Errors
 ///

@@ -1,4 +1,5 @@
--- The line of a flow, and of the tree of a right one, in JSON.
+-- The lines of `audit --json` of a flow, and of the tree of a right one (docs/FORMATS.md, the section "What
+-- `audit --json` writes"). Members are in ascending order of keys.
 use Rattle.std.specs.Prelude.{ℕ, ◌+◌, Bool, true, false, List, [], ◌∷◌, ◌++◌, map, Option, Some, None}
 use Rattle.std.specs.Prelude.{flat_map, if◌then◌else◌, nat_lt, codes}
 use Rattle.mc_text.specs.Addr.{dotted}
@@ -157,7 +158,8 @@ abbrev pub optional_finding_data : TopologyValue → Option Finding → Data
 optional_finding_data t None = null
 optional_finding_data t (Some finding) = finding_data t finding
 
--- the members that each flow has that has a finding, by the TTL of that and the LANs that want the flow
+-- the members that `certainty`, the finding's TTL, the flow, its wanting LANs and the causes give to a flow
+-- with a finding
 abbrev pub each_wrong_members : (number : ℕ) → Flow → Certainty → (found_ttl : ℕ) → (wanted why : List Data)
     → List (List ℕ × Data)
 each_wrong_members number f certainty found_ttl wanted why =
@@ -171,18 +173,25 @@ each_wrong_members number f certainty found_ttl wanted why =
     ∷ (codes "wanted", list_data wanted)
     ∷ (codes "why", list_data why) ∷ []
 
--- A flow with a finding: how certain that is, the finding and its TTL, what a packet with the flow's own TTL
--- meets, what is behind a stray, the LANs that want the flow, those of them that were also missed, the
--- travel's events if they are asked for, and the causes.
+-- a flow with a finding
 pub record WrongFlow : Type 0 where
+  -- how certain the finding is
   pub certainty : Certainty
+  -- the LANs that were also missed
   pub also : List Data
+  -- what a packet with the flow's own TTL meets
   pub at_flow_ttl : Data
+  -- what is behind a stray
   pub behind : Data
+  -- the travel's events, if they are asked for
   pub events : Option (List Data)
+  -- the finding
   pub finding : Data
+  -- the TTL of the packet that shows it
   pub found_ttl : ℕ
+  -- the LANs that want the flow
   pub wanted : List Data
+  -- the causes
   pub why : List Data
 
 abbrev pub events_member : Option (List Data) → List (List ℕ × Data)
@@ -219,7 +228,7 @@ wrong_flow_of d flow certainty found_ttl finding events also behind why events_a
   why = why;
 }
 
--- and its line
+-- the line of that flow
 abbrev pub wrong_line : DomainFacts → (flow : ℕ) → Flow → Certainty → (found_ttl : ℕ) → Finding → List Event
     → (also : List ℕ) → (behind : Data) → (why : List Data) → (events_asked : Bool) → List ℕ
 wrong_line d flow f certainty found_ttl finding events also behind why events_asked =

@@ -39,14 +39,16 @@ pub fn sentences_refer_to_their_facts()
         list_all has_well_formed_sentences (reach_lines sent_on took_none) ≡ true }
 {}
 
-/// A sentence that is a line of text after two spaces is the same in JSON, where it has no spaces before it.
+/// The text of a line with one sentence is two spaces and then what `joined_sentences` gives, which JSON has
+/// as the line's `text`.
 pub fn text_and_json_have_the_same_sentence()
     ensures { (c : FlowContext) (kind sentence : List ℕ) (facts : List (List ℕ × FactValue)) →
         line_text c (line kind (sentence ∷ []) facts)
         ≡ indented (joined_sentences c facts (sentence ∷ [])) }
 {}
 
-/// Two lines, word by word.
+/// The lines of the causes `SentOnto` and `StoppedAt`, word by word, as examples of how facts fill a
+/// sentence.
 pub fn facts_fill_their_sentence()
     ensures sender { (c : FlowContext) (lan router vif : ℕ) →
         cause_items line_text c (SentOnto lan router vif)

@@ -11,7 +11,8 @@ use Rattle.mc_maker.specs.declared.examined_flights.ExaminedFlights.TheVariants.
 use Rattle.mc_maker.specs.declared.examined_flights.ExaminedFlights.TheVariants.{FoundAtTtl255}
 use Rattle.mc_maker.specs.declared.examined_flights.ExaminedFlights.TheVariants.{FoundAtFlowTtl}
 
--- Without the flights, this is the result of examining the flow.
+-- Without the flights, this is the result of examining the flow. `greatest` is the travel at TTL 255, and
+-- `least` the one at the flow's TTL.
 abbrev pub without_flights : DomainValue → (flow : ℕ) → ExaminedFlights → Examined
 without_flights d flow (Certified entries) = examined.Certified entries
 without_flights d flow (FoundAtTtl255 ended) = examined.Found 255 ended.travel

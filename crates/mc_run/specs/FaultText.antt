@@ -85,7 +85,8 @@ topology_fault_text fault =
 abbrev pub too_large_text : List ℕ
 too_large_text = codes "larger than " ++ (decimal 16777216 ++ codes " bytes")
 
--- A file's first fault. Of a bundle's faults, a file can only have one: that it is too large for a part.
+-- A file's first fault. Of the last three kinds a file only has that of a bundle whose part is too large:
+-- `Parts` is a whole bundle's, and no file is refused because memory ran out.
 abbrev pub fault_text : InputFault → List ℕ
 fault_text (Topology fault) = topology_fault_text fault
 fault_text (Vif name fault) = table_fault_text fault

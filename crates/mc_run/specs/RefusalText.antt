@@ -129,7 +129,7 @@ pub record AppendsWithFailures (IsRight : (lost : ℕ) → (added : List ℕ) �
   pub failures : after ≡ saturating_failures lost before
 
 -- What becomes of the text: it is written whole, or a part of it if the output fails, or nothing if
--- memory runs out.
+-- memory runs out. No other fault is returned.
 abbrev pub IsTextWritten : (IsText : List ℕ → Type 0) → Result (Unit {0}) RunFault → Option (List ℕ)
     → Option (List ℕ) → Type 0
 IsTextWritten IsText (Ok done) old new = (text : List ℕ) × IsText text × Appends old new text

@@ -17,8 +17,12 @@ pub(crate) struct RunOutput {
     pub(crate) yes: bool,
 }
 
-/// Writes the text, and returns whether the answer is yes. A fault in place of the output is returned,
-/// and nothing is written.
+/// Writes the text, and returns whether the answer is yes.
+///
+/// # Errors
+///
+/// The fault that is in place of the output, before anything is written; `Write` if the output fails, or
+/// takes no byte of a nonempty text, after a part of the text was written, from its front.
 pub(crate) fn write_output<W: Output>(
     run_output: Result<RunOutput, RunFault>,
     output: &mut W,
@@ -28,6 +32,7 @@ pub(crate) fn write_output<W: Output>(
     ensures same { W.borrows output.new ≡ W.borrows output.old }
     ensures ended { IsOutputWritten run_output result (W.written output.old) (W.written output.new) }
     ensures unwritten { IfErr result (λ fault. fault ≢ RunFault.Write → output.new ≡ output.old) }
+    // `Read` is returned exactly where it is the fault in place of the output.
     ensures reads { (before : ℕ) → failures_after is_read run_output before
         ≡ failures_after is_read result before }
     ensures failures { W.failed output.new ≡ failures_after is_write result (W.failed output.old) }

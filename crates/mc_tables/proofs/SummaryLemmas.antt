@@ -133,15 +133,15 @@ lines_after_header-summary_from so_far (header ∷ lines) =
 
 -- ---- the summary of some rows
 
--- which elements pass a filter by listed keys, and which by keys that aren't listed
-abbrev ListedOf : List (ℕ × ℕ) → List (ℕ × ℕ) → List (ℕ × ℕ)
-ListedOf listed keys = filter (is_listed (Some listed)) keys
+-- the listed keys, the others, and the entries of listed keys
+abbrev listed_of : List (ℕ × ℕ) → List (ℕ × ℕ) → List (ℕ × ℕ)
+listed_of listed keys = filter (is_listed (Some listed)) keys
 
-abbrev UnlistedOf : List (ℕ × ℕ) → List (ℕ × ℕ) → List (ℕ × ℕ)
-UnlistedOf listed keys = filter (λ key. not (is_listed (Some listed) key)) keys
+abbrev unlisted_of : List (ℕ × ℕ) → List (ℕ × ℕ) → List (ℕ × ℕ)
+unlisted_of listed keys = filter (λ key. not (is_listed (Some listed) key)) keys
 
-abbrev ListedEntriesOf : List (ℕ × ℕ) → List ((ℕ × ℕ) × EntryValue) → List ((ℕ × ℕ) × EntryValue)
-ListedEntriesOf listed exacts = filter (λ exact. is_listed (Some listed) exact.0) exacts
+abbrev listed_entries_of : List (ℕ × ℕ) → List ((ℕ × ℕ) × EntryValue) → List ((ℕ × ℕ) × EntryValue)
+listed_entries_of listed exacts = filter (λ exact. is_listed (Some listed) exact.0) exacts
 
 -- the pairs that are kept, and whether they are all
 abbrev kept_pairs_of : Bool → List (ℕ × ℕ) → KeptPairs
@@ -153,12 +153,12 @@ record IsSummaryOfKeys (all : Bool) (listed unresolved : List (ℕ × ℕ)) (exa
     (keys : List (ℕ × ℕ)) (summary : SummarySoFar) : Type 0 where
   pub listed_is : summary.listed ≡ listed_set (Some listed)
   pub first_listed : summary.first.listed ≡ listed_set (Some (keys_for_every_source listed))
-  pub unresolved_is : summary.unresolved ≡ set.from_list (ListedOf listed unresolved)
+  pub unresolved_is : summary.unresolved ≡ set.from_list (listed_of listed unresolved)
   pub first_is : summary.first.table.entries
-      ≡ map.from_entries (ListedEntriesOf (keys_for_every_source listed) exacts)
-  pub unlisted_is : summary.unlisted ≡ length (UnlistedOf listed keys)
+      ≡ map.from_entries (listed_entries_of (keys_for_every_source listed) exacts)
+  pub unlisted_is : summary.unlisted ≡ length (unlisted_of listed keys)
   pub lowest_is : summary.lowest
-      ≡ kept_pairs_of all (shown_pairs all (in_order (map_list group_first (UnlistedOf listed keys))))
+      ≡ kept_pairs_of all (shown_pairs all (in_order (map_list group_first (unlisted_of listed keys))))
 
 -- entries, of which the last has a key that none before it has
 from_entries-push_new : (es : List ((ℕ × ℕ) × EntryValue)) (exact : (ℕ × ℕ) × EntryValue)
@@ -227,7 +227,7 @@ module _ (all : Bool) (listed unresolved : List (ℕ × ℕ)) (exacts : List ((�
           ap (λ b. cond b (set.insert summary.unresolved key) summary.unresolved)
           (set_has_key-listed key ∙ is)
           ∙ ap (λ s. set.insert s key) before.unresolved_is
-          ∙ sym (set.from_list_push key_cmp-total key_cmp-antisymmetric (ListedOf listed unresolved) key)
+          ∙ sym (set.from_list_push key_cmp-total key_cmp-antisymmetric (listed_of listed unresolved) key)
           ∙ ap (λ l. set.from_list l) (sym (filter-push_passing (is_listed (Some listed)) unresolved key is))
       | inr other ↦
           ap (λ b. cond b (set.insert summary.unresolved key) summary.unresolved)
@@ -249,7 +249,7 @@ module _ (all : Bool) (listed unresolved : List (ℕ × ℕ)) (exacts : List ((�
   is_summary-every_source_more (Some exact) =
       let groups = keys_for_every_source listed in
       let old = summary.first in
-      let first = ListedEntriesOf groups exacts in
+      let first = listed_entries_of groups exacts in
       let one = with_first_entry old exact.0 exact.1 in
       let there = is_some (map.get old.table.entries exact.0) in
       let known : set_has_key old.listed exact.0 ≡ is_listed (Some groups) exact.0 =
@@ -325,14 +325,14 @@ module _ (all : Bool) (listed unresolved : List (ℕ × ℕ)) (exacts : List ((�
               unresolved_is = before.unresolved_is;
               first_is = before.first_is;
               unlisted_is = ap (λ n. n + 1) before.unlisted_is
-                  ∙ sym (length_push (UnlistedOf listed keys) key)
+                  ∙ sym (length_push (unlisted_of listed keys) key)
                   ∙ ap length (sym (filter-push_passing passes keys key (ap not other)));
               lowest_is = ap (with_pair (group_first key)) before.lowest_is
                   ∙ ap (kept_pairs_of all)
-                  (sym (shown_pairs-push all (map_list group_first (UnlistedOf listed keys))
+                  (sym (shown_pairs-push all (map_list group_first (unlisted_of listed keys))
                   (group_first key)))
                   ∙ ap (λ l. kept_pairs_of all (shown_pairs all (in_order l)))
-                  (sym (map-append group_first (UnlistedOf listed keys) (key ∷ [])))
+                  (sym (map-append group_first (unlisted_of listed keys) (key ∷ [])))
                   ∙ ap (λ l. kept_pairs_of all (shown_pairs all (in_order (map_list group_first l))))
                   (sym (filter-push_passing passes keys key (ap not other)));
             })
@@ -511,36 +511,37 @@ is_listed-listed_key listed key k b is =
 
 -- a key is among the listed keys of some exactly if it is listed and among them
 list_any-listed_of : (listed keys : List (ℕ × ℕ)) (key : ℕ × ℕ)
-    → list_any (same_key key) (ListedOf listed keys)
+    → list_any (same_key key) (listed_of listed keys)
     ≡ (is_listed (Some listed) key && list_any (same_key key) keys)
 list_any-listed_of listed [] key = sym (and-false (is_listed (Some listed) key))
 list_any-listed_of listed (k ∷ keys) key =
     let rest = list_any (same_key key) keys in
     elim (cases_Bool (is_listed (Some listed) k)) [
       | inl is ↦
-          ap (λ b. list_any (same_key key) (cond b (k ∷ ListedOf listed keys) (ListedOf listed keys))) is
+          ap (λ b. list_any (same_key key) (cond b (k ∷ listed_of listed keys) (listed_of listed keys))) is
           ∙ ap (λ b. same_key key k || b) (list_any-listed_of listed keys key)
           ∙ is_listed-listed_key listed key k rest is
       | inr other ↦
-          ap (λ b. list_any (same_key key) (cond b (k ∷ ListedOf listed keys) (ListedOf listed keys))) other
+          ap (λ b. list_any (same_key key) (cond b (k ∷ listed_of listed keys) (listed_of listed keys))) other
           ∙ list_any-listed_of listed keys key
           ∙ is_listed-unlisted_key listed key k rest other
     ]
 
+-- the summary has a key as unresolved exactly if it is listed and an unresolved row has it
 pub summary_of-unresolved : (all : Bool) (listed : List (ℕ × ℕ)) (rows : List RowValue) (key : ℕ × ℕ)
     → set.contains (summary_of all listed rows).unresolved key
     ≡ (is_listed (Some listed) key && list_any (same_key key) (filter_map unresolved_key rows))
 summary_of-unresolved all listed rows key =
-    set.contains-from_list key_cmp-total (ListedOf listed (filter_map unresolved_key rows)) key
+    set.contains-from_list key_cmp-total (listed_of listed (filter_map unresolved_key rows)) key
     ∙ list_any-listed_of listed (filter_map unresolved_key rows) key
 
 -- a listed key is found among the listed ones as among all
 find-listed_entries : (listed : List (ℕ × ℕ)) (es : List ((ℕ × ℕ) × EntryValue)) (key : ℕ × ℕ)
     → is_listed (Some listed) key ≡ true
-    → map.find key_cmp key (ListedEntriesOf listed es) ≡ map.find key_cmp key es
+    → map.find key_cmp key (listed_entries_of listed es) ≡ map.find key_cmp key es
 find-listed_entries listed [] key is = refl
 find-listed_entries listed (e ∷ es) key is =
-    let rest = ListedEntriesOf listed es in
+    let rest = listed_entries_of listed es in
     elim (cases_Bool (is_listed (Some listed) e.0)) [
       | inl passes ↦
           ap (λ b. map.find key_cmp key (cond b (e ∷ rest) rest)) passes
@@ -552,11 +553,12 @@ find-listed_entries listed (e ∷ es) key is =
           ∙ ap (λ b. cond b (Some e.1) (map.find key_cmp key es)) (sym differs)
     ]
 
+-- at a listed group the summary has the first entry for every source
 pub summary_of-every_source : (all : Bool) (listed : List (ℕ × ℕ)) (rows : List RowValue) (group : ℕ)
     → is_listed (Some (keys_for_every_source listed)) (0, group) ≡ true
     → map.get (summary_of all listed rows).for_every_source (0, group)
     ≡ map.find key_cmp (0, group) (filter_map every_source_entry rows)
 summary_of-every_source all listed rows group is =
     let es = filter_map every_source_entry rows in
-    map.get-from_entries key_cmp-total (ListedEntriesOf (keys_for_every_source listed) es) (0, group)
+    map.get-from_entries key_cmp-total (listed_entries_of (keys_for_every_source listed) es) (0, group)
     ∙ find-listed_entries (keys_for_every_source listed) es (0, group) is

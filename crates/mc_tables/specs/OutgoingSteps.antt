@@ -1,4 +1,5 @@
--- Outgoing vifs that are kept in ascending order while their words are read.
+-- An outgoing word read at its first colon, and outgoing vifs kept in ascending order while words are read.
+-- Only contracts of private functions use these definitions; `oifs_in` of `CacheReading` says what is read.
 use Rattle.std.specs.Prelude.{ℕ, ◌==◌, nat_lt, Bool, not, List, [], ◌∷◌, insert, Result, Ok, Err}
 use Rattle.std.specs.Option.{ok_or}
 use Rattle.std.specs.List.{list_any, position_or_len}

@@ -49,12 +49,6 @@ module _ {A E : Type 0} where
   if_ok_map P Q (Ok x) there then = then x there
   if_ok_map P Q (Err e) there then = tt
 
-  -- two facts of the value of an `Ok` together
-  pub if_ok_both : (P Q : A → Type 0) (r : Result A E) → IfOk r P → IfOk r Q
-      → IfOk r (λ x. P x × Q x)
-  if_ok_both P Q (Ok x) p q = (p, q)
-  if_ok_both P Q (Err e) p q = tt
-
   -- the items that were read before those that are read
   abbrev pub with_front : List A → Result (List A) E → Result (List A) E
   with_front front read = read >>= λ rest. Ok (front ++ rest)

@@ -4,7 +4,7 @@ use Rattle.std.specs.List.{All}
 use Rattle.std.specs.List.Sorted.{IsStrictlyIncreasing}
 
 -- the slot of a number among `slots`, a power of two: its product with a large odd number modulo 2^64,
--- of which the upper 16 bits are taken modulo the number of slots
+-- of which the upper 16 bits, the quotient by 2^48, are taken modulo the number of slots
 abbrev pub slot_in : (slots number : ℕ) → ℕ
 slot_in slots number =
     bit_and (number * 11400714819323198485 % 18446744073709551616 / 281474976710656) (slots - 1)

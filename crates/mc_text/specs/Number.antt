@@ -13,7 +13,7 @@ IsDecimal word n = IsNumeral 10 word × (digits_value 10 word ≡ n)
 abbrev pub is_decimal : List ℕ → Bool
 is_decimal word = nat_le 1 (length word) && list_all is_ascii_digit word
 
--- the same without a leading zero, but for the number 0
+-- the same without a leading zero (48 is the byte "0"), but for the number 0
 abbrev pub is_plain_decimal : List ℕ → Bool
 is_plain_decimal word =
     is_decimal word && ((length word == 1) || not (slice_index word 0 == 48))

@@ -40,7 +40,8 @@ impl fmt::Display for Section {
     }
 }
 
-/// What is wrong with a topology.
+/// What is wrong with a topology. The number in front of each kind never changes. Where a kind has a place
+/// of its own, brackets name it, as in (`top`, 0): the section and the number of the fault.
 #[derive(Clone, Copy, Debug, PartialEq, Eq)]
 pub enum TopologyFaultKind {
     /// (1) The text is no UTF-8 or no TOML (`top`, 0).

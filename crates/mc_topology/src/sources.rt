@@ -76,6 +76,10 @@ impl Sources {
     }
 
     /// Adds a source, whose address no other has.
+    ///
+    /// # Errors
+    ///
+    /// `Memory`, at `top` 0, if an allocation is refused.
     pub(crate) fn push(&mut self, source: Source) -> Result<(), TopologyFault>
         requires absent { has_source source.address self.old ≡ false }
         ensures added { OnOk result (self.new ≡ self.old ++ source ∷ []) }

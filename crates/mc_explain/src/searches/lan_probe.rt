@@ -147,6 +147,7 @@ impl<'s> LanProbe<'s> {
     {
         match self.view.row(router) {
             RowFor::Exact(entry) => match self.view.placed(router, entry.iif) {
+                // Its line comes from `add_expected_lines`.
                 Some(from) if from == lan => {}
                 Some(from) => self.add_vif_lines(lines, lan, router, from, &entry, own)?,
                 None => lines.push(SearchLine::FromUnplaced { lan, router })?,
@@ -207,7 +208,7 @@ impl<'s> LanProbe<'s> {
         Ok(())
     }
 
-    /// Adds such lines for all interfaces of a router on the LAN.
+    /// Adds a line for each of a router's interfaces on the LAN that is no multicast vif.
     fn add_device_lines(
         &self,
         lines: &mut Vec<SearchLine>,

@@ -39,7 +39,7 @@ fn outcome_matches(outcome: Outcome, sent: bool) -> bool
     }
 }
 
-/// Marks the routers that have such an event.
+/// Marks the routers with an event that sent the copy on, or with one that took none.
 fn mark_routers(marks: &mut [bool], events: &[Event], sent: bool)
     ensures count { length marks.new ≡ length marks.old }
     ensures marks { (router : ℕ) → router < length marks.old →
@@ -123,6 +123,7 @@ fn routers_of_lans(
         routers.items ≡ routers_of_lans (search_in lan_probe.now) lans.now) }
     ensures bounded { IfOk result (λ routers. All (λ router. router < 256) routers.items) }
 {
+    // This brings in the domain's rules: it has at most `MAX_ROUTERS` routers.
     let _rules = lan_probe.view.topology();
     let mut listed = [false; MAX_ROUTERS];
     let mut routers = Vec::new(alloc);

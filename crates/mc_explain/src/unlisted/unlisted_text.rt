@@ -43,18 +43,18 @@ impl fmt::Display for ShownByteOrderQuestion {
 /// The line that counts further rows, or nothing if there are none.
 #[derive(Clone, Copy, Drop)]
 struct ShownFurther {
-    more: u128,
+    further: u128,
 }
 
 impl fmt::Display for ShownFurther {
-    ghost output = { λ shown. Some (further_text shown.more) };
+    ghost output = { λ shown. Some (further_text shown.further) };
 
     fn fmt<W: fmt::Write>(&self, f: &mut fmt::Formatter<W>) -> fmt::Result {
-        let more = self.more;
-        if more == 0 {
+        let further = self.further;
+        if further == 0 {
             Ok(())
         } else {
-            writeln!(f, "unlisted and {more} further rows")
+            writeln!(f, "unlisted and {further} further rows")
         }
     }
 }
@@ -111,7 +111,7 @@ pub fn push_unlisted(
     let unlisted = UnlistedPairs::new(alloc, topology, summary, all)?;
     push_pairs(text, topology, &unlisted.shown)?;
     let further = ShownFurther {
-        more: unlisted.further,
+        further: unlisted.further,
     };
     write!(text, "{further}")?;
     Ok(())

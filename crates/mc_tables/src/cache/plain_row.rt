@@ -185,7 +185,8 @@ fn oif_at_front(line: &[u8]) -> Option<(Oif, &[u8])>
     Some((Oif { vif, threshold }, rest))
 }
 
-/// Reads the outgoing vifs that a line consists of, if they ascend, and returns whether it did.
+/// Reads the outgoing vifs that a line consists of, if they ascend, and returns whether it did. After false
+/// `oifs` may hold a part of them.
 #[tactic(auto, using(crate::proofs::PlainRowLemmas::greater_oif_is_appended, crate::proofs::OifLemmas::oifs_in_by_steps))]
 pub fn read_ascending_oifs(line: &[u8], oifs: &mut Vec<Oif>) -> Result<bool, AllocError>
     requires empty { oifs.old.items ≡ [] }

@@ -95,7 +95,9 @@ impl Model for FaultyOutput {
 }
 
 impl FaultyOutput {
-    /// An output that takes at most `piece` bytes at a time, and stops after `before_stop` in all.
+    /// An output that takes at most `piece` bytes at a time, and stops after `before_stop` in all. With a
+    /// `piece` of 0 it stops at once. A call whose allocation is refused takes nothing and returns an error,
+    /// whatever `stop` is.
     pub fn new(alloc: Global, piece: usize, before_stop: usize, stop: Stop) -> FaultyOutput
         ensures { result ≡ record { written = Some []; failed = 0 } }
     {

@@ -1,5 +1,5 @@
 use Rattle.std.proofs.Common.{◌≡◌, length}
-use Rattle.mc_filter.specs.Tallies.{AreTallied, TellsMore}
+use Rattle.mc_filter.specs.Tallies.{AreTallied, KeepToChannelsUnlessMore}
 use Rattle.mc_filter.proofs.channels.tally_of.Given as goal
 
 abbrev pub invariant-loop-group_record : goal.invariant-loop-group_record
@@ -8,5 +8,5 @@ invariant-loop-group_record l = record {
   channels : length l.tally.states.items ≡ length l.fn.channels;
   each : AreTallied l.fn.groups l.fn.channels l.fn.reports l.tally.excludes.items
       l.tally.states.items l.group_record-iterator;
-  more : TellsMore l.fn.groups l.fn.channels l.fn.reports l.tally l.group_record-iterator;
+  more : KeepToChannelsUnlessMore l.fn.groups l.fn.channels l.fn.reports l.tally l.group_record-iterator;
 }

@@ -22,6 +22,6 @@ mod wrong_line;
 pub use asked_lines::{push_asked_line, push_asked_more_line, push_asked_services_line};
 pub use domain_line::push_domain_line;
 pub use end_lines::{push_summary_line, push_unlisted_lines, push_verdict_line, push_without_line};
-pub use right_line::{push_right_line, push_tree_line};
+pub use right_line::{RightFlow, push_right_line, push_tree_line};
 pub use tree_keys::tree_key;
-pub use wrong_line::push_wrong_line;
+pub use wrong_line::{FoundTravel, push_wrong_line};

@@ -124,30 +124,40 @@ fn right_mark_value(whole: bool) -> Value
     }
 }
 
-/// A flow without a fault, and the LANs that want it.
+/// A flow without a fault.
+#[derive(Clone, Copy, Drop)]
+pub struct RightFlow<'a> {
+    /// The flow's number, counted from 0.
+    pub flow: u32,
+    /// How many LANs carry a copy of its packet.
+    pub copies: usize,
+    /// The number of its tree.
+    pub tree: u32,
+    /// The LANs that want it.
+    pub wanted: &'a [LanNo],
+}
+
+/// A flow without a fault, with the names of the LANs that want it.
 fn right_value(
     alloc: Global,
     whole: bool,
-    number: u32,
+    right: &RightFlow<'_>,
     flow: &Flow,
-    copies: usize,
-    tree: u32,
     wanted: Vec<Value>,
 ) -> Result<Value, AllocError>
-    ensures { IfOk result (λ value. data_of value
-        ≡ right_data whole number flow.now copies tree (map data_of wanted.items)) }
+    ensures { IfOk result (λ value. data_of value ≡ right_data whole right.now.flow flow.now
+        right.now.copies right.now.tree (map data_of wanted.items)) }
 {
-    flow_fields(alloc, number, flow)
-        .count("copies", copies as u64)
+    flow_fields(alloc, right.flow, flow)
+        .count("copies", right.copies as u64)
         .value("right", Ok(right_mark_value(whole)))
-        .count("tree", tree as u64)
+        .count("tree", right.tree as u64)
         .list("wanted", Ok(wanted))
         .object()
 }
 
 /// Writes the line of a flow without a fault: that it is right, if the `whole` domain is known, how many
-/// LANs carry a copy of its packet, the number of its tree, and the LANs that want it. `flow` counts
-/// from 0.
+/// LANs carry a copy of its packet, the number of its tree, and the LANs that want it.
 ///
 /// # Errors
 ///
@@ -157,19 +167,16 @@ pub fn push_right_line(
     text: &mut String,
     topology: &Topology,
     whole: bool,
-    flow: u32,
-    copies: usize,
-    tree: u32,
-    wanted: &[LanNo],
+    right: &RightFlow<'_>,
 ) -> Result<(), Memory>
-    requires flow { flow < length topology.now.flows }
+    requires flow { right.now.flow < length topology.now.flows }
     ensures line { OnOk result (string_bytes text.new ≡ string_bytes text.old
-        ++ line_of (right_data whole flow (flow_at topology.now flow) copies tree
-        (map (lan_data topology.now) wanted.now))) }
+        ++ line_of (right_data whole right.now.flow (flow_at topology.now right.now.flow) right.now.copies
+        right.now.tree (map (lan_data topology.now) right.now.wanted.now))) }
 {
-    let wanted = lan_names(alloc, topology, wanted)?;
-    let listed = topology.flow(flow);
-    let value = right_value(alloc, whole, flow, listed, copies, tree, wanted)?;
+    let wanted = lan_names(alloc, topology, right.wanted)?;
+    let listed = topology.flow(right.flow);
+    let value = right_value(alloc, whole, right, listed, wanted)?;
     push_line(alloc, text, &value)?;
     Ok(())
 }

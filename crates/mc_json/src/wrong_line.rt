@@ -27,9 +27,22 @@ use mc_lines::{LineContext, add_causes, add_search};
 use mc_replay::Travel;
 use mc_tables::CacheSummary;
 use mc_text::Memory;
-use mc_topology::{Flow, LanNo};
+use mc_topology::Flow;
 use serde_json::Value;
 use std::alloc::{AllocError, Global};
+
+/// The travel that shows what a flow's packet meets.
+#[derive(Clone, Copy, Drop)]
+pub struct FoundTravel<'a> {
+    /// The flow's number, counted from 0.
+    pub flow: u32,
+    /// The travel.
+    pub travel: &'a Travel,
+    /// The TTL with which it began.
+    pub found_ttl: u8,
+    /// That its events are asked for.
+    pub events_asked: bool,
+}
 
 /// Adds that a flow isn't right, if that is known, or else null.
 fn with_wrong_mark(fields: Fields, known: bool) -> Fields
@@ -58,17 +71,16 @@ pub(crate) fn with_shown_from(fields: Fields, shown_from: Option<u8>) -> Fields
 /// shows it, the LANs that want the flow, and the causes.
 fn wrong_fields(
     alloc: Global,
-    number: u32,
+    found: &FoundTravel<'_>,
     flow: &Flow,
     certainty: &Certainty,
-    found_ttl: u8,
     wanted: Vec<Value>,
     why: Vec<Value>,
 ) -> Fields
-    ensures { HasMembers result (members (each_wrong_members number flow.now certainty.now found_ttl
-        (map data_of wanted.items) (map data_of why.items))) }
+    ensures { HasMembers result (members (each_wrong_members found.now.flow flow.now certainty.now
+        found.now.found_ttl (map data_of wanted.items) (map data_of why.items))) }
 {
-    let fields = flow_fields(alloc, number, flow).count("found_ttl", found_ttl as u64);
+    let fields = flow_fields(alloc, found.flow, flow).count("found_ttl", found.found_ttl as u64);
     let fields = with_wrong_mark(fields, certainty.known);
     with_shown_from(fields, certainty.shown_by.from)
         .list("wanted", Ok(wanted))
@@ -88,37 +100,32 @@ fn wanted_values(alloc: Global, view: &FlowView<'_>) -> Result<Vec<Value>, Alloc
 fn wrong_value(
     alloc: Global,
     view: &FlowView<'_>,
-    number: u32,
-    travel: &Travel,
-    certainty: &Certainty,
-    found_ttl: u8,
-    also: &[LanNo],
-    events_asked: bool,
+    found: &FoundTravel<'_>,
+    explanation: &Explanation<'_>,
     behind: Value,
     why: Vec<Value>,
 ) -> Result<Value, AllocError>
-    requires number { number ≡ view.now.flow }
+    requires number { found.now.flow ≡ view.now.flow }
     ensures value { IfOk result (λ value. data_of value
-        ≡ wrong_data number (flow_at view.now.domain.topology number) (wrong_flow_of (facts view.now.domain)
-        number certainty.now found_ttl travel.now.finding travel.now.events.items also.now (data_of behind)
-        (map data_of why.items) events_asked)) }
+        ≡ wrong_data found.now.flow (flow_at view.now.domain.topology found.now.flow)
+        (wrong_flow_of (facts view.now.domain) found.now.flow explanation.now.certainty
+        found.now.found_ttl found.now.travel.now.finding found.now.travel.now.events.items
+        explanation.now.also.now (data_of behind) (map data_of why.items) found.now.events_asked)) }
 {
     let topology = view.topology();
+    let FoundTravel {
+        travel,
+        events_asked,
+        ..
+    } = *found;
+    let certainty = &explanation.certainty;
     let wanted = wanted_values(alloc, view)?;
     let at_flow_ttl = optional_finding_value(alloc, topology, certainty.shown_by.at_flow_ttl);
-    let fields = wrong_fields(
-        alloc,
-        number,
-        &view.flow(),
-        certainty,
-        found_ttl,
-        wanted,
-        why,
-    )
-    .list("also", lan_names(alloc, topology, also))
-    .value("at_ttl", at_flow_ttl)
-    .value("behind", Ok(behind))
-    .value("finding", finding_value(alloc, topology, travel.finding));
+    let fields = wrong_fields(alloc, found, &view.flow(), certainty, wanted, why)
+        .list("also", lan_names(alloc, topology, explanation.also))
+        .value("at_ttl", at_flow_ttl)
+        .value("behind", Ok(behind))
+        .value("finding", finding_value(alloc, topology, travel.finding));
     if !events_asked {
         return fields.object();
     }
@@ -145,8 +152,7 @@ fn why_values(
 
 /// Writes the line of a flow with a finding: the travel that shows it, the TTL with which that began,
 /// the LANs that want the flow, and what explains the finding. The travel's events are written if they are
-/// asked for. `flow` counts from 0, and `summary` has the summary of each router's cache, in the topology's
-/// order.
+/// asked for. `summary` has the summary of each router's cache, in the topology's order.
 ///
 /// # Errors
 ///
@@ -156,35 +162,22 @@ pub fn push_wrong_line(
     text: &mut String,
     domain: &Domain,
     summary: &[CacheSummary],
-    flow: u32,
-    travel: &Travel,
-    found_ttl: u8,
-    events_asked: bool,
+    found: &FoundTravel<'_>,
     explanation: &Explanation<'_>,
 ) -> Result<(), Memory>
-    requires flow { flow < length domain.now.topology.flows }
+    requires flow { found.now.flow < length domain.now.topology.flows }
     ensures line { OnOk result (string_bytes text.new ≡ string_bytes text.old
-        ++ explained_line domain.now summary.now flow travel.now found_ttl explanation.now events_asked) }
+        ++ explained_line domain.now summary.now found.now.flow found.now.travel.now found.now.found_ttl
+        explanation.now found.now.events_asked) }
 {
-    let view = FlowView::new(domain, flow);
+    let view = FlowView::new(domain, found.flow);
     let context = LineContext {
         view: &view,
         summary,
     };
     let behind = behind_value(alloc, &context, explanation.behind)?;
     let why = why_values(alloc, &context, explanation)?;
-    let value = wrong_value(
-        alloc,
-        &view,
-        flow,
-        travel,
-        &explanation.certainty,
-        found_ttl,
-        explanation.also,
-        events_asked,
-        behind,
-        why,
-    )?;
+    let value = wrong_value(alloc, &view, found, explanation, behind, why)?;
     push_line(alloc, text, &value)?;
     Ok(())
 }

@@ -24,7 +24,7 @@ use mc_cert::{DistinctTrees, Reached};
 use mc_check::{Verdict, check_flow};
 use mc_explain::{lans_wanting, push_wanted};
 use mc_forward::FlowView;
-use mc_json::{push_right_line, push_tree_line, tree_key};
+use mc_json::{RightFlow, push_right_line, push_tree_line, tree_key};
 use mc_text::Memory as NoMemory;
 use mc_topology::{Flow, LanNo, Topology};
 use std::alloc::Global;
@@ -117,8 +117,14 @@ fn push_right_objects(
     let view = FlowView::new(audited.domain, flow);
     let whole = audited.without.is_empty();
     let copies = entries.len();
-    let number = push_tree_once(alloc, text, &view, shown_trees, entries)?;
-    push_right_line(alloc, text, topology, whole, flow, copies, number, wanted)
+    let tree = push_tree_once(alloc, text, &view, shown_trees, entries)?;
+    let right = RightFlow {
+        flow,
+        copies,
+        tree,
+        wanted,
+    };
+    push_right_line(alloc, text, topology, whole, &right)
 }
 
 // ---- both

@@ -20,7 +20,7 @@ use mc_explain::{
     push_leaks_behind,
 };
 use mc_forward::FlowView;
-use mc_json::push_wrong_line;
+use mc_json::{FoundTravel, push_wrong_line};
 use mc_lines::{push_causes, push_deeper_causes, push_search};
 use mc_replay::{Finding, FinishedTravel, Travel};
 use mc_text::Memory as NoMemory;
@@ -259,17 +259,13 @@ fn push_wrong_object(
         options,
         ..
     } = *audited;
-    push_wrong_line(
-        alloc,
-        text,
-        domain,
-        summary,
+    let found = FoundTravel {
         flow,
         travel,
-        ttl,
-        options.travels,
-        explanation,
-    )
+        found_ttl: ttl,
+        events_asked: options.travels,
+    };
+    push_wrong_line(alloc, text, domain, summary, &found, explanation)
 }
 
 // ---- both

@@ -8,8 +8,8 @@ pub push_line-requires : goal.push_line-requires
 push_line-requires c = record {
   no_float = (
       let plain = subst HaveNoFloat (sym c.in_ok-wanted.ensures)
-      (no_float-lans c.args.topology.now c.args.wanted.now) in
+      (no_float-lans c.args.topology.now c.args.right.now.wanted.now) in
       ap has_float c.in_ok-value.ensures
-      ∙ no_float-right_data c.args.whole c.args.flow c.flow-listed.result.now c.args.copies c.args.tree
-      (map data_of c.in_ok-wanted.wanted.items) plain);
+      ∙ no_float-right_data c.args.whole c.args.right.now.flow c.flow-listed.result.now
+      c.args.right.now.copies c.args.right.now.tree (map data_of c.in_ok-wanted.wanted.items) plain);
 }

@@ -59,12 +59,13 @@ push_line-requires c = record {
   no_float = (
       let view = c.new-view.result in
       let d = view.domain in
-      let travel = c.args.travel.now in
+      let found = c.args.found.now in
+      let travel = found.travel.now in
       ap has_float c.in_ok-value.ensures.value
-      ∙ no_float-wrong_flow_of (facts d) c.args.flow (flow_at d.topology c.args.flow)
-      c.args.explanation.now.certainty c.args.found_ttl
+      ∙ no_float-wrong_flow_of (facts d) found.flow (flow_at d.topology found.flow)
+      c.args.explanation.now.certainty found.found_ttl
       travel.finding travel.events.items c.args.explanation.now.also.now
-      (data_of c.in_ok-behind.behind) (map data_of c.in_ok-why.why.items) c.args.events_asked
+      (data_of c.in_ok-behind.behind) (map data_of c.in_ok-why.why.items) found.events_asked
       (ap has_float c.in_ok-behind.ensures ∙ no_float-behind_data (facts d) c.args.summary.now view.flow
       c.args.explanation.now.behind.now)
       (subst HaveNoFloat (sym c.in_ok-why.ensures) (no_float-why_data (facts d)
@@ -73,10 +74,12 @@ push_line-requires c = record {
 
 pub returns : goal.returns
 returns c = record {
-  line = wrong_line-of_view c.args.domain.now c.args.summary.now c.args.flow c.args.found_ttl
-      c.new-view.result c.args.travel.now c.args.explanation.now.certainty c.args.explanation.now.also.now
+  line = (
+      let found = c.args.found.now in
+      wrong_line-of_view c.args.domain.now c.args.summary.now found.flow found.found_ttl
+      c.new-view.result found.travel.now c.args.explanation.now.certainty c.args.explanation.now.also.now
       c.args.explanation.now.causes.now c.args.explanation.now.search.now
       c.args.explanation.now.behind.now _ _
-      c.args.events_asked _ _ _ c.new-view.ensures.flow c.in_ok-behind.ensures c.in_ok-why.ensures
-      c.in_ok-value.ensures.value c.in_ok-push_line.ensures.added;
+      found.events_asked _ _ _ c.new-view.ensures.flow c.in_ok-behind.ensures c.in_ok-why.ensures
+      c.in_ok-value.ensures.value c.in_ok-push_line.ensures.added);
 }

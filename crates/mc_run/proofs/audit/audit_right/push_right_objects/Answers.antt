@@ -8,14 +8,14 @@ pub returns-clause-shown_trees : goal.returns-clause-shown_trees
 returns-clause-shown_trees c =
     shown_trees-pushed c.args.audited.now.domain.now c.args.flow c.new-view.result c.args.entries.now
     c.args.shown_trees.now c.push_tree_once.new.shown_trees c.push_right_line.result
-    c.new-view.ensures.flow c.in_ok-number.ensures.shown_trees
+    c.new-view.ensures.flow c.in_ok-tree.ensures.shown_trees
 
 pub returns-clause-lines : goal.returns-clause-lines
 returns-clause-lines c =
     let a = c.args.audited.now in
     right_objects-pushed a.domain.now (is_whole (audited_value a)) c.is_empty-whole.result c.args.flow _
-    c.in_ok-number.number c.new-view.result c.topology-topology.result.now c.args.entries.now
+    c.in_ok-tree.tree c.new-view.result c.topology-topology.result.now c.args.entries.now
     c.args.wanted.now c.args.shown_trees.now c.push_tree_once.new.shown_trees c.push_right_line.result _ _ _
     c.new-view.ensures.flow c.topology-topology.ensures.topology
-    (c.is_empty-whole.ensures ∙ is_whole-no_names a) refl c.in_ok-number.ensures.shown_trees
-    c.in_ok-number.ensures.number c.in_ok-number.ensures.line c.push_right_line.ensures.line
+    (c.is_empty-whole.ensures ∙ is_whole-no_names a) refl c.in_ok-tree.ensures.shown_trees
+    c.in_ok-tree.ensures.number c.in_ok-tree.ensures.line c.push_right_line.ensures.line

@@ -119,14 +119,16 @@ impl Tally {
         let makes_channels = is_include(group_record.kind);
         for source in group_record.sources.iter() {
             let number = pair_number(source, group_record.group);
-            let place = channels.place_of(number);
-            self.asks_more = asks_more_by(self.asks_more, place.is_some(), makes_channels);
-            if let Some(place) = place {
-                self.states[place] = self.states[place].after_listing(
-                    group_record.kind,
-                    before,
-                    after,
-                );
+            match channels.place_of(number) {
+                Some(place) => {
+                    self.states[place] = self.states[place].after_listing(
+                        group_record.kind,
+                        before,
+                        after,
+                    );
+                    self.asks_more = asks_more_by(self.asks_more, true, makes_channels);
+                }
+                None => self.asks_more = asks_more_by(self.asks_more, false, makes_channels),
             }
         }
     }

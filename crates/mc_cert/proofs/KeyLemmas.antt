@@ -1,45 +1,65 @@
--- Texts that begin with the name of a key.
-use Rattle.std.proofs.Common.{◌≡◌, ℕ, List, [], ◌∷◌, ◌++◌, ap, ◌∙◌}
-use Rattle.std.proofs.Common.{Some, true, refl}
-use Rattle.std.specs.List.{list_all}
-use Rattle.std.proofs.lemmas.Bool.{and_parts}
-use Rattle.json.specs.Lex.{between, in_string, lex}
-use Rattle.json.specs.Run.{is_plain}
-use Rattle.json.specs.Text.{content, plain, prepend}
-use Rattle.mc_cert.specs.Keys.{key_name}
-use Rattle.mc_cert.specs.declared.key.Key.{Key}
-use Rattle.mc_cert.specs.declared.key.Key.TheVariants.{Flows, Group, Lan, Need, Rank, Reached, Router, Source}
-use Rattle.mc_cert.specs.declared.key.Key.TheVariants.{Tree, Trees, Version, Vif}
-use Rattle.mc_cert.proofs.JsonStringLemmas.{content-plain_byte, lex-plain}
+-- A name of known length, by its bytes.
+use Rattle.std.proofs.Common.{◌≡◌, ◌<◌, ◌+◌, ℕ, List, [], ◌∷◌, length, drop, get_or, ◌∙◌, arith}
+use Rattle.std.proofs.lemmas.List.{drop_more, drop_all}
 
-plain_string : (bytes rest : List ℕ) → list_all is_plain bytes ≡ true
-    → (content plain (bytes ++ 34 ∷ rest) ≡ Some bytes) × (lex in_string (bytes ++ 34 ∷ rest) ≡ lex between rest)
-unfolding content lex
-plain_string [] rest all = (refl, refl)
-plain_string (byte ∷ bytes) rest all =
-    let parts = and_parts (is_plain byte) (list_all is_plain bytes) all in
-    let others = plain_string bytes rest parts.1 in (
-      content-plain_byte byte (bytes ++ 34 ∷ rest) parts.0 ∙ ap (prepend (byte ∷ [])) others.0,
-      lex-plain byte (bytes ++ 34 ∷ rest) parts.0 ∙ others.1,
-    )
+-- the bytes from this one on, where those after it are known
+byte_before : {x : ℕ} (s rest : List ℕ) (i : ℕ) → i < length s → get_or s i 0 ≡ x → drop (i + 1) s ≡ rest
+    → drop i s ≡ x ∷ rest
+byte_before s rest i within is others = drop_more s i 0 within ∙ (λ j. is j ∷ others j)
 
-key_name-plain : (key : Key) → list_all is_plain (key_name key) ≡ true
-key_name-plain Flows = refl
-key_name-plain Group = refl
-key_name-plain Lan = refl
-key_name-plain Need = refl
-key_name-plain Rank = refl
-key_name-plain Reached = refl
-key_name-plain Router = refl
-key_name-plain Source = refl
-key_name-plain Tree = refl
-key_name-plain Trees = refl
-key_name-plain Version = refl
-key_name-plain Vif = refl
+pub bytes_3 : {a b c : ℕ} (s : List ℕ) → length s ≡ 3
+    → get_or s 0 0 ≡ a → get_or s 1 0 ≡ b → get_or s 2 0 ≡ c
+    → s ≡ a ∷ b ∷ c ∷ []
+bytes_3 {a = a} {b = b} {c = c} s count is_a is_b is_c =
+    let from_3 = drop_all 3 s (omega (arith, count)) in
+    let from_2 = byte_before s [] 2 (omega (arith, count)) is_c from_3 in
+    let from_1 = byte_before s (c ∷ []) 1 (omega (arith, count)) is_b from_2 in
+    byte_before s (b ∷ c ∷ []) 0 (omega (arith, count)) is_a from_1
 
--- a text that begins with a key's name and a quotation mark
-pub key_string : (key : Key) (text rest : List ℕ) → text ≡ key_name key ++ 34 ∷ rest
-    → (content plain text ≡ Some (key_name key)) × (lex in_string text ≡ lex between rest)
-key_string key text rest begins =
-    let own = plain_string (key_name key) rest (key_name-plain key) in
-    (ap (content plain) begins ∙ own.0, ap (lex in_string) begins ∙ own.1)
+pub bytes_4 : {a b c d : ℕ} (s : List ℕ) → length s ≡ 4
+    → get_or s 0 0 ≡ a → get_or s 1 0 ≡ b → get_or s 2 0 ≡ c → get_or s 3 0 ≡ d
+    → s ≡ a ∷ b ∷ c ∷ d ∷ []
+bytes_4 {a = a} {b = b} {c = c} {d = d} s count is_a is_b is_c is_d =
+    let from_4 = drop_all 4 s (omega (arith, count)) in
+    let from_3 = byte_before s [] 3 (omega (arith, count)) is_d from_4 in
+    let from_2 = byte_before s (d ∷ []) 2 (omega (arith, count)) is_c from_3 in
+    let from_1 = byte_before s (c ∷ d ∷ []) 1 (omega (arith, count)) is_b from_2 in
+    byte_before s (b ∷ c ∷ d ∷ []) 0 (omega (arith, count)) is_a from_1
+
+pub bytes_5 : {a b c d e : ℕ} (s : List ℕ) → length s ≡ 5
+    → get_or s 0 0 ≡ a → get_or s 1 0 ≡ b → get_or s 2 0 ≡ c → get_or s 3 0 ≡ d → get_or s 4 0 ≡ e
+    → s ≡ a ∷ b ∷ c ∷ d ∷ e ∷ []
+bytes_5 {a = a} {b = b} {c = c} {d = d} {e = e} s count is_a is_b is_c is_d is_e =
+    let from_5 = drop_all 5 s (omega (arith, count)) in
+    let from_4 = byte_before s [] 4 (omega (arith, count)) is_e from_5 in
+    let from_3 = byte_before s (e ∷ []) 3 (omega (arith, count)) is_d from_4 in
+    let from_2 = byte_before s (d ∷ e ∷ []) 2 (omega (arith, count)) is_c from_3 in
+    let from_1 = byte_before s (c ∷ d ∷ e ∷ []) 1 (omega (arith, count)) is_b from_2 in
+    byte_before s (b ∷ c ∷ d ∷ e ∷ []) 0 (omega (arith, count)) is_a from_1
+
+pub bytes_6 : {a b c d e f : ℕ} (s : List ℕ) → length s ≡ 6
+    → get_or s 0 0 ≡ a → get_or s 1 0 ≡ b → get_or s 2 0 ≡ c → get_or s 3 0 ≡ d → get_or s 4 0 ≡ e
+    → get_or s 5 0 ≡ f
+    → s ≡ a ∷ b ∷ c ∷ d ∷ e ∷ f ∷ []
+bytes_6 {a = a} {b = b} {c = c} {d = d} {e = e} {f = f} s count is_a is_b is_c is_d is_e is_f =
+    let from_6 = drop_all 6 s (omega (arith, count)) in
+    let from_5 = byte_before s [] 5 (omega (arith, count)) is_f from_6 in
+    let from_4 = byte_before s (f ∷ []) 4 (omega (arith, count)) is_e from_5 in
+    let from_3 = byte_before s (e ∷ f ∷ []) 3 (omega (arith, count)) is_d from_4 in
+    let from_2 = byte_before s (d ∷ e ∷ f ∷ []) 2 (omega (arith, count)) is_c from_3 in
+    let from_1 = byte_before s (c ∷ d ∷ e ∷ f ∷ []) 1 (omega (arith, count)) is_b from_2 in
+    byte_before s (b ∷ c ∷ d ∷ e ∷ f ∷ []) 0 (omega (arith, count)) is_a from_1
+
+pub bytes_7 : {a b c d e f g : ℕ} (s : List ℕ) → length s ≡ 7
+    → get_or s 0 0 ≡ a → get_or s 1 0 ≡ b → get_or s 2 0 ≡ c → get_or s 3 0 ≡ d → get_or s 4 0 ≡ e
+    → get_or s 5 0 ≡ f → get_or s 6 0 ≡ g
+    → s ≡ a ∷ b ∷ c ∷ d ∷ e ∷ f ∷ g ∷ []
+bytes_7 {a = a} {b = b} {c = c} {d = d} {e = e} {f = f} {g = g} s count is_a is_b is_c is_d is_e is_f is_g =
+    let from_7 = drop_all 7 s (omega (arith, count)) in
+    let from_6 = byte_before s [] 6 (omega (arith, count)) is_g from_7 in
+    let from_5 = byte_before s (g ∷ []) 5 (omega (arith, count)) is_f from_6 in
+    let from_4 = byte_before s (f ∷ g ∷ []) 4 (omega (arith, count)) is_e from_5 in
+    let from_3 = byte_before s (e ∷ f ∷ g ∷ []) 3 (omega (arith, count)) is_d from_4 in
+    let from_2 = byte_before s (d ∷ e ∷ f ∷ g ∷ []) 2 (omega (arith, count)) is_c from_3 in
+    let from_1 = byte_before s (c ∷ d ∷ e ∷ f ∷ g ∷ []) 1 (omega (arith, count)) is_b from_2 in
+    byte_before s (b ∷ c ∷ d ∷ e ∷ f ∷ g ∷ []) 0 (omega (arith, count)) is_a from_1

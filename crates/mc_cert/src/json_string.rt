@@ -1,4 +1,4 @@
-//! Reads strings and keys of JSON whose opening quotation mark has been passed. An escape is read where it stands for
+//! Reads strings of JSON whose opening quotation mark has been passed. An escape is read where it stands for
 //! an ASCII character: no name, address or key of a certificate has another one.
 
 ghost use Rattle.std.specs.Prelude.{◌≡◌, ◌∷◌, Some, IfSome, IfOk};
@@ -6,9 +6,7 @@ ghost use Rattle.json.specs.Lex.{between, in_string, lex};
 ghost use Rattle.json.specs.Run.{is_plain};
 ghost use Rattle.json.specs.Text.{content, plain, short_escape};
 ghost use Rattle.mc_cert.specs.JsonString.{text_bytes, IsHexDigit, DenotesByte};
-ghost use Rattle.mc_cert.specs.Keys.{key_name};
 
-use crate::key::Key;
 use crate::pieces::after_prefix;
 use crate::tokens::NotRead;
 use std::alloc::Global;
@@ -136,30 +134,5 @@ pub(crate) fn read_string(alloc: Global, text: &[u8]) -> Result<(JsonText<'_>, &
             Ok((JsonText::Unescaped(bytes), others))
         }
         _ => Err(NotRead),
-    }
-}
-
-/// Reads a key whose name has an escape, and gives the rest of the text.
-#[cold]
-fn read_escaped_key(alloc: Global, text: &[u8]) -> Result<(Key, &[u8]), NotRead>
-    ensures content { IfOk result (λ r. content plain text.now ≡ Some (key_name r.0)) }
-    ensures rest { IfOk result (λ r. lex in_string text.now ≡ lex between r.1.now) }
-{
-    let (mut name, rest) = read_escaped(alloc, text)?;
-    name.push(b'"')?;
-    match Key::at_front(&name) {
-        Some((key, behind)) if behind.is_empty() => Ok((key, rest)),
-        _ => Err(NotRead),
-    }
-}
-
-/// Reads a key, and gives the rest of the text.
-pub(crate) fn read_key(alloc: Global, text: &[u8]) -> Result<(Key, &[u8]), NotRead>
-    ensures content { IfOk result (λ r. content plain text.now ≡ Some (key_name r.0)) }
-    ensures rest { IfOk result (λ r. lex in_string text.now ≡ lex between r.1.now) }
-{
-    match Key::at_front(text) {
-        Some((key, rest)) => Ok((key, rest)),
-        None => read_escaped_key(alloc, text),
     }
 }

@@ -12,7 +12,7 @@ ghost use Rattle.mc_cert.specs.JsonString.{text_bytes};
 ghost use Rattle.mc_cert.specs.Keys.{key_name};
 ghost use Rattle.mc_cert.specs.TokenReader.{tokens_at, may_begin, may_close, BeginsWith};
 
-use crate::json_string::{JsonText, read_key, read_string};
+use crate::json_string::{JsonText, read_string};
 use crate::key::Key;
 use crate::pieces::read_number;
 use crate::tokens::NotRead;
@@ -208,7 +208,10 @@ impl<'a> TokenReader<'a> {
     {
         match skip_space(self.rest) {
             [b'"', text @ ..] if self.place.may_begin() => {
-                let (key, rest) = read_key(self.alloc, text)?;
+                let (name, rest) = read_string(self.alloc, text)?;
+                let Some(key) = Key::of_name(name.as_bytes()) else {
+                    return Err(NotRead);
+                };
                 let Some(rest) = after_byte(rest, b':') else {
                     return Err(NotRead);
                 };

@@ -1,4 +1,4 @@
--- Numbers that are shown to differ by the slots that they are put in.
+-- Numbers that are shown to differ by the marks that they leave in slots.
 use Rattle.std.proofs.Common.{◌≡◌, ℕ, ◌+◌, ◌-◌, ◌<◌, ◌≤◌, Bool, true, false, List, [], ◌∷◌, ◌++◌, ◌⊎◌}
 use Rattle.std.proofs.Common.{length, get_or, Ok, Err, refl, sym, ap, subst, ◌∙◌, arith, inl, inr}
 use Rattle.std.specs.Prelude.{◌≢◌, nat_lt, slice_set, Result, IfOk}
@@ -17,7 +17,7 @@ use Rattle.std.proofs.lemmas.Cmp.{nat_cmp_total, eq_by_cmp_equiv}
 use Rattle.std.proofs.lemmas.Map.Keys.{IsDistinct-IsPermutation, IsDistinct-from_sorted}
 use Rattle.std.proofs.lemmas.Map.Keys.{IsDistinct-from_apart}
 use Rattle.std.proofs.lemmas.Map.Keys.{apart_from_distinct, sorted_from_strictly_increasing}
-use Rattle.mc_tables.specs.Distinct.{AreDistinct, slot_of, number_in_slot, IsPut}
+use Rattle.mc_tables.specs.Distinct.{AreDistinct, slot_of, mark_of, mark_in_slot, IsPut}
 
 -- ---- two numbers
 
@@ -44,10 +44,10 @@ all_places_differ-from_distinct numbers apart a b less within is =
 abbrev IsAmong : List ℕ → ℕ → Type 0
 IsAmong others number = (j : ℕ) × (j < length others) × (get_or others j 0 ≡ number)
 
--- each of the first numbers has its slot or is among the others, and if those differ, all do
+-- each of the first numbers has left its mark or is among the others, and if those differ, all do
 pub record AreSlotted (slots others numbers : List ℕ) (i : ℕ) : Type 0 where
-  pub full : (k : ℕ) → k < i → number_in_slot slots (get_or numbers k 0) ≢ 0
-  pub placed : (k : ℕ) → k < i → (number_in_slot slots (get_or numbers k 0) ≡ get_or numbers k 0)
+  pub full : (k : ℕ) → k < i → mark_in_slot slots (get_or numbers k 0) ≢ 0
+  pub placed : (k : ℕ) → k < i → (mark_in_slot slots (get_or numbers k 0) ≡ mark_of (get_or numbers k 0))
       ⊎ IsAmong others (get_or numbers k 0)
   pub apart : AllPlacesDiffer others → (a b : ℕ) → a < b → b < i
       → get_or numbers a 0 ≢ get_or numbers b 0
@@ -56,22 +56,22 @@ module _ (slots : List ℕ) (n : ℕ) (within : slot_of (length slots) n < lengt
   abbrev slot : ℕ
   slot = slot_of (length slots) n
 
-  -- what is in a number's slot afterwards
-  in_slot-after_set : (m : ℕ) → number_in_slot (slice_set slots slot n) m
-      ≡ get_or (slice_set slots slot n) (slot_of (length slots) m) 0
-  in_slot-after_set m = ap (λ (count : ℕ). get_or (slice_set slots slot n) (slot_of count m) 0)
-      (length-set slots slot n)
+  -- the mark in a number's slot afterwards
+  in_slot-after_set : (m : ℕ) → mark_in_slot (slice_set slots slot (mark_of n)) m
+      ≡ get_or (slice_set slots slot (mark_of n)) (slot_of (length slots) m) 0
+  in_slot-after_set m = ap (λ (count : ℕ). get_or (slice_set slots slot (mark_of n)) (slot_of count m) 0)
+      (length-set slots slot (mark_of n))
 
   in_slot-other_slot : (m : ℕ) → slot_of (length slots) m ≢ slot
-      → number_in_slot (slice_set slots slot n) m ≡ number_in_slot slots m
+      → mark_in_slot (slice_set slots slot (mark_of n)) m ≡ mark_in_slot slots m
   in_slot-other_slot m other =
-      in_slot-after_set m ∙ get_or-set_other slots slot (slot_of (length slots) m) n 0 other
+      in_slot-after_set m ∙ get_or-set_other slots slot (slot_of (length slots) m) (mark_of n) 0 other
 
   in_slot-same_slot : (m : ℕ) → slot_of (length slots) m ≡ slot
-      → number_in_slot (slice_set slots slot n) m ≡ n
+      → mark_in_slot (slice_set slots slot (mark_of n)) m ≡ mark_of n
   in_slot-same_slot m same =
-      in_slot-after_set m ∙ ap (λ (p : ℕ). get_or (slice_set slots slot n) p 0) same
-      ∙ get_or-set_same slots slot n 0 within
+      in_slot-after_set m ∙ ap (λ (p : ℕ). get_or (slice_set slots slot (mark_of n)) p 0) same
+      ∙ get_or-set_same slots slot (mark_of n) 0 within
 
 module _ (slots others numbers : List ℕ) (i : ℕ) (before : AreSlotted slots others numbers i) where
   -- the number after the first ones
@@ -81,9 +81,9 @@ module _ (slots others numbers : List ℕ) (i : ℕ) (before : AreSlotted slots 
   number-at_last_place : (k : ℕ) → i ≤ k → k < i + 1 → get_or numbers k 0 ≡ number
   number-at_last_place k late less = let is : k ≡ i = omega arith in ap (λ (j : ℕ). get_or numbers j 0) is
 
-  are_slotted-in_slot : slot_of (length slots) number < length slots → number_in_slot slots number ≡ 0
-      → number ≢ 0
-      → AreSlotted (slice_set slots (slot_of (length slots) number) number) others numbers (i + 1)
+  are_slotted-in_slot : slot_of (length slots) number < length slots → mark_in_slot slots number ≡ 0
+      → mark_of number ≢ 0
+      → AreSlotted (slice_set slots (slot_of (length slots) number) (mark_of number)) others numbers (i + 1)
   are_slotted-in_slot within empty some =
       let place = slot_of (length slots) number in
       -- an earlier one has another slot
@@ -105,16 +105,16 @@ module _ (slots others numbers : List ℕ) (i : ℕ) (before : AreSlotted slots 
           ]
           | inr late ↦ inl (in_slot-same_slot slots number within (get_or numbers k 0)
               (ap (slot_of (length slots)) (number-at_last_place k late less))
-              ∙ sym (number-at_last_place k late less))
+              ∙ ap mark_of (sym (number-at_last_place k late less)))
         ];
         apart = λ all a b less below is. elim (cases_lt b i) [
           | inl early ↦ before.apart all a b less early is
           | inr late ↦ before.full a (omega arith)
-              (ap (number_in_slot slots) (is ∙ number-at_last_place b late below) ∙ empty)
+              (ap (mark_in_slot slots) (is ∙ number-at_last_place b late below) ∙ empty)
         ];
       }
 
-  are_slotted-with_others : number_in_slot slots number ≢ 0 → number_in_slot slots number ≢ number
+  are_slotted-with_others : mark_in_slot slots number ≢ 0 → mark_in_slot slots number ≢ mark_of number
       → AreSlotted slots (others ++ number ∷ []) numbers (i + 1)
   are_slotted-with_others full other =
       let more = others ++ number ∷ [] in
@@ -128,7 +128,7 @@ module _ (slots others numbers : List ℕ) (i : ℕ) (before : AreSlotted slots 
       record {
         full = λ k less none. elim (cases_lt k i) [
           | inl early ↦ before.full k early none
-          | inr late ↦ full (ap (number_in_slot slots) (sym (number-at_last_place k late less)) ∙ none)
+          | inr late ↦ full (ap (mark_in_slot slots) (sym (number-at_last_place k late less)) ∙ none)
         ];
         placed = λ k less. elim (cases_lt k i) [
           | inl early ↦ elim (before.placed k early) [
@@ -147,7 +147,7 @@ module _ (slots others numbers : List ℕ) (i : ℕ) (before : AreSlotted slots 
               | inr late ↦
                   let one = is ∙ number-at_last_place b late below in
                   elim (before.placed a (omega arith)) [
-                    | inl here ↦ other (ap (number_in_slot slots) (sym one) ∙ here ∙ one)
+                    | inl here ↦ other (ap (mark_in_slot slots) (sym one) ∙ here ∙ ap mark_of one)
                     | inr among ↦ all among.0 (length others) among.1 (omega (arith, size))
                         (kept among.0 among.1 ∙ among.2 ∙ one ∙ sym last)
                   ]
@@ -161,7 +161,7 @@ module _ (slots others numbers : List ℕ) (i : ℕ) (before : AreSlotted slots 
     subst (λ (o : List ℕ). AreSlotted slots' o numbers (i + 1)) (sym put.same)
         (subst (λ (s : List ℕ). AreSlotted s others numbers (i + 1)) (sym put.put)
         (are_slotted-in_slot put.within put.empty put.some)),
-    ap length put.put ∙ length-set slots (slot_of (length slots) number) number,
+    ap length put.put ∙ length-set slots (slot_of (length slots) number) (mark_of number),
   )
   are_slotted-push slots' others' (inr put) = (
     subst (λ (o : List ℕ). AreSlotted slots' o numbers (i + 1)) (sym put.put)

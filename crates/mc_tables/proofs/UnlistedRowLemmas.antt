@@ -258,24 +258,6 @@ first_repeat-begins rows key line before none =
 
 -- ---- rows as numbers
 
--- the numbers of the rows with one more
-pub key_numbers-push : (rows : List UnlistedRow) (numbers : List ℕ) (row : UnlistedRow)
-    → IsPermutation (map key_number rows) numbers
-    → IsPermutation (map key_number (rows ++ row ∷ [])) (numbers ++ key_number row ∷ [])
-key_numbers-push rows numbers row same =
-    rw (map-append key_number rows (row ∷ []))
-    (IsPermutation-append_left (key_number row ∷ []) (map key_number rows) numbers same)
-
--- the numbers of rows in another order
-pub key_numbers-permuted : (rows moved : List UnlistedRow) (numbers others : List ℕ)
-    → IsPermutation (map key_number rows) numbers → IsPermutation rows moved
-    → IsPermutation numbers others → IsPermutation (map key_number moved) others
-key_numbers-permuted rows moved numbers others same by to =
-    IsPermutation-trans (map key_number moved) (map key_number rows) others
-    (IsPermutation-sym (map key_number rows) (map key_number moved)
-    (IsPermutation-map key_number rows moved by))
-    (IsPermutation-trans (map key_number rows) numbers others same to)
-
 -- two of some numbers are equal
 abbrev same_number : ℕ → ℕ → Bool
 same_number = eq_by_cmp nat_cmp
@@ -331,13 +313,10 @@ module _ (rows : List UnlistedRow) (apart : IsDistinct same_number (map key_numb
       list_any_none (repeats (get_or rows i d)) rows (λ j e lt.
       ap (repeats (get_or rows i d)) (get_or_default rows j e d lt) ∙ repeats-none i j d fits lt)
 
--- rows whose numbers differ in some order have no repeat
-pub first_repeat-distinct : (rows : List UnlistedRow) (numbers : List ℕ)
-    → IsPermutation (map key_number rows) numbers → AreDistinct numbers → first_repeat rows ≡ None
-first_repeat-distinct rows numbers same numbers_apart =
-    let apart : IsDistinct same_number (map key_number rows) =
-    IsDistinct-IsPermutation same_number same_number-equivalence.symm numbers (map key_number rows)
-    (IsPermutation-sym (map key_number rows) numbers same) numbers_apart in
+-- rows whose numbers differ have no repeat
+pub first_repeat-distinct : (rows : List UnlistedRow) → AreDistinct (map key_number rows)
+    → first_repeat rows ≡ None
+first_repeat-distinct rows apart =
     least-unique (first_repeat rows) None (λ most.
     is_at_most-first_repeat rows most
     ∙ list_any_none (λ r. is_repeat rows r && nat_le r.1 most) rows (λ k d lt.

@@ -1,4 +1,4 @@
--- Numbers that are shown to differ by the slots that they are put in.
+-- Numbers that are shown to differ by the marks that they leave in slots.
 use Rattle.std.specs.Prelude.{◌≡◌, ◌≢◌, ℕ, ◌*◌, ◌<◌, ◌/◌, ◌%◌, ◌^◌, ◌⊎◌, List, ◌∷◌, [], ◌++◌}
 use Rattle.std.specs.Prelude.{length, slice_index, slice_set}
 use Rattle.std.specs.List.{IsDistinct}
@@ -13,27 +13,31 @@ abbrev pub slot_of : ℕ → ℕ → ℕ
 slot_of slots number =
     number * 11400714819323198485 % 18446744073709551616 / 2 ^ 32 * slots / 2 ^ 32
 
--- what is in the slot of a number
-abbrev pub number_in_slot : List ℕ → ℕ → ℕ
-number_in_slot slots number = slice_index slots (slot_of (length slots) number)
+-- the mark of a number: equal numbers have equal ones
+abbrev pub mark_of : ℕ → ℕ
+mark_of number = number * 14029467366897019727 % 18446744073709551616 / 2 ^ 32 % 2 ^ 32
 
--- the number takes its slot, which was empty
+-- the mark in the slot of a number, or 0
+abbrev pub mark_in_slot : List ℕ → ℕ → ℕ
+mark_in_slot slots number = slice_index slots (slot_of (length slots) number)
+
+-- the number marks its slot, which was empty
 pub record TakesSlot (slots others : List ℕ) (number : ℕ) (slots' others' : List ℕ) : Type 0 where
   pub within : slot_of (length slots) number < length slots
-  pub empty : number_in_slot slots number ≡ 0
-  pub some : number ≢ 0
-  pub put : slots' ≡ slice_set slots (slot_of (length slots) number) number
+  pub empty : mark_in_slot slots number ≡ 0
+  pub some : mark_of number ≢ 0
+  pub put : slots' ≡ slice_set slots (slot_of (length slots) number) (mark_of number)
   pub same : others' ≡ others
 
--- the number goes to the others, since another one has its slot
+-- the number goes to the others, since its slot has another mark
 pub record GoesToOthers (slots others : List ℕ) (number : ℕ) (slots' others' : List ℕ)
     : Type 0 where
-  pub full : number_in_slot slots number ≢ 0
-  pub other : number_in_slot slots number ≢ number
+  pub full : mark_in_slot slots number ≢ 0
+  pub other : mark_in_slot slots number ≢ mark_of number
   pub same : slots' ≡ slots
   pub put : others' ≡ others ++ number ∷ []
 
--- the number was put into its slot or to the others
+-- the number marked its slot or went to the others
 abbrev pub IsPut : List ℕ → List ℕ → ℕ → List ℕ → List ℕ → Type 0
 IsPut slots others number slots' others' =
     TakesSlot slots others number slots' others' ⊎ GoesToOthers slots others number slots' others'

@@ -1,12 +1,15 @@
-//! Whether all numbers of a list differ, tested by a hash table and a sort of what collides.
+//! Whether the keys of rows differ, tested by a hash table and a sort of what collides.
 
-ghost use Rattle.std.specs.Prelude.{◌≡◌, ◌<◌, ◌^◌, true, IfOk, length};
+ghost use Rattle.std.specs.Prelude.{◌≡◌, ◌<◌, ◌^◌, true, IfOk, length, map};
 ghost use Rattle.std.specs.List.Sorted.{IsStrictlyIncreasing};
-ghost use Rattle.mc_tables.specs.Distinct.{AreDistinct, IsPut, slot_of};
+ghost use Rattle.mc_tables.specs.Distinct.{AreDistinct, IsPut, mark_of, slot_of};
+ghost use Rattle.mc_tables.specs.UnlistedRows.{key_number};
 
+use crate::summary::unlisted_rows::UnlistedRow;
+use mc_text::pair_number;
 use std::alloc::{AllocError, Global};
 
-/// The greatest number of numbers that get four slots each.
+/// The greatest number of rows that get four slots each.
 const MAX_SLOTTED: usize = 65_536;
 
 /// The slot of a number among so many.
@@ -20,21 +23,29 @@ fn slot_of(number: u64, slots: usize) -> usize
     ((mixed * slots as u64) >> 32) as usize
 }
 
-/// Puts a number into its slot, or behind the others if another number has the slot. Returns whether
-/// it is new, as far as its slot shows.
-fn put_in_slot(slots: &mut Vec<u64>, others: &mut Vec<u64>, number: u64) -> Result<bool, AllocError>
+/// The mark of a number. (It takes half the room of the number, so that more slots stand near the processor.)
+fn mark_of(number: u64) -> u32
+    ensures { result ≡ mark_of number }
+{
+    (number.wrapping_mul(14_029_467_366_897_019_727) >> 32) as u32
+}
+
+/// Marks the slot of a number, or puts it behind the others if there is another mark. Returns whether it
+/// is new, as far as its slot shows.
+fn put_in_slot(slots: &mut Vec<u32>, others: &mut Vec<u64>, number: u64) -> Result<bool, AllocError>
     requires nonempty { 0 < length slots.old.items }
     requires bounded { length slots.old.items < 2 ^ 32 }
     ensures put { IfOk result (λ new. new ≡ true →
         IsPut slots.old.items others.old.items number slots.new.items others.new.items) }
 {
     let slot = slot_of(number, slots.len());
+    let mark = mark_of(number);
     let there = slots[slot];
-    if there == number {
+    if there == mark {
         return Ok(false);
     }
     if there == 0 {
-        slots[slot] = number;
+        slots[slot] = mark;
     } else {
         others.push(number)?;
     }
@@ -48,16 +59,25 @@ fn is_ascending(numbers: &[u64]) -> bool
     numbers.is_sorted_by(|x, y| x < y)
 }
 
-/// Whether no two of the numbers are equal. Most have a slot of their own; the others are sorted. A
-/// number 0, which looks like an empty slot, may give `false` wrongly.
-pub fn all_distinct(alloc: Global, numbers: &[u64]) -> Result<bool, AllocError>
-    ensures { IfOk result (λ apart. apart ≡ true → AreDistinct numbers.now) }
+/// A row's key as a number.
+fn key_number(row: &UnlistedRow) -> u64
+    ensures { result ≡ key_number row.now }
 {
-    let count = 4 * numbers.len().min(MAX_SLOTTED) + 1;
+    let (source, group) = row.0;
+    pair_number(source, group)
+}
+
+/// Whether no two of the rows have the same key. Most have a slot of their own; the keys of the others are
+/// sorted. A key whose mark is 0, which looks like an empty slot, and one that shares slot and mark with
+/// another give `false`, though it may be wrong.
+pub fn are_keys_distinct(alloc: Global, rows: &[UnlistedRow]) -> Result<bool, AllocError>
+    ensures { IfOk result (λ apart. apart ≡ true → AreDistinct (map key_number rows.now)) }
+{
+    let count = 4 * rows.len().min(MAX_SLOTTED) + 1;
     let mut slots = vec![in alloc; 0; count]?;
     let mut others = Vec::new(alloc);
-    for i in 0..numbers.len() {
-        if !put_in_slot(&mut slots, &mut others, numbers[i])? {
+    for i in 0..rows.len() {
+        if !put_in_slot(&mut slots, &mut others, key_number(&rows[i]))? {
             return Ok(false);
         }
     }

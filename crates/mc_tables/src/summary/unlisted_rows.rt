@@ -7,33 +7,28 @@ ghost use Rattle.mc_tables.specs.UnlistedRows.{row_cmp, repeats, lesser_or, firs
 ghost use Rattle.mc_tables.specs.UnlistedRows.{without_repeat};
 
 use crate::fault::{TableFault, TableFaultKind};
-use crate::summary::distinct::all_distinct;
-use mc_text::{Addr, pair_number};
+use crate::summary::distinct::are_keys_distinct;
+use mc_text::Addr;
 use std::alloc::Global;
 use std::marker::Model;
 
 /// A row's source and group, and its line.
-type UnlistedRow = ((Addr, Addr), u32);
+pub type UnlistedRow = ((Addr, Addr), u32);
 
 /// The source, the group and the line of each row, in the order of their lines until they are
 /// searched for a repeated one.
 #[derive(Debug, Drop)]
 pub struct UnlistedRows {
     rows: Vec<UnlistedRow>,
-    // the source and the group of each row as one number, which is compared faster than a row
-    keys: Vec<u64>,
 }
 
 impl Model for UnlistedRows {
-    ghost use Rattle.std.specs.Prelude.{List, map};
-    ghost use Rattle.std.specs.List.Sorted.{IsPermutation};
-    ghost use Rattle.mc_tables.specs.UnlistedRows.{UnlistedRow, key_number};
+    ghost use Rattle.std.specs.Prelude.{List};
+    ghost use Rattle.mc_tables.specs.UnlistedRows.{UnlistedRow};
 
     ghost Value = { List UnlistedRow };
 
     ghost view = { λ s. s.rows.items };
-
-    ghost invariant = { λ s. IsPermutation (map key_number s.rows.items) s.keys.items };
 }
 
 impl UnlistedRows {
@@ -43,7 +38,6 @@ impl UnlistedRows {
     {
         UnlistedRows {
             rows: Vec::new(alloc),
-            keys: Vec::new(alloc),
         }
     }
 
@@ -53,9 +47,7 @@ impl UnlistedRows {
         ensures fault { IfErr result (λ fault. fault ≡ Memory) }
         ensures err { OnErr result (self.new ≡ self.old) }
     {
-        self.keys.reserve(1)?;
         self.rows.push(((source, group), line))?;
-        self.keys.push(pair_number(source, group))?;
         Ok(())
     }
 
@@ -63,8 +55,8 @@ impl UnlistedRows {
     pub fn check_repeats(&mut self) -> Result<(), TableFault>
         ensures { result ≡ without_repeat self.old }
     {
-        let alloc = *self.keys.allocator();
-        if all_distinct(alloc, &self.keys).unwrap_or(false) {
+        let alloc = *self.rows.allocator();
+        if are_keys_distinct(alloc, &self.rows).unwrap_or(false) {
             return Ok(());
         }
         // Only a repeated row needs its line.

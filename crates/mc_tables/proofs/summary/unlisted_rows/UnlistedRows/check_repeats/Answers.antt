@@ -1,28 +1,20 @@
-use Rattle.std.proofs.Common.{◌≡◌, Err, sym, ◌∙◌, ap, subst}
-use Rattle.std.proofs.lemmas.List.Sorted.{IsPermutation-refl}
+use Rattle.std.proofs.Common.{◌≡◌, List, Err, sym, ◌∙◌, ap, subst}
+use Rattle.std.specs.Prelude.{map}
 use Rattle.mc_tables.specs.Distinct.{AreDistinct}
-use Rattle.mc_tables.specs.UnlistedRows.{first_repeat, repeat_fault}
+use Rattle.mc_tables.specs.UnlistedRows.{UnlistedRow, first_repeat, key_number, repeat_fault}
 use Rattle.mc_tables.proofs.DistinctLemmas.{if_ok-from_unwrap_or}
-use Rattle.mc_tables.proofs.UnlistedRowLemmas.{first_repeat-distinct, key_numbers-permuted}
-use Rattle.mc_tables.proofs.UnlistedRowLemmas.{first_repeat-permuted}
+use Rattle.mc_tables.proofs.UnlistedRowLemmas.{first_repeat-distinct, first_repeat-permuted}
 use Rattle.mc_tables.proofs.summary.unlisted_rows.UnlistedRows.check_repeats.Goals as goal
 use Rattle.mc_tables.proofs.summary.unlisted_rows.UnlistedRows.check_repeats.Goals.{in-Some, in-None}
 
-pub invariant_of-self : goal.invariant_of-self
-invariant_of-self c =
-    let keys = c.self.inside.keys.items in
-    key_numbers-permuted c.self.inside.rows.items c.sort_unstable.new.self.items keys keys
-    c.self.invariant c.sort_unstable.ensures.permutation (IsPermutation-refl keys)
-
 pub returns-then-unwrap_or : goal.returns-then-unwrap_or
 returns-then-unwrap_or c =
-    let apart : AreDistinct c.self.inside.keys.items =
-    subst AreDistinct c.deref.ensures.value
-    (if_ok-from_unwrap_or c.all_distinct.result (AreDistinct c.deref.result.now) c.all_distinct.ensures
-    (sym c.unwrap_or.ensures ∙ c.if-unwrap_or.true)) in
-    ap repeat_fault
-    (sym (first_repeat-distinct c.self.inside.rows.items c.self.inside.keys.items c.self.invariant apart)
-    ∙ ap first_repeat c.self.view_is)
+    let rows = c.self.inside.rows.items in
+    let apart : AreDistinct (map key_number rows) =
+    subst (λ (l : List UnlistedRow). AreDistinct (map key_number l)) c.deref.ensures.value
+    (if_ok-from_unwrap_or c.are_keys_distinct.result (AreDistinct (map key_number c.deref.result.now))
+    c.are_keys_distinct.ensures (sym c.unwrap_or.ensures ∙ c.if-unwrap_or.true)) in
+    ap repeat_fault (sym (first_repeat-distinct rows apart) ∙ ap first_repeat c.self.view_is)
 
 pub returns : goal.returns
 returns c =

@@ -14,7 +14,7 @@ ghost use Rattle.mc_igmp.specs.ListSoFar.{no_list, without_records, list_if};
 use crate::digits::decode_prefix;
 use crate::fault::{ListFault, ListFaultKind};
 use crate::list::{ListRecords, ReportList};
-use mc_text::{Line, MAX_TEXT, Memory, find_byte};
+use mc_text::{Line, MAX_TEXT, Memory, PieceReader, find_byte};
 use std::alloc::{AllocError, Global};
 use std::marker::Model;
 
@@ -269,5 +269,22 @@ impl ListReader {
             return Err(ListFaultKind::Unended.at(lines.ended + 1, 0));
         }
         Ok(lines.list)
+    }
+}
+
+impl PieceReader for ListReader {
+    ghost use Rattle.std.specs.Prelude.{List, Result};
+    ghost use Rattle.mc_igmp.specs.ListSoFar.{list_if};
+    ghost use Rattle.mc_igmp.specs.declared.fault.ListFault.{ListFault};
+    ghost use Rattle.mc_igmp.specs.declared.record.Record.{Record};
+
+    ghost ReadResult = { Result (List Record) ListFault };
+
+    ghost result_after = { list_if };
+
+    ghost size = { λ s. s.size };
+
+    fn take(&mut self, piece: &[u8]) -> Result<(), Memory> {
+        self.feed(piece)
     }
 }

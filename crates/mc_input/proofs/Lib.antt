@@ -5,7 +5,6 @@ mod ContentsLemmas
 mod ReadRestLemmas
 mod InputCounts
 mod FaultLemmas
-mod FeedLemmas
 mod FilesFeedLemmas
 mod FilesLemmas
 mod FilesMeansLemmas

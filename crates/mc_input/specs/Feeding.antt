@@ -26,12 +26,3 @@ abbrev pub SeesHeaderOrFile : (files seen : List FileText) → Slot → Option (
 SeesHeaderOrFile files seen slot header =
     file_named seen (file_name slot)
     ≡ header_or_file (option_map (λ bytes. bytes.now) header) (file_named files (file_name slot))
-
--- the current part of a bundle, whose text is still to be read, was fed
-abbrev pub HasFedPart : {R : Type 0} → (old new : PartsState) → (text : List ℕ)
-    → (before after : List ℕ → R) → Type 0
-HasFedPart old new text before after =
-    (later : List ℕ) × (part : PartText) × (new.remaining ≡ Some later)
-    × (parts_from_current old [] text ≡ prepend_parts (part ∷ []) (rest_of_bundle new later))
-    × (old.name ≡ Some part.name) × (length part.bytes ≤ max_text)
-    × (before part.bytes ≡ after [])

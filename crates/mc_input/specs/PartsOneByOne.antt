@@ -71,13 +71,6 @@ IsFaultOf state read fault =
     (text : List ℕ) → state.remaining ≡ Some text → ¬ IsReadOrMemory fault →
     map_fault Input (read_rest state text read) ≡ Err fault
 
--- a part with this name is open, and none of its bytes is read yet
-pub record IsOpened (state : PartsState) (name : List ℕ) : Type 0 where
-  pub stage : state.stage ≡ stages.Part
-  pub named : state.name ≡ Some name
-  pub left : state.left ≡ state.size
-  pub size : state.size ≤ max_part
-
 -- the part has the name of the slot with this number
 abbrev pub HasNameOfSlot : (certified : Bool) → TopologyValue → ℕ → List ℕ → Type 0
 HasNameOfSlot certified t n name =

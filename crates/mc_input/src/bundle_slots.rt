@@ -16,16 +16,14 @@ ghost use Rattle.mc_input.specs.Stream.{read_after_topology, read_stream};
 
 use crate::bundle_part::certificate_in;
 use crate::fault::InputFault;
-use crate::fed_part::feed_part;
 use crate::list_keeper::NoLists;
 use crate::part_result::listed_pairs;
-use crate::piece_reader::PieceReader;
 use crate::slot_part::{check_names_to_end, open_slot};
 use crate::slots::Slots;
 use crate::source_fault::SourceFault;
 use crate::walk::{Contents, read_contents};
 use mc_files::slot_count;
-use mc_text::{Input, PartName, Parts};
+use mc_text::{Input, PartName, Parts, PieceReader, feed_part};
 use mc_topology::Topology;
 use std::alloc::Global;
 

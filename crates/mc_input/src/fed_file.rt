@@ -9,9 +9,8 @@ ghost use Rattle.mc_files.specs.Files.{FileText, file_named, is_failure};
 ghost use Rattle.mc_files.specs.Layout.{file_name};
 ghost use Rattle.mc_input.specs.Feeding.{HasFedFile, SeesHeaderOrFile};
 
-use crate::piece_reader::PieceReader;
 use mc_files::{FileFault, PieceSource, Slot};
-use mc_text::MAX_PART;
+use mc_text::{MAX_PART, PieceReader};
 use std::alloc::Global;
 
 /// Feeds the whole open file to a reader, in pieces through the buffer. A file that is too large or

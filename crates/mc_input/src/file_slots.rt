@@ -15,11 +15,10 @@ use crate::excluded::header_of_excluded;
 use crate::fault::InputFault;
 use crate::fed_file::feed_header_or_file;
 use crate::part_result::topology_of;
-use crate::piece_reader::PieceReader;
 use crate::slots::Slots;
 use crate::source_fault::SourceFault;
 use mc_files::{FileSource, PieceSource, Slot, part_of_file, slot_at};
-use mc_text::PartName;
+use mc_text::{PartName, PieceReader};
 use mc_topology::{RouterNo, Topology};
 use std::alloc::Global;
 

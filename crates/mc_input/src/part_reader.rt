@@ -9,13 +9,12 @@ ghost use Rattle.mc_input.specs.declared.source_fault.SourceFault.TheVariants.{I
 
 use crate::fault::InputFault;
 use crate::part_result::{cache_or_fault, reports_or_fault, vifs_or_fault};
-use crate::piece_reader::PieceReader;
 use mc_igmp::{ListReader, ReportList};
 use mc_tables::{
     CacheReader, CacheTable, EachRowReader, RowFold, SummarizedCache, SummaryReader, VifReader,
     VifTable,
 };
-use mc_text::PartName;
+use mc_text::{PartName, PieceReader};
 
 /// A reader of a part, which is fed it in pieces.
 pub(crate) trait PartReader: PieceReader {

@@ -3,12 +3,12 @@
 ghost use Rattle.std.specs.Prelude.{◌≡◌, ◌<◌, ◌≤◌, ℕ, List, [], Some, Ok, OnOk, IfErr, drop, length};
 ghost use Rattle.std.specs.Prelude.{slice_get};
 ghost use Rattle.mc_text.specs.Device.{failures_after};
-ghost use Rattle.mc_text.specs.PartsReading.{parts_from_current};
+ghost use Rattle.mc_text.specs.PartsReading.{IsOpened, parts_from_current};
 ghost use Rattle.mc_text.specs.RestOfBundle.{Advances, rest_of_bundle};
 ghost use Rattle.mc_text.specs.Steps.{map_fault};
 ghost use Rattle.mc_files.specs.Layout.{part_name, slots};
 ghost use Rattle.mc_input.specs.InputReading.{named};
-ghost use Rattle.mc_input.specs.PartsOneByOne.{HasNameOfSlot, IsFaultOf, IsOpened};
+ghost use Rattle.mc_input.specs.PartsOneByOne.{HasNameOfSlot, IsFaultOf};
 ghost use Rattle.mc_input.specs.PartsOneByOne.{check_names_from, read_rest};
 ghost use Rattle.mc_input.specs.SourceFault.{Gives, is_read};
 ghost use Rattle.mc_input.specs.declared.source_fault.SourceFault.TheVariants.{Input as refused};

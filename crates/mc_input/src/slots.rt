@@ -12,9 +12,8 @@ ghost use Rattle.mc_input.specs.declared.source_fault.SourceFault.{SourceFault a
 ghost use Rattle.mc_input.specs.declared.source_fault.SourceFault.TheVariants.{Input};
 
 use crate::fault::InputFault;
-use crate::piece_reader::PieceReader;
 use crate::source_fault::SourceFault;
-use mc_text::PartName;
+use mc_text::{PartName, PieceReader};
 use mc_topology::Topology;
 use std::alloc::Global;
 

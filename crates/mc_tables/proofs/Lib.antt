@@ -39,4 +39,5 @@ pub mod SummaryRuleLemmas
 pub mod ListedPartLemmas
 pub mod TextPairLemmas
 pub mod TableRuleLemmas
+pub mod FedTableLemmas
 pub mod LawLemmas

@@ -1,6 +1,7 @@
 pub mod Lists
 pub mod LineLemmas
 pub mod PieceLemmas
+pub mod FedPieceLemmas
 pub mod ResultLemmas
 pub mod StepLemmas
 pub mod AddrLemmas

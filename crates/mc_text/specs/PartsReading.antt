@@ -108,6 +108,13 @@ parts_state stage parts room name size left remaining failed borrows = record {
   borrows = borrows;
 }
 
+-- a part with this name is open, and none of its bytes is read yet
+pub record IsOpened (state : PartsState) (name : List ℕ) : Type 0 where
+  pub stage : state.stage ≡ stages.Part
+  pub named : state.name ≡ Some name
+  pub left : state.left ≡ state.size
+  pub size : state.size ≤ max_part
+
 -- the current part, of which the bytes `done` were read and `left` more come at the front of the text,
 -- and the parts after it
 abbrev pub part_and_rest : List ℕ → List ℕ → ℕ → ℕ → ℕ → List ℕ

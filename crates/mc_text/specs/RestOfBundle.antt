@@ -1,5 +1,5 @@
 -- Reading a bundle part by part: the parts after the current one.
-use Rattle.std.specs.Prelude.{◌≡◌, ℕ, List, [], ◌∷◌, ◌++◌, Option, Some, None, Result, Ok, Err}
+use Rattle.std.specs.Prelude.{◌≡◌, ◌≤◌, ℕ, List, length, [], ◌∷◌, ◌++◌, Option, Some, None, Result, Ok, Err}
 use Rattle.mc_text.specs.declared.bundle.bundle_fault.BundleFault.{BundleFault}
 use Rattle.mc_text.specs.declared.bundle.bundle_fault.BundleFault.TheVariants as faults
 use Rattle.mc_text.specs.declared.bundle.stage.Stage.{Stage}
@@ -7,6 +7,7 @@ use Rattle.mc_text.specs.declared.bundle.stage.Stage.TheVariants as stages
 use Rattle.mc_text.specs.Steps.{◌>>=◌}
 use Rattle.mc_text.specs.Bundle.{PartText}
 use Rattle.mc_text.specs.BundleReading.{part_bytes_at, parts_from, bundle_of}
+use Rattle.mc_text.specs.Lines.{max_text}
 use Rattle.mc_text.specs.PartsReading.{PartsState, prepend_parts, parts_from_current, current_part}
 use Rattle.mc_text.specs.PartsLimits.{ConsumesWithin, max_to_come}
 
@@ -59,3 +60,13 @@ abbrev pub Advances : PartsState → PartsState → Type 0
 Advances old new =
     (new.borrows ≡ old.borrows)
     × ConsumesWithin (max_to_come old) (max_to_come new) old.remaining new.remaining
+
+-- The current part, whose text is still to be read, was fed to a reader as a whole. `before` and `after` give
+-- the reader's result for bytes that are still fed, before that and after it.
+abbrev pub HasFedPart : {R : Type 0} → (old new : PartsState) → (text : List ℕ)
+    → (before after : List ℕ → R) → Type 0
+HasFedPart old new text before after =
+    (later : List ℕ) × (part : PartText) × (new.remaining ≡ Some later)
+    × (parts_from_current old [] text ≡ prepend_parts (part ∷ []) (rest_of_bundle new later))
+    × (old.name ≡ Some part.name) × (length part.bytes ≤ max_text)
+    × (before part.bytes ≡ after [])

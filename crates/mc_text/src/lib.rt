@@ -13,7 +13,8 @@ mod pair;
 mod text;
 
 pub use bundle::{
-    Bundle, BundleFault, MAX_PART, Part, PartName, Parts, collect_part, write_bundle,
+    Bundle, BundleFault, MAX_PART, Part, PartName, Parts, PieceReader, collect_part, feed_part,
+    write_bundle,
 };
 pub use index::Index;
 pub use io::{

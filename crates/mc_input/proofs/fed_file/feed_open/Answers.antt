@@ -4,7 +4,7 @@ use Rattle.std.specs.Prelude.{is_ok}
 use Rattle.std.proofs.lemmas.List.{length-append}
 use Rattle.mc_text.specs.Bundle.{max_part}
 use Rattle.mc_text.proofs.PartsMeaning.{split-from_Consumes}
-use Rattle.mc_input.proofs.FeedLemmas.{result_after-append_piece, fact-from_OnOk}
+use Rattle.mc_text.proofs.FedPieceLemmas.{result_after-append_piece, fact-from_OnOk}
 use Rattle.mc_input.proofs.fed_file.feed_open.Goals as goal
 
 pub pieces-preserved : goal.pieces-preserved

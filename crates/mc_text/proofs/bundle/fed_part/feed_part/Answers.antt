@@ -4,8 +4,8 @@ use Rattle.std.specs.Prelude.{is_ok}
 use Rattle.std.proofs.lemmas.List.{append-nil, length-append}
 use Rattle.mc_text.specs.Lines.{max_text}
 use Rattle.mc_text.proofs.RestOfBundleLemmas.{advances, parts_from_current-in_part}
-use Rattle.mc_input.proofs.FeedLemmas.{result_after-append_piece, fact-from_OnOk}
-use Rattle.mc_input.proofs.fed_part.feed_part.Goals as goal
+use Rattle.mc_text.proofs.FedPieceLemmas.{result_after-append_piece, fact-from_OnOk}
+use Rattle.mc_text.proofs.bundle.fed_part.feed_part.Goals as goal
 
 pub returns-in_err-count-clause-advances : goal.returns-in_err-count-clause-advances
 returns-in_err-count-clause-advances g c =

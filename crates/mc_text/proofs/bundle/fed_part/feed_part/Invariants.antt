@@ -3,7 +3,7 @@ use Rattle.mc_text.specs.Lines.{max_text}
 use Rattle.mc_text.specs.declared.bundle.stage.Stage.TheVariants as stages
 use Rattle.mc_text.specs.PartsReading.{parts_from_current}
 use Rattle.mc_text.specs.RestOfBundle.{Advances}
-use Rattle.mc_input.proofs.fed_part.feed_part.Given as goal
+use Rattle.mc_text.proofs.bundle.fed_part.feed_part.Given as goal
 
 abbrev pub invariant-pieces : goal.invariant-pieces
 invariant-pieces g l = record {

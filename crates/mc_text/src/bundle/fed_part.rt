@@ -1,17 +1,22 @@
-//! Feeds parts of a bundle to their readers in pieces.
+//! Feeding a bundle's current part to its reader.
 
 ghost use Rattle.std.specs.Prelude.{◌≡◌, ◌≢◌, ◌<◌, ℕ, List, [], Some, Err, IfErr, OnOk, length};
 ghost use Rattle.mc_text.specs.Device.{failures_after};
-ghost use Rattle.mc_text.specs.PartsReading.{is_read as is_failed, parts_from_current};
-ghost use Rattle.mc_text.specs.RestOfBundle.{Advances};
-ghost use Rattle.mc_input.specs.Feeding.{HasFedPart};
-ghost use Rattle.mc_input.specs.PartsOneByOne.{IsOpened};
+ghost use Rattle.mc_text.specs.PartsReading.{IsOpened, is_read, parts_from_current};
+ghost use Rattle.mc_text.specs.RestOfBundle.{Advances, HasFedPart};
 
-use crate::piece_reader::PieceReader;
-use mc_text::{BundleFault, Input, Parts};
+use crate::bundle::bundle_fault::BundleFault;
+use crate::bundle::parts::Parts;
+use crate::bundle::piece_reader::PieceReader;
+use crate::io::Input;
 
-/// Feeds the whole current part to a reader, in pieces through the buffer.
-pub(crate) fn feed_part<R: Input, P: PieceReader>(
+/// Feeds the whole current part to a reader, in pieces through the buffer, which must not be empty. The
+/// reader must not have been fed anything. The input's count of failures must be below `u64::MAX`.
+///
+/// # Errors
+///
+/// As `Parts::read`, or `Memory` if the reader's is refused.
+pub fn feed_part<R: Input, P: PieceReader>(
     parts: &mut Parts<R>,
     buffer: &mut [u8],
     reader: &mut P,
@@ -30,7 +35,7 @@ pub(crate) fn feed_part<R: Input, P: PieceReader>(
         fault ≢ BundleFault.Read → fault ≢ BundleFault.Memory →
         parts_from_current parts.old [] text ≡ Err fault) }
     ensures advances { Advances parts.old parts.new }
-    ensures failures { parts.new.failed ≡ failures_after is_failed result parts.old.failed }
+    ensures failures { parts.new.failed ≡ failures_after is_read result parts.old.failed }
 {
     'pieces: loop {
         let count = parts.read(buffer)?;

@@ -1,28 +1,14 @@
--- The result of a reader that is fed in pieces.
-use Rattle.std.specs.Prelude.{◌≡◌, ◌≢◌, ℕ, ◌+◌, ◌≤◌, true, List, ◌++◌, length, Option, Some, None}
+-- A reader of a table, which keeps its fault, as a reader that is fed in pieces.
+use Rattle.std.specs.Prelude.{◌≡◌, ◌≢◌, ℕ, ◌+◌, ◌≤◌, List, ◌++◌, length, Option, Some, None}
 use Rattle.std.specs.Prelude.{Result, Ok, Err}
-use Rattle.std.specs.Prelude.{IfErr, IfSome, OnOk, if◌then◌else◌, is_ok, is_some, refl}
-use Rattle.std.proofs.Common.{ap, ◌∙◌, sym, append_assoc, arith}
+use Rattle.std.specs.Prelude.{IfErr, IfSome, OnOk, if◌then◌else◌, is_some, refl}
+use Rattle.std.proofs.Common.{ap, ◌∙◌, sym, arith}
 use Rattle.mc_text.specs.Lines.{LineText, max_text}
 use Rattle.mc_text.specs.declared.memory.Memory.{Memory}
 use Rattle.mc_tables.specs.LinesSoFar.{read_after}
 use Rattle.mc_tables.specs.Steps.{out_of_memory, unless_fault}
 use Rattle.mc_tables.specs.TableSoFar.{TableSoFar, table_if}
 use Rattle.mc_tables.specs.declared.fault.TableFault.{TableFault}
-
--- the bytes of the text before a piece are the piece and the bytes after it
-pub result_after-append_piece : {E : Type 0} (before old new : List ℕ → E) (done piece more : List ℕ)
-    → before (done ++ (piece ++ more)) ≡ old (piece ++ more)
-    → new more ≡ old (piece ++ more) → before ((done ++ piece) ++ more) ≡ new more
-result_after-append_piece before old new done piece more first goes =
-    ap before (append_assoc done piece more) ∙ first ∙ sym goes
-
--- a clause about a taken piece holds if it was taken
-pub fact-from_OnOk : {E P : Type 0} (r : Result (Unit {0}) E) → is_ok r ≡ true → OnOk r P → P
-fact-from_OnOk (Ok u) ok holds = holds
-fact-from_OnOk (Err fault) ok holds = absurd cc
-
--- ---- a reader of a table, which keeps its fault
 
 -- how many bytes count towards the limit: after a fault none
 abbrev pub counted_size : Option TableFault → ℕ → ℕ

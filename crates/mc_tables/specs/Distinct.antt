@@ -1,4 +1,5 @@
--- Numbers that are shown to differ by the slots that they are put in.
+-- How numbers are found to be distinct: each is put into a slot, or to the others if another one
+-- has its slot. Only contracts of private functions use this.
 use Rattle.std.specs.Prelude.{◌≡◌, ◌≢◌, ℕ, ◌*◌, ◌<◌, ◌/◌, ◌%◌, ◌^◌, ◌⊎◌, List, ◌∷◌, [], ◌++◌}
 use Rattle.std.specs.Prelude.{length, slice_index, slice_set}
 use Rattle.std.specs.List.{IsDistinct}
@@ -8,16 +9,17 @@ use Rattle.std.specs.Ordering.{nat_cmp, eq_by_cmp}
 abbrev pub AreDistinct : List ℕ → Type 0
 AreDistinct numbers = IsDistinct (eq_by_cmp nat_cmp) numbers
 
--- the slot of a number among so many
+-- the slot of a number among `slots`: the number times a large odd number modulo 2^64, of that the
+-- upper 32 bits, scaled down to the number of slots
 abbrev pub slot_of : ℕ → ℕ → ℕ
 slot_of slots number =
     number * 11400714819323198485 % 18446744073709551616 / 2 ^ 32 * slots / 2 ^ 32
 
--- what is in the slot of a number
+-- what is in the slot of a number; 0 if nothing is
 abbrev pub number_in_slot : List ℕ → ℕ → ℕ
 number_in_slot slots number = slice_index slots (slot_of (length slots) number)
 
--- the number takes its slot, which was empty
+-- the number was put into its slot, which was empty
 pub record TakesSlot (slots others : List ℕ) (number : ℕ) (slots' others' : List ℕ) : Type 0 where
   pub within : slot_of (length slots) number < length slots
   pub empty : number_in_slot slots number ≡ 0
@@ -25,7 +27,7 @@ pub record TakesSlot (slots others : List ℕ) (number : ℕ) (slots' others' : 
   pub put : slots' ≡ slice_set slots (slot_of (length slots) number) number
   pub same : others' ≡ others
 
--- the number goes to the others, since another one has its slot
+-- the number was put to the others, since another number is in its slot
 pub record GoesToOthers (slots others : List ℕ) (number : ℕ) (slots' others' : List ℕ)
     : Type 0 where
   pub full : number_in_slot slots number ≢ 0
@@ -33,7 +35,7 @@ pub record GoesToOthers (slots others : List ℕ) (number : ℕ) (slots' others'
   pub same : slots' ≡ slots
   pub put : others' ≡ others ++ number ∷ []
 
--- the number was put into its slot or to the others
+-- the number was put into its slot, or to the others
 abbrev pub IsPut : List ℕ → List ℕ → ℕ → List ℕ → List ℕ → Type 0
 IsPut slots others number slots' others' =
     TakesSlot slots others number slots' others' ⊎ GoesToOthers slots others number slots' others'

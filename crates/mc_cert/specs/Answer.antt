@@ -1,4 +1,5 @@
--- The results of steps that may fail, and how a call's result agrees with them.
+-- Steps of reading a certificate that may fail, the places of their faults, and how a call's result
+-- agrees with a step's.
 use Rattle.std.specs.Prelude.{◌≡◌, ℕ, List, ◌++◌, length, Result, codes, decimal}
 use Rattle.mc_cert.specs.declared.fault.At.{At}
 use Rattle.mc_cert.specs.declared.fault.At.TheVariants.{Top, Flow, FlowEntry, Tree}
@@ -10,11 +11,11 @@ use Rattle.mc_text.specs.Steps as Steps
 use Rattle.mc_text.specs.Steps.{map_fault}
 use Rattle.mc_topology.specs.Answer.{read_rows}
 
--- the result of a step, with its fault placed here
+-- the result of a step, whose fault is at this place
 abbrev pub locate_fault : {A : Type 0} → At → Result A CertFaultKind → Result A CertFault
 locate_fault at = map_fault (λ kind. record { place = at; kind = kind })
 
--- the place of the entry with this number of a flow or a tree
+-- the place of the entry with this number, in the flow or the tree at a place
 abbrev pub entry_place : At → ℕ → At
 entry_place Top e = Top
 entry_place (Flow f) e = FlowEntry f e
@@ -22,24 +23,25 @@ entry_place (FlowEntry f old) e = FlowEntry f e
 entry_place (Tree t) e = TreeEntry t e
 entry_place (TreeEntry t old) e = TreeEntry t e
 
--- the fault that a call which takes memory may give in place of any result
+-- the fault that a call which takes memory may give in place of any result: memory ran out
 abbrev pub out_of_memory : CertFault
 out_of_memory = record { place = Top; kind = Memory }
 
--- memory ran out, which depends on no certificate
+-- the fault is that memory ran out, which no certificate decides
 abbrev pub IsOutOfMemory : CertFault → Type 0
 IsOutOfMemory fault = fault ≡ out_of_memory
 
--- a call's result, seen by view, is this one, unless memory runs out
+-- a call's result, seen through a view, is that of the step, unless memory runs out
 abbrev pub Gives : {X Y : Type 0} → (X → Y) → Result X CertFault → Result Y CertFault → Type 0
 Gives = Steps.Gives IsOutOfMemory
 
--- The values of rows, each read by its number, counted from 0, or the first fault.
+-- the earlier values, and after them those of the rows, each read by its number, counted from 0; or
+-- the first fault
 abbrev pub each_row : {D X : Type 0} → (ℕ → D → Result X CertFault) → List X → List D
     → Result (List X) CertFault
 each_row one = read_rows (λ earlier. one (length earlier))
 
--- the text of a place
+-- the text of a place, as a fault is printed with it
 abbrev pub place_text : At → List ℕ
 place_text Top = codes "top"
 place_text (Flow f) = codes "flow " ++ decimal f

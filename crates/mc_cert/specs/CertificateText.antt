@@ -1,5 +1,6 @@
--- The JSON text of a certificate, in version 2: compact, on one line without a line feed, the keys
--- of each object in their order. Names and addresses have no byte that JSON escapes.
+-- The JSON text of a certificate, in version 2 (docs/FORMATS.md, section "Certificate"): compact,
+-- on one line without a line feed, the keys of each object in alphabetical order. Names and
+-- addresses have no byte that JSON escapes.
 use Rattle.std.specs.Prelude.{ℕ, List, [], ◌∷◌, ◌++◌, map, codes, decimal, Option, Some, None}
 use Rattle.std.specs.List.{zip}
 use Rattle.mc_text.specs.Addr.{dotted}
@@ -10,48 +11,51 @@ use Rattle.mc_topology.specs.Topology.{TopologyValue, lan_name, router_name}
 use Rattle.mc_cert.specs.Certificate.{Tree}
 use Rattle.mc_cert.specs.Distinct.{distinct_trees, tree_number_of}
 
--- texts one after the other, the first one after this separator and each other one after a comma
+-- texts one after another: the separator before the first, and a comma before each other
 abbrev pub listed_after : List ℕ → List (List ℕ) → List ℕ
 listed_after separator [] = []
 listed_after separator (s ∷ ss) = separator ++ s ++ listed_after (codes ",") ss
 
--- texts with commas between them
+-- texts one after another, with commas between them
 abbrev pub listed : List (List ℕ) → List ℕ
 listed = listed_after []
 
--- the keys of a forwarder, where there is one
+-- the keys of a forwarder with the comma before them, if there is a forwarder
 abbrev pub forwarder_text : TopologyValue → Option Interface → List ℕ
 forwarder_text t None = []
 forwarder_text t (Some i) =
     codes ",\"router\":\"" ++ router_name t i.0 ++ codes "\",\"vif\":" ++ decimal i.1
 
+-- the object of an entry
 abbrev pub entry_text : TopologyValue → Entry → List ℕ
 entry_text t e =
     codes "{\"lan\":\"" ++ lan_name t e.lan ++ codes "\",\"need\":" ++ decimal e.need
     ++ codes ",\"rank\":" ++ decimal e.rank
     ++ forwarder_text t e.forwarder ++ codes "}"
 
+-- the list of a tree's entries
 abbrev pub tree_text : TopologyValue → Tree → List ℕ
 tree_text t es = codes "[" ++ listed (map (entry_text t) es) ++ codes "]"
 
--- a flow of the topology, and the number of its tree
+-- the object of a flow of the topology, and the number of its tree
 abbrev pub flow_text : Flow → ℕ → List ℕ
 flow_text f tree_no =
     codes "{\"group\":\"" ++ dotted f.group ++ codes "\",\"source\":\"" ++ dotted f.source
     ++ codes "\",\"tree\":" ++ decimal tree_no
     ++ codes "}"
 
+-- the objects of flows, with the numbers of their trees
 abbrev pub flow_texts : List Flow → List ℕ → List (List ℕ)
 flow_texts flows tree_numbers = map (λ p. flow_text p.0 p.1) (zip flows tree_numbers)
 
--- the flows of the topology with these numbers of their trees, and the trees
+-- the text of these trees and of the topology's flows, which have these numbers of their trees
 abbrev pub version_two_text : TopologyValue → List ℕ → List Tree → List ℕ
 version_two_text t tree_numbers trees =
     codes "{\"flows\":[" ++ listed (flow_texts t.flows tree_numbers) ++ codes "],\"trees\":["
     ++ listed (map (tree_text t) trees)
     ++ codes "],\"version\":2}"
 
--- the text of a certificate: its distinct trees, in the order of first use
+-- the text of a certificate, which has each distinct tree once, in the order of first use
 abbrev pub certificate_text : TopologyValue → List Tree → List ℕ
 certificate_text t flows = version_two_text t (map (tree_number_of (distinct_trees flows)) flows)
     (distinct_trees flows)

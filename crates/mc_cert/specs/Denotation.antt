@@ -1,5 +1,5 @@
--- The certificate that a text denotes: the rules of docs/FORMATS.md, over the value that JSON's reader
--- gives.
+-- Which certificate a text denotes: the rules of docs/FORMATS.md, section "Certificate", over the
+-- value that JSON's reader gives.
 use Rattle.std.specs.Prelude.{◌≡◌, ℕ, ◌+◌, ◌≤◌, List, [], ◌∷◌, length, codes, slice_get, IsTrue}
 use Rattle.std.specs.Prelude.{IsUtf8, Option, Some, None}
 use Rattle.serde_json.specs.Data.{Data, unsigned, number, string, array, object, Items, Members}
@@ -24,28 +24,28 @@ use Rattle.mc_cert.specs.VersionTwo.{shared_flow_keys}
 
 -- ---- objects
 
--- the key has this text
+-- under the key there is this text
 abbrev pub HasText : List ℕ → Members → List ℕ → Type 0
 HasText key ms text = get_member key ms ≡ Some (string text)
 
--- the key has this whole number
+-- under the key there is this whole number
 abbrev pub HasNumber : List ℕ → Members → ℕ → Type 0
 HasNumber key ms n = get_member key ms ≡ Some (number (unsigned n))
 
--- the value is a list of these values
+-- the value is a list of these rows
 abbrev pub AreRows : Data → List Data → Type 0
 AreRows d rows = (items : Items) × (d ≡ array items) × (rows ≡ rows_in items)
 
--- the key has a list of these values
+-- under the key there is a list of these rows
 abbrev pub HasRows : List ℕ → Members → List Data → Type 0
 HasRows key ms rows = (d : Data) × (get_member key ms ≡ Some d) × AreRows d rows
 
--- an object with no other keys than the known ones
+-- the value is an object with these members, and with no other keys than the known ones
 pub record IsObject (known : List (List ℕ)) (d : Data) (ms : Members) : Type 0 where
   pub members : d ≡ object ms
   pub keys : IsTrue (has_only known ms)
 
--- each row, by its number, denotes its value
+-- each row denotes its value, in order; the first row has the number n
 abbrev pub EachDenotes : {X : Type 0} → (ℕ → Data → X → Type 0) → ℕ → List Data → List X → Type 0
 EachDenotes Denotation n [] [] = Unit {0}
 EachDenotes Denotation n [] (x ∷ xs) = ⊥
@@ -54,7 +54,7 @@ EachDenotes Denotation n (d ∷ ds) (x ∷ xs) = Denotation n d x × EachDenotes
 
 -- ---- entries
 
--- the name of a router and the number of one of its vifs
+-- two values denote an interface: the name of a router, and the number of one of its vifs, up to 31
 pub record DenotesInterface (routers : List RouterRow) (d v : Data) (i : Interface) : Type 0 where
   pub name : List ℕ
   pub router_text : d ≡ string name
@@ -62,7 +62,8 @@ pub record DenotesInterface (routers : List RouterRow) (d v : Data) (i : Interfa
   pub vif : v ≡ number (unsigned i.1)
   pub vif_to : i.1 ≤ 31
 
--- a router and a vif together, or neither
+-- two values denote a forwarder: there are both, and they denote its interface, or neither, and
+-- there is no forwarder
 abbrev pub DenotesForwarder : List RouterRow → Option Data → Option Data → Option Interface → Type 0
 DenotesForwarder routers None None forwarder = forwarder ≡ None
 DenotesForwarder routers None (Some v) forwarder = ⊥
@@ -70,7 +71,8 @@ DenotesForwarder routers (Some d) None forwarder = ⊥
 DenotesForwarder routers (Some d) (Some v) forwarder =
     (i : Interface) × (forwarder ≡ Some i) × DenotesInterface routers d v i
 
--- an object of the name of a LAN, its need and rank, and where there is one its forwarder
+-- a value denotes an entry: an object of a LAN's name, a need, a rank, and, if there is one, a
+-- forwarder
 pub record DenotesEntry (t : TopologyValue) (d : Data) (e : Entry) : Type 0 where
   pub members : Members
   pub lan_name : List ℕ
@@ -85,14 +87,15 @@ pub record DenotesEntry (t : TopologyValue) (d : Data) (e : Entry) : Type 0 wher
   pub forwarder : DenotesForwarder t.routers (get_member (codes "router") members)
       (get_member (codes "vif") members) e.forwarder
 
--- at most 1,024 entries, in any order
+-- rows denote the entries of a tree: at most 1,024, in any order
 pub record DenotesEntries (t : TopologyValue) (rows : List Data) (es : Tree) : Type 0 where
   pub few : length rows ≤ 1024
   pub each : EachDenotes (λ _. DenotesEntry t) 0 rows es
 
 -- ---- version 1
 
--- an object of the group and the source of the topology's flow with this number, and its entries
+-- a value denotes the tree of the topology's flow with this number: an object of the flow's group,
+-- its source and the entries
 pub record DenotesFlow (t : TopologyValue) (n : ℕ) (d : Data) (es : Tree) : Type 0 where
   pub flow : Flow
   pub members : Members
@@ -104,7 +107,8 @@ pub record DenotesFlow (t : TopologyValue) (n : ℕ) (d : Data) (es : Tree) : Ty
   pub list : HasRows (codes "reached") members rows
   pub entries : DenotesEntries t rows es
 
--- one object for each flow of the topology, in order
+-- an object denotes a tree for each flow of the topology: it has an object for each of them, in
+-- order
 pub record DenotesVersionOne (t : TopologyValue) (ms : Members) (flows : List Tree) : Type 0 where
   pub rows : List Data
   pub list : HasRows (codes "flows") ms rows
@@ -113,14 +117,14 @@ pub record DenotesVersionOne (t : TopologyValue) (ms : Members) (flows : List Tr
 
 -- ---- version 2
 
--- a list of entries
+-- a value denotes a tree: a list of its entries
 pub record DenotesTree (t : TopologyValue) (d : Data) (es : Tree) : Type 0 where
   pub rows : List Data
   pub list : AreRows d rows
   pub entries : DenotesEntries t rows es
 
--- an object of the group and the source of the topology's flow with this number, and the number of
--- its tree
+-- a value denotes the tree of the topology's flow with this number: an object of the flow's group,
+-- its source and the number of the tree
 pub record DenotesSharedFlow (t : TopologyValue) (trees : List Tree) (n : ℕ) (d : Data)
     (es : Tree) : Type 0 where
   pub flow : Flow
@@ -133,8 +137,8 @@ pub record DenotesSharedFlow (t : TopologyValue) (trees : List Tree) (n : ℕ) (
   pub tree_number : HasNumber (codes "tree") members number
   pub tree : slice_get trees number ≡ Some es
 
--- at most 4,096 trees, which may be equal and may be used by no flow, and one object for each flow of
--- the topology, in order
+-- an object denotes a tree for each flow of the topology: it has at most 4,096 trees, of which some
+-- may be equal and some that of no flow, and an object for each flow, in order
 pub record DenotesVersionTwo (t : TopologyValue) (ms : Members) (flows : List Tree) : Type 0 where
   pub rows : List Data
   pub tree_rows : List Data
@@ -146,19 +150,20 @@ pub record DenotesVersionTwo (t : TopologyValue) (ms : Members) (flows : List Tr
   pub each_tree : EachDenotes (λ _. DenotesTree t) 0 tree_rows trees
   pub each : EachDenotes (DenotesSharedFlow t trees) 0 rows flows
 
--- ---- the whole
+-- ---- the text
 
--- the number of a version, and what an object of it denotes
+-- the number of a version
 abbrev pub version_no : Version → ℕ
 version_no One = 1
 version_no Two = 2
 
+-- an object of a version denotes a tree for each flow of the topology
 abbrev pub DenotesVersion : Version → TopologyValue → Members → List Tree → Type 0
 DenotesVersion One = DenotesVersionOne
 DenotesVersion Two = DenotesVersionTwo
 
--- a text of at most 16,777,216 bytes in UTF-8 that JSON's reader accepts, of an object of one of the
--- two versions
+-- a text denotes a certificate: it has at most 16,777,216 bytes, is UTF-8, and JSON's reader
+-- accepts it as an object of one of the two versions that denotes the certificate's trees
 pub record DenotesCertificate (t : TopologyValue) (text : List ℕ) (flows : List Tree) : Type 0 where
   pub document : Members
   pub version : Version

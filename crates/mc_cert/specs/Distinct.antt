@@ -1,4 +1,4 @@
--- The distinct trees of a certificate's flows, and the number of each flow's tree among them.
+-- The distinct trees of a certificate's flows, and the number that each flow's tree has among them.
 use Rattle.std.specs.Prelude.{ℕ, ◌==◌, ◌&&◌, Bool, List, [], ◌∷◌, ◌++◌, fold, position, Option}
 use Rattle.std.specs.Prelude.{is_some, unwrap_or, if◌then◌else◌}
 use Rattle.std.specs.Option.{option_eq}
@@ -7,15 +7,17 @@ use Rattle.mc_theory.specs.Nets.{Interface}
 use Rattle.mc_theory.specs.Certificates.{Entry}
 use Rattle.mc_cert.specs.Certificate.{Tree}
 
--- two interfaces, two entries, and two trees, entry by entry in order, are equal
+-- whether two interfaces are equal
 abbrev pub same_interface : Interface → Interface → Bool
 same_interface i j = i.0 == j.0 && i.1 == j.1
 
+-- whether two entries are equal
 abbrev pub same_entry : Entry → Entry → Bool
 same_entry a b =
     a.lan == b.lan && (a.rank == b.rank && (a.need == b.need
     && option_eq same_interface a.forwarder b.forwarder))
 
+-- whether two trees are equal, entry by entry in order
 abbrev pub same_tree : Tree → Tree → Bool
 same_tree = pointwise same_entry
 
@@ -23,14 +25,14 @@ same_tree = pointwise same_entry
 abbrev pub find_tree : List Tree → Tree → Option ℕ
 find_tree trees es = position (same_tree es) trees
 
--- the trees with one more at the end if it is new
+-- the trees, and after them one more if it is none of them
 abbrev pub with_tree : List Tree → Tree → List Tree
 with_tree trees es = if is_some (find_tree trees es) then trees else trees ++ es ∷ []
 
--- the distinct trees of flows, in the order of first use
+-- the distinct ones of the flows' trees, in the order of first use
 abbrev pub distinct_trees : List Tree → List Tree
 distinct_trees = fold with_tree []
 
--- the number of a tree that is one of these trees
+-- the number of a tree among these trees; 0 if it is none of them
 abbrev pub tree_number_of : List Tree → Tree → ℕ
 tree_number_of trees es = unwrap_or (find_tree trees es) 0

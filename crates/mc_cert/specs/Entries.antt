@@ -1,4 +1,5 @@
--- The entries of a flow or a tree, each a LAN that the packets of a flow reach.
+-- The entries that are read of a flow or a tree, or the first fault. Each is a LAN that the packets
+-- of a flow reach. Faults have the order of docs/FORMATS.md.
 use Rattle.std.specs.Prelude.{ℕ, ◌+◌, List, [], ◌∷◌, codes, Option, Some, None, Result, Ok, Err}
 use Rattle.std.specs.Prelude.{ok_or}
 use Rattle.serde_json.specs.Data.{Data, Members}
@@ -17,23 +18,24 @@ use Rattle.mc_cert.specs.declared.fault.CertFault.{CertFault}
 use Rattle.mc_cert.specs.Answer.{locate_fault, entry_place, each_row}
 use Rattle.mc_cert.specs.Object.{text_of, number_of, text_at, whole_at, in_range, object_of}
 
--- the keys of an entry
+-- the keys of an entry's object
 abbrev pub entry_keys : List (List ℕ)
 entry_keys = codes "lan" ∷ codes "need" ∷ codes "rank" ∷ codes "router" ∷ codes "vif" ∷ []
 
--- the LAN with the name under `lan`
+-- the number of the LAN whose name is under `lan` (else UnknownName)
 unfoldable pub lan_in : List (List ℕ) → Members → Result ℕ CertFaultKind
 lan_in lans ms = text_at (codes "lan") ms >>= λ name. ok_or (index_of name lans) UnknownName
 
--- the router with this name
+-- the number of the router whose name the value is (else UnknownName)
 unfoldable pub router_of : List RouterRow → Data → Result ℕ CertFaultKind
 router_of routers d = text_of d >>= λ name. ok_or (router_no_of name routers) UnknownName
 
--- a vif is 0 to 31
+-- the vif that a value has to be: a whole number up to 31 (else BadNumber)
 unfoldable pub vif_of : Data → Result ℕ CertFaultKind
 vif_of d = number_of d >>= λ n. in_range 0 31 (as_u64 n)
 
--- the interface of a router and its vif, which are both there or both missing
+-- the interface of a router and its vif, if there are both; where there is one alone, the other is
+-- missing (MissingKey)
 unfoldable pub forwarder_of : List RouterRow → Option Data → Option Data
     → Result (Option Interface) CertFaultKind
 forwarder_of routers None None = Ok None
@@ -44,11 +46,11 @@ forwarder_of routers (Some d) (Some v) = do
   vif ← vif_of v
   Ok (Some (router, vif))
 
--- An entry. It has to be an object (else BadKind) of no other keys (UnknownKey). Then each key
--- wholly before the next: `lan`, `need` and `rank` have to be there (MissingKey), and `router` and
--- `vif` where the other one is (MissingKey); `lan` and `router` are texts and the others numbers
--- (BadKind); `need` is a whole number from 1 to 255, `rank` one up to 255 and `vif` one up to 31
--- (BadNumber); and a LAN and a router have the names (UnknownName).
+-- An entry. It has to be an object (else BadKind) with no other keys than these (UnknownKey). Then
+-- comes each key wholly before the next: `lan`, `need` and `rank` have to be there (MissingKey),
+-- and `router` and `vif` each where the other one is (MissingKey); `lan` and `router` are texts and
+-- the others numbers (BadKind); `need` is a whole number from 1 to 255, `rank` one up to 255 and
+-- `vif` one up to 31 (BadNumber); a LAN and a router have the names (UnknownName).
 unfoldable pub entry_of : TopologyValue → Data → Result Entry CertFaultKind
 entry_of t d = do
   members ← object_of entry_keys d
@@ -59,6 +61,7 @@ entry_of t d = do
       (get_member (codes "vif") members)
   Ok (record { lan = lan; rank = rank; need = need; forwarder = forwarder })
 
--- the entries of a flow or a tree, from the first one, each with its number, counted from 1
+-- the entries of the flow or the tree at a place, each with its number, counted from 1; or the
+-- first fault
 unfoldable pub entries_of : TopologyValue → At → List Data → Result (List Entry) CertFault
 entries_of t at rows = each_row (λ n d. locate_fault (entry_place at (n + 1)) (entry_of t d)) [] rows

@@ -4,6 +4,7 @@ use Rattle.mc_cert.specs.declared.key.Key.{Key}
 use Rattle.mc_cert.specs.declared.key.Key.TheVariants.{Flows, Group, Lan, Need, Rank, Reached, Router, Source}
 use Rattle.mc_cert.specs.declared.key.Key.TheVariants.{Tree, Trees, Version, Vif}
 
+-- the name of a key
 abbrev pub key_name : Key → List ℕ
 key_name Flows = codes "flows"
 key_name Group = codes "group"

@@ -1,4 +1,5 @@
--- The certificate that a text denotes, or its first fault, in the order in which a text is checked.
+-- The certificate that a text is read as, or its first fault. Faults have the order of
+-- docs/FORMATS.md.
 use Rattle.std.specs.Prelude.{ℕ, ◌==◌, nat_le, List, [], ◌∷◌, length, codes, Option, Some, None}
 use Rattle.std.specs.Prelude.{Result, Ok, Err, ok_or, if◌then◌else◌}
 use Rattle.std.specs.Str.{is_utf8}
@@ -20,42 +21,45 @@ use Rattle.mc_cert.specs.Object.{has_only, number_at}
 use Rattle.mc_cert.specs.VersionOne.{flows_in}
 use Rattle.mc_cert.specs.VersionTwo.{shared_flows_in}
 
--- the value of a text, which is UTF-8 and JSON (else NotJson)
+-- the value of a text, which has to be UTF-8 and JSON (else NotJson)
 unfoldable pub parse_json : List ℕ → Result Data CertFaultKind
 parse_json text = if is_utf8 text then ok_or (read text) NotJson else Err NotJson
 
--- a text has to have at most 16,777,216 bytes (else TooMany), and then to be JSON
+-- the value of a text, which has to have at most 16,777,216 bytes (else TooMany) and then to be
+-- JSON
 unfoldable pub parse_bounded_json : List ℕ → Result Data CertFaultKind
 parse_bounded_json text = if nat_le (length text) 16777216 then parse_json text else Err TooMany
 
--- the value of a text is an object (else BadKind)
+-- the members of the object that a value has to be (else BadKind)
 abbrev pub members_of : Data → Result Members CertFaultKind
 members_of d = ok_or (as_object d) BadKind
 
--- the version with this number, where the number is whole at all (else BadVersion)
+-- the version of this number, which has to be a whole one, and 1 or 2 (else BadVersion)
 abbrev pub version_of : Option ℕ → Result Version CertFaultKind
 version_of None = Err BadVersion
 version_of (Some n) = if n == 1 then Ok One else if n == 2 then Ok Two else Err BadVersion
 
--- the keys of a certificate
+-- the keys of a certificate of this version
 abbrev pub top_keys : Version → List (List ℕ)
 top_keys One = codes "flows" ∷ codes "version" ∷ []
 top_keys Two = codes "flows" ∷ codes "trees" ∷ codes "version" ∷ []
 
--- The key `version` has to be there (else MissingKey), to be a number (BadKind), and to be 1 or 2
--- (BadVersion), and then there has to be no other key than that version's (UnknownKey).
+-- The version of a certificate. The key `version` has to be there (else MissingKey), to be a number
+-- (BadKind), and to be 1 or 2 (BadVersion), and then there may be no other keys than that version's
+-- (UnknownKey).
 unfoldable pub version_in : Members → Result Version CertFaultKind
 version_in ms = do
   number ← number_at (codes "version") ms
   version ← version_of (as_u64 number)
   if has_only (top_keys version) ms then Ok version else Err UnknownKey
 
--- the trees of an object of this version
+-- the tree of each flow, of a certificate of this version
 unfoldable pub flows_of_version : Version → TopologyValue → Members → Result (List Tree) CertFault
 flows_of_version One t ms = flows_in t ms
 flows_of_version Two t ms = shared_flows_in t ms
 
--- the certificate of a text: first the text as a whole, at `top`, and then its flows
+-- the certificate of a text: first the text as a whole, whose faults are at `top`, and then its
+-- flows
 unfoldable pub parse_certificate : TopologyValue → List ℕ → Result (List Tree) CertFault
 parse_certificate t text = do
   value ← locate_fault Top (parse_bounded_json text)

@@ -1,4 +1,5 @@
--- The flows of version 1, each with its own entries.
+-- The flows that are read of a certificate of version 1, each with its own entries, or the first
+-- fault. Faults have the order of docs/FORMATS.md.
 use Rattle.std.specs.Prelude.{ℕ, ◌+◌, ◌==◌, ◌&&◌, Bool, List, [], ◌∷◌, length, codes, slice_get}
 use Rattle.std.specs.Prelude.{Result, Ok, Err, ok_or, if◌then◌else◌}
 use Rattle.std.specs.Str.{bytes_eq}
@@ -16,29 +17,29 @@ use Rattle.mc_cert.specs.Certificate.{Tree}
 use Rattle.mc_cert.specs.Entries.{entries_of}
 use Rattle.mc_cert.specs.Object.{object_of, text_at, list_at, at_most}
 
--- the texts are the flow's group and its source
+-- whether the texts are the flow's group and its source
 abbrev pub are_texts_of_flow : Flow → List ℕ → List ℕ → Bool
 are_texts_of_flow f group source = bytes_eq group (dotted f.group) && bytes_eq source (dotted f.source)
 
--- the flow of the topology with this number
+-- the flow of the topology with this number, which has to be there (else WrongFlows)
 abbrev pub flow_at : TopologyValue → ℕ → Result Flow CertFaultKind
 flow_at t n = ok_or (slice_get t.flows n) WrongFlows
 
--- The list of flows has to be there (else MissingKey), to be a list (BadKind), and to have as many
--- flows as the topology (WrongFlows). This is the same in both versions.
+-- The rows of the flows, in both versions. The key `flows` has to be there (else MissingKey), to be
+-- a list (BadKind), and to have as many rows as the topology has flows (WrongFlows).
 unfoldable pub flow_rows : TopologyValue → Members → Result (List Data) CertFaultKind
 flow_rows t ms = do
   rows ← list_at (codes "flows") ms
   if length rows == length t.flows then Ok rows else Err WrongFlows
 
--- the keys of a flow
+-- the keys of a flow's object
 abbrev pub flow_keys : List (List ℕ)
 flow_keys = codes "group" ∷ codes "reached" ∷ codes "source" ∷ []
 
--- A flow, which has to be an object (else BadKind) of no other keys (UnknownKey). Then `group`,
--- `reached` and `source`, in this order, each have to be there (MissingKey), and to be a text, a
--- list and a text (BadKind). The group and the source are those of the topology's flow
--- (WrongFlows), and there are at most 1,024 entries (TooMany).
+-- The rows of a flow's entries. The flow has to be an object (else BadKind) with no other keys than
+-- these (UnknownKey). Then come the keys `group`, `reached` and `source`, in this order: each has
+-- to be there (MissingKey), as a text, a list and a text (BadKind). Then the group and the source
+-- have to be those of the topology's flow (WrongFlows), and the entries at most 1,024 (TooMany).
 unfoldable pub reached_rows : Flow → Data → Result (List Data) CertFaultKind
 reached_rows f d = do
   members ← object_of flow_keys d
@@ -47,14 +48,15 @@ reached_rows f d = do
   source ← text_at (codes "source") members
   if are_texts_of_flow f group source then at_most 1024 rows else Err WrongFlows
 
--- the flow with this number, counted from 0, and then its entries
+-- the tree of the flow with this number, counted from 0; first come the flow's own faults, and then
+-- those of its entries
 unfoldable pub flow_of : TopologyValue → ℕ → Data → Result Tree CertFault
 flow_of t n d = do
   flow ← locate_fault (at.Flow (n + 1)) (flow_at t n)
   rows ← locate_fault (at.Flow (n + 1)) (reached_rows flow d)
   entries_of t (at.Flow (n + 1)) rows
 
--- the flows, from the first one
+-- the tree of each flow, in order, or the first fault
 unfoldable pub flows_in : TopologyValue → Members → Result (List Tree) CertFault
 flows_in t ms = do
   rows ← locate_fault at.Top (flow_rows t ms)

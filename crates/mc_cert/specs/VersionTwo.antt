@@ -1,4 +1,5 @@
--- The trees of version 2, and the flows, each with the number of its tree.
+-- The trees that are read of a certificate of version 2, and its flows, each with the number of its
+-- tree; or the first fault. Faults have the order of docs/FORMATS.md.
 use Rattle.std.specs.Prelude.{ℕ, ◌+◌, nat_lt, List, [], ◌∷◌, length, map, codes, Option, Some, None}
 use Rattle.std.specs.Prelude.{Result, Ok, Err, if◌then◌else◌}
 use Rattle.serde_json.specs.Data.{Data, Members}
@@ -16,34 +17,36 @@ use Rattle.mc_cert.specs.Entries.{entries_of}
 use Rattle.mc_cert.specs.Object.{object_of, list_of, text_at, number_at, list_at, at_most}
 use Rattle.mc_cert.specs.VersionOne.{are_texts_of_flow, flow_at, flow_rows}
 
--- The list of trees has to be there (else MissingKey), to be a list (BadKind), and to have at most
--- 4,096 of them (TooMany).
+-- The rows of the trees. The key `trees` has to be there (else MissingKey), to be a list (BadKind),
+-- and to have at most 4,096 rows (TooMany).
 unfoldable pub tree_rows : Members → Result (List Data) CertFaultKind
 tree_rows ms = list_at (codes "trees") ms >>= at_most 4096
 
--- a tree has to be a list (else BadKind) of at most 1,024 entries (TooMany)
+-- the rows of a tree's entries: the tree has to be a list (else BadKind) of at most 1,024 (TooMany)
 unfoldable pub tree_entry_rows : Data → Result (List Data) CertFaultKind
 tree_entry_rows d = list_of d >>= at_most 1024
 
--- a tree, with its entries
+-- the tree with this number, counted from 0; first come its own faults, and then those of its
+-- entries
 unfoldable pub tree_of : TopologyValue → ℕ → Data → Result Tree CertFault
 tree_of t n d = do
   rows ← locate_fault (at.Tree (n + 1)) (tree_entry_rows d)
   entries_of t (at.Tree (n + 1)) rows
 
--- a whole number below a count, where the number is whole at all
+-- the number, which has to be whole, and below the count (else BadNumber)
 abbrev pub below_count : ℕ → Option ℕ → Result ℕ CertFaultKind
 below_count count None = Err BadNumber
 below_count count (Some n) = if nat_lt n count then Ok n else Err BadNumber
 
--- the keys of a flow
+-- the keys of a flow's object
 abbrev pub shared_flow_keys : List (List ℕ)
 shared_flow_keys = codes "group" ∷ codes "source" ∷ codes "tree" ∷ []
 
--- A flow, which has to be an object (else BadKind) of no other keys (UnknownKey). Then `group`,
--- `source` and `tree`, in this order, each have to be there (MissingKey), and to be a text, a text
--- and a number (BadKind). The number is a whole one below the number of trees (BadNumber), and the
--- group and the source are those of the topology's flow (WrongFlows).
+-- The number of a flow's tree. The flow has to be an object (else BadKind) with no other keys than
+-- these (UnknownKey). Then come the keys `group`, `source` and `tree`, in this order: each has to
+-- be there (MissingKey), as a text, a text and a number (BadKind). Then the number has to be a
+-- whole one below the number of trees (BadNumber), and the group and the source have to be those of
+-- the topology's flow (WrongFlows).
 unfoldable pub tree_no_of : Flow → ℕ → Data → Result ℕ CertFaultKind
 tree_no_of f trees d = do
   members ← object_of shared_flow_keys d
@@ -53,13 +56,14 @@ tree_no_of f trees d = do
   tree ← below_count trees (as_u64 number)
   if are_texts_of_flow f group source then Ok tree else Err WrongFlows
 
--- the flow with this number, counted from 0
+-- the number of the tree of the flow with this number, counted from 0
 unfoldable pub shared_flow_of : TopologyValue → ℕ → ℕ → Data → Result ℕ CertFault
 shared_flow_of t trees n d = do
   flow ← locate_fault (at.Flow (n + 1)) (flow_at t n)
   locate_fault (at.Flow (n + 1)) (tree_no_of flow trees d)
 
--- the two lists, then the trees from the first one, and then the flows from the first one
+-- the tree of each flow, in order, or the first fault: first those of the two lists, then those of
+-- the trees, and then those of the flows
 unfoldable pub shared_flows_in : TopologyValue → Members → Result (List Tree) CertFault
 shared_flows_in t ms = do
   rows ← locate_fault at.Top (flow_rows t ms)

@@ -1,4 +1,5 @@
--- The slots of a domain: its parts in their fixed order, and the two names of each.
+-- The slots of a domain: the places of its parts in their fixed order, and the two names of each,
+-- in a bundle and in a folder (docs/FORMATS.md).
 use Rattle.std.specs.Prelude.{ℕ, Bool, true, false, List, [], ◌∷◌, ◌++◌, codes, map, flat_map}
 use Rattle.std.specs.Prelude.{Option, Some, None}
 use Rattle.mc_topology.specs.SectionRows.{RouterRow}
@@ -6,7 +7,7 @@ use Rattle.mc_topology.specs.Topology.{TopologyValue}
 use Rattle.mc_files.specs.declared.slot.SlotKind.{SlotKind}
 use Rattle.mc_files.specs.declared.slot.SlotKind.TheVariants.{Topology, Vifs, Cache, Reports, Certificate}
 
--- the word of a kind of parts
+-- the word for a kind of slots
 abbrev pub kind_word : SlotKind → List ℕ
 kind_word Topology = codes "topology"
 kind_word Vifs = codes "vif"
@@ -14,56 +15,59 @@ kind_word Cache = codes "cache"
 kind_word Reports = codes "igmp"
 kind_word Certificate = codes "certificate"
 
--- one of the parts of a domain: its kind, and its owner
+-- a slot: what is in it, and whose it is
 pub record Slot : Type 0 where
-  -- its kind's word
+  -- the word for its kind
   pub kind : List ℕ
-  -- the router or LAN that it belongs to
+  -- the router or the LAN that it belongs to, if it belongs to one
   pub owner : Option (List ℕ)
 
--- the kind, and if there is an owner also a separator and the owner's name
+-- the kind, and after it, if there is an owner, `between` and the owner's name
 abbrev pub joined : (between kind : List ℕ) → Option (List ℕ) → List ℕ
 joined between kind None = kind
 joined between kind (Some owner) = kind ++ (between ++ owner)
 
--- the name of the part in a bundle
+-- the name of the slot's part in a bundle
 abbrev pub part_name : Slot → List ℕ
 part_name slot = joined (codes "/") slot.kind slot.owner
 
--- the name of the file in a folder
+-- the name of the slot's file in a folder
 abbrev pub file_name : Slot → List ℕ
 file_name slot = joined (codes "-") slot.kind slot.owner
 
 -- ---- the slots of a domain
 
+-- the slot of the topology
 abbrev pub topology_slot : Slot
 topology_slot = record { kind = kind_word Topology; owner = None }
 
--- a router's vifs
+-- the slot of a router's vif table
 abbrev pub vif_slot : (router : List ℕ) → Slot
 vif_slot router = record { kind = kind_word Vifs; owner = Some router }
 
--- a router's forwarding cache
+-- the slot of a router's cache
 abbrev pub cache_slot : (router : List ℕ) → Slot
 cache_slot router = record { kind = kind_word Cache; owner = Some router }
 
--- the reports of a LAN
+-- the slot of a LAN's list of reports
 abbrev pub reports_slot : (lan : List ℕ) → Slot
 reports_slot lan = record { kind = kind_word Reports; owner = Some lan }
 
+-- the slot of the certificate
 abbrev pub certificate_slot : Slot
 certificate_slot = record { kind = kind_word Certificate; owner = None }
 
--- a router's two tables
+-- the slots of a router's two tables
 abbrev pub router_slots : RouterRow → List Slot
 router_slots r = vif_slot r.name ∷ cache_slot r.name ∷ []
 
--- the certificate's slot, if the domain has a certificate
+-- the slot of the certificate, if the domain has one
 abbrev pub certificate_slots : (certified : Bool) → List Slot
 certificate_slots true = certificate_slot ∷ []
 certificate_slots false = []
 
--- the slots after the topology's: those of the routers, of the LANs, and of the certificate
+-- the slots after the topology's: those of the routers, those of the LANs, and that of the
+-- certificate
 abbrev pub slots_after_topology : (certified : Bool) → TopologyValue → List Slot
 slots_after_topology certified t =
     flat_map router_slots t.routers ++ (map reports_slot t.lans ++ certificate_slots certified)

@@ -1,4 +1,4 @@
--- The bundle that is packed of a folder's files.
+-- The bundle that a folder's files are packed into.
 use Rattle.std.specs.Prelude.{◌≡◌, ℕ, Bool, List, [], ◌∷◌, codes, Some, ⊤}
 use Rattle.mc_text.specs.Bundle.{PartText, AreWithinLimits}
 use Rattle.mc_topology.specs.Topology.{TopologyValue}
@@ -6,7 +6,8 @@ use Rattle.mc_topology.specs.Denotation.{DenotesBoundedTopology}
 use Rattle.mc_files.specs.Files.{FileText, file_named}
 use Rattle.mc_files.specs.Layout.{Slot, file_name, part_name, slots}
 
--- a part for each slot, of its name, with the bytes of its file
+-- there is a part for each slot: it has the slot's name in a bundle, and the bytes of the slot's
+-- file
 abbrev pub ArePacked : List FileText → List Slot → List PartText → Type 0
 ArePacked files [] [] = ⊤
 ArePacked files (slot ∷ others) (part ∷ parts) =
@@ -14,9 +15,9 @@ ArePacked files (slot ∷ others) (part ∷ parts) =
     × ArePacked files others parts
 ArePacked files _ _ = ⊥
 
--- The parts of the bundle that is packed of the files: the first denotes a topology within the bounds of
--- what is read, and the others are made of the files of that topology's slots, in order. They are within
--- the limits of a bundle.
+-- These are the parts of the bundle that the files are packed into: the file `topology` denotes a
+-- topology within the bounds of what is read, and each slot of that topology has its part, in
+-- order. They are within the limits of a bundle.
 pub record IsPacked (files : List FileText) (certified : Bool) (parts : List PartText) : Type 0
   where
     pub text : List ℕ

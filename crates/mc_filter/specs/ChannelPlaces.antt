@@ -1,5 +1,5 @@
--- Whether the hosts of a LAN want a channel: a source and a group (RFC 4607, section 1); and the places of
--- channels in their index, which only contracts of private functions use.
+-- Whether the hosts of a LAN want a channel, which is a source and a group (RFC 4607, section 1);
+-- and where channels are in their index, which only contracts of private functions use.
 use Rattle.std.specs.Prelude.{◌≡◌, ◌↔◌, ℕ, ◌<◌, Bool, IsTrue, false, List, [], length, get_or, map}
 use Rattle.std.specs.Prelude.{Contains}
 use Rattle.std.specs.List.{All}
@@ -10,7 +10,8 @@ use Rattle.mc_filter.specs.declared.tally.Tally.{Tally}
 use Rattle.mc_igmp.specs.Wants.{Wants}
 use Rattle.mc_filter.specs.Tallies.{IsTallyOf, channel_numbered}
 
--- the answer is yes exactly if the hosts that report these records want the channel
+-- the answer is yes exactly if the hosts that report these records want the channel, a source and a
+-- group
 abbrev pub IsWantedAnswer : List Record → ℕ × ℕ → Bool → Type 0
 IsWantedAnswer records channel answer = IsTrue answer ↔ Wants records channel.1 channel.0
 
@@ -18,16 +19,17 @@ IsWantedAnswer records channel answer = IsTrue answer ↔ Wants records channel.
 abbrev pub channel_at : List ℕ → ChannelPlace → ℕ × ℕ
 channel_at channels place = channel_numbered channels place.channel
 
--- the place is one of a group, and of a channel of that group
+-- the place is that of a group among the groups, and of a channel of that group among the channels
 pub record IsChannelPlace (groups channels : List ℕ) (place : ChannelPlace) : Type 0 where
   pub group : place.group < length groups
   pub channel : place.channel < length channels
   pub is : get_or groups place.group 0 ≡ (channel_at channels place).1
 
--- each group, and each channel, of an index is that of a channel
+-- each group of an index is that of a channel
 abbrev pub AreGroupsOf : (groups : List ℕ) → (channels : List (ℕ × ℕ)) → Type 0
 AreGroupsOf groups channels = All (λ group. Contains (map (λ channel. channel.1) channels) group) groups
 
+-- each number of an index is that of a channel
 abbrev pub AreNumbersOf : (numbers : List ℕ) → (channels : List (ℕ × ℕ)) → Type 0
 AreNumbersOf numbers channels = All (λ number. Contains channels (pair_of number)) numbers
 
@@ -35,12 +37,12 @@ AreNumbersOf numbers channels = All (λ number. Contains channels (pair_of numbe
 abbrev pub IsAnswerAtPlace : List ℕ → List Record → ChannelPlace → Bool → Type 0
 IsAnswerAtPlace channels records place answer = IsWantedAnswer records (channel_at channels place) answer
 
--- the answers are right, place by place
+-- each answer is right for the channel at its place
 abbrev pub AreAnswersAtPlaces : List ℕ → List Record → List ChannelPlace → List Bool → Type 0
 AreAnswersAtPlaces channels records places answers = (i : ℕ) (d : ChannelPlace) → i < length answers
     → IsAnswerAtPlace channels records (get_or places i d) (get_or answers i false)
 
--- The answers are right for the channels at the places, for whatever groups, channels and records the
+-- Each answer is right for the channel at its place, whatever groups, channels and records the
 -- tally counts.
 abbrev pub AreAnswersOfTally : Tally → List ChannelPlace → List Bool → Type 0
 AreAnswersOfTally tally places answers = (groups channels : List ℕ) (records : List Record) →

@@ -1,4 +1,5 @@
--- What the reports of a LAN ask for, beside channels: sources and groups (RFC 4607, section 1).
+-- Whether the reports of a LAN ask for no more than channels: pairs of a source and a group (RFC
+-- 4607, section 1).
 use Rattle.std.specs.Prelude.{ℕ, ◌==◌, ◌&&◌, Bool, IsTrue, List, Contains}
 use Rattle.std.specs.List.{All, list_any}
 use Rattle.mc_igmp.specs.declared.record.Record.{Record}
@@ -6,13 +7,14 @@ use Rattle.mc_igmp.specs.declared.record.Kind.{Kind}
 use Rattle.mc_igmp.specs.declared.record.Kind.TheVariants as kind
 use Rattle.mc_filter.specs.FilterBuilding.{wanted}
 
--- a channel of the group is wanted
+-- whether a channel of the group is wanted
 abbrev pub is_wanted_group : (channels : List (ℕ × ℕ)) → List Record → ℕ → Bool
 is_wanted_group channels records group =
     list_any (λ channel. (channel.1 == group) && wanted records group channel.0) channels
 
--- Wanted channels are all that a record of a kind asks for. EXCLUDE asks for its group from any source, which a wanted
--- channel of the group answers, and INCLUDE for it from each source of its list.
+-- A record of a kind asks for no more than the channels. EXCLUDE asks for its group from any
+-- source, and a wanted channel of the group answers that. INCLUDE asks for the group from each
+-- source of its list, and each of these makes a channel. Other kinds ask for nothing.
 abbrev pub AreAllOfKind : Kind → (channels : List (ℕ × ℕ)) → List Record → (group : ℕ) → (sources : List ℕ)
     → Type 0
 AreAllOfKind kind.Exclude channels records group sources = IsTrue (is_wanted_group channels records group)
@@ -20,7 +22,7 @@ AreAllOfKind kind.Include channels records group sources = All (λ s. Contains c
 AreAllOfKind (kind.Change type) channels records group sources = Unit {0}
 AreAllOfKind (kind.Unknown type) channels records group sources = Unit {0}
 
--- wanted channels are all that the records ask for
+-- the records ask for no more than the channels
 abbrev pub AreAllAskedFor : (channels : List (ℕ × ℕ)) → List Record → Type 0
 AreAllAskedFor channels records =
     All (λ r. AreAllOfKind r.kind channels records r.group r.sources) records

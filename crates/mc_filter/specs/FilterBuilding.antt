@@ -1,5 +1,5 @@
--- Building a filter record by record, by computable tests, which only contracts of private functions
--- use.
+-- A filter that is built record by record, with tests that compute (RFC 3376, section 3.2). Only
+-- contracts of private functions use these definitions.
 use Rattle.std.specs.Prelude.{◌≡◌, ℕ, ◌==◌, ◌&&◌, ◌||◌, Bool, true, false, not, List}
 use Rattle.std.specs.List.{list_any}
 use Rattle.mc_igmp.specs.declared.record.Record.{Record}
@@ -17,12 +17,14 @@ kind_admits kind.Exclude listed = not listed
 kind_admits (kind.Change type) listed = false
 kind_admits (kind.Unknown type) listed = false
 
+-- whether the kind is that of an EXCLUDE record
 abbrev pub is_exclude : Kind → Bool
 is_exclude kind.Include = false
 is_exclude kind.Exclude = true
 is_exclude (kind.Change type) = false
 is_exclude (kind.Unknown type) = false
 
+-- whether the mode is EXCLUDE
 abbrev pub is_exclude_mode : Mode → Bool
 is_exclude_mode Include = false
 is_exclude_mode Exclude = true
@@ -43,7 +45,8 @@ wanted records group s = list_any (wanted_by group s) records
 abbrev pub has_exclude : List Record → ℕ → Bool
 has_exclude records group = list_any (is_exclude_for group) records
 
--- The builder and the records that are left want of the group what all records want of it.
+-- The filter so far, the sources that were included and the records that are left want together
+-- what all records want of the group.
 pub record BuildsFilter (records : List Record) (group : ℕ) (filter_builder : FilterBuilder)
     (left : List Record) : Type 0 where
   pub excludes : (is_exclude_mode filter_builder.filter.mode || has_exclude left group)

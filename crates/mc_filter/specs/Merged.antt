@@ -1,4 +1,4 @@
--- The filter that the records for a group merge to (RFC 3376, section 3.2).
+-- The filter to which the records for a group merge (RFC 3376, section 3.2).
 use Rattle.std.specs.Prelude.{◌≡◌, ◌↔◌, ℕ, List, Contains, All, Any}
 use Rattle.std.specs.List.Sorted.{IsStrictlyIncreasing}
 use Rattle.mc_igmp.specs.declared.record.Record.{Record}
@@ -26,8 +26,9 @@ abbrev pub InEachExclude : List Record → ℕ → ℕ → Type 0
 InEachExclude records group source = All (λ r. IsRecordFor group kind.Exclude r
     → Contains r.sources source) records
 
--- If there is an EXCLUDE record: EXCLUDE of the intersection of the EXCLUDE lists, less the sources of
--- all INCLUDE lists. Otherwise: INCLUDE of the union of the INCLUDE lists.
+-- The records for the group merge to this mode and these sources. If there is an EXCLUDE record:
+-- EXCLUDE, of the intersection of the EXCLUDE lists less the sources of all INCLUDE lists.
+-- Otherwise: INCLUDE, of the union of the INCLUDE lists.
 abbrev pub IsMergedIn : Mode → List ℕ → List Record → ℕ → Type 0
 IsMergedIn Exclude sources records group =
     HasExclude records group
@@ -37,8 +38,8 @@ IsMergedIn Include sources records group =
     ¬ (HasExclude records group)
     × ((source : ℕ) → Contains sources source ↔ InSomeInclude records group source)
 
--- the filter is the one that the records for the group merge to, with an ascending list of distinct
--- addresses
+-- the records for the group merge to this filter, whose sources are in ascending order, each of
+-- them once
 pub record IsMergedValue (records : List Record) (group : ℕ) (filter : SourceFilter) : Type 0 where
   pub ascending : IsStrictlyIncreasing filter.sources
   pub merged : IsMergedIn filter.mode filter.sources records group

@@ -1,5 +1,5 @@
--- The tally of channels over records, by computable tests, which only contracts of private functions
--- use.
+-- The tally of channels over records: how many EXCLUDE records each group has, and of each channel
+-- how it is wanted so far. Only contracts of private functions use these definitions.
 use Rattle.std.specs.Prelude.{◌≡◌, ℕ, ◌+◌, ◌<◌, ◌≤◌, ◌==◌, ◌&&◌, ◌||◌, Bool, true, false, not}
 use Rattle.std.specs.Prelude.{cond, Contains, MatchBool, List, ◌∷◌, length, get_or}
 use Rattle.std.specs.List.{All}
@@ -18,13 +18,13 @@ use Rattle.mc_filter.specs.FilterBuilding.{is_exclude, wanted}
 abbrev pub channel_numbered : List ℕ → ℕ → ℕ × ℕ
 channel_numbered channels place = pair_of (get_or channels place 0)
 
--- whether no record wants a channel of this state, after `excludes` EXCLUDE records for its group: each
--- of them lists its source, and no INCLUDE record does
+-- whether no record wants a channel of this state, where its group has `excludes` EXCLUDE records
+-- so far: each of them lists its source, and no INCLUDE record does
 abbrev pub is_unwanted : ChannelState → ℕ → Bool
 is_unwanted Included excludes = false
 is_unwanted (Listed count) excludes = count == excludes
 
--- the state after a record of a kind that lists the source
+-- the state of a channel after a record of this kind for its group, which lists its source
 abbrev pub state_after_listing : Kind → ℕ → ChannelState → ChannelState
 state_after_listing kind.Include excludes state = Included
 state_after_listing kind.Exclude excludes state =
@@ -32,32 +32,35 @@ state_after_listing kind.Exclude excludes state =
 state_after_listing (kind.Change type) excludes state = state
 state_after_listing (kind.Unknown type) excludes state = state
 
--- the state after a record of a kind, by whether it lists the source
+-- the state of a channel after a record of this kind, by whether the record is for its group and
+-- lists its source
 abbrev pub state_after_record : Bool → Kind → ℕ → ChannelState → ChannelState
 state_after_record listed of_kind excludes state =
     cond listed (state_after_listing of_kind excludes state) state
 
--- the new state of each channel is its old state after the record
+-- each channel's new state is its old one after the record
 abbrev pub AreStatesAfterRecord : List ℕ → Record → ℕ → List ChannelState → List ChannelState → Type 0
 AreStatesAfterRecord channels r excludes old new =
     (c g s : ℕ) (d : ChannelState) → c < length channels → channel_numbered channels c ≡ (s, g) →
     get_or new c d ≡ state_after_record (r.group == g && has r.sources s) r.kind excludes (get_or old c d)
 
--- the number of EXCLUDE records, with one more record of this kind
+-- how many EXCLUDE records there are after one more record, of this kind
 abbrev pub excludes_after : Kind → ℕ → ℕ
 excludes_after of_kind excludes = cond (is_exclude of_kind) (excludes + 1) excludes
 
--- the state counts no more EXCLUDE records than there were
+-- the state counts no more EXCLUDE records than there are
 abbrev pub IsCountWithin : ChannelState → ℕ → Type 0
 IsCountWithin Included excludes = Unit {0}
 IsCountWithin (Listed count) excludes = count ≤ excludes
 
--- a channel of this state is wanted, or by the records that are left, exactly if all records want it
+-- a channel of this state is wanted, or the records that are left want it, exactly if all records
+-- want it
 pub record IsTallied (state : ChannelState) (excludes : ℕ) (left all : Bool) : Type 0 where
   pub within : IsCountWithin state excludes
   pub wants : (not (is_unwanted state excludes) || left) ≡ all
 
--- the same of each channel whose group is among the groups
+-- each channel of one of the groups is wanted by its state, or the records that are left want it,
+-- exactly if all records want it
 abbrev pub AreTallied : List ℕ → List ℕ → List Record → List ℕ → List ChannelState → List Record → Type 0
 AreTallied groups channels records excludes state left =
     (g c s : ℕ) (d : ChannelState) → g < length groups → c < length channels →
@@ -70,7 +73,7 @@ abbrev pub IsTallyOf : (groups channels : List ℕ) → List Record → Tally �
 IsTallyOf groups channels records tally left =
     AreTallied groups channels records tally.excludes.items tally.states.items left
 
--- the tally, of so many groups and channels, counts no record yet
+-- the tally, for `groups` groups and `channels` channels, counts no record yet, whichever these are
 abbrev pub CountsNoRecord : (groups channels : ℕ) → Tally → Type 0
 CountsNoRecord groups channels tally = (all_groups all_channels : List ℕ) (records : List Record) →
     length all_groups ≡ groups → length all_channels ≡ channels →
@@ -84,29 +87,32 @@ AddsRecord channels place r old new = (groups : List ℕ) (records left : List R
     get_or groups place 0 ≡ r.group →
     IsTallyOf groups channels records old (r ∷ left) → IsTallyOf groups channels records new left
 
+-- whether the kind is that of an INCLUDE record
 abbrev pub is_include : Kind → Bool
 is_include kind.Include = true
 is_include kind.Exclude = false
 is_include (kind.Change type) = false
 is_include (kind.Unknown type) = false
 
--- the index has this channel, a source and a group
+-- the index has this channel, which is a source and a group
 abbrev pub HasChannel : (channels : List ℕ) → ℕ × ℕ → Type 0
 HasChannel channels channel =
     (place : ℕ) × (place < length channels) × (channel_numbered channels place ≡ channel)
 
--- each of the sources makes a channel with the record's group if that is an INCLUDE record, and else none
--- does
+-- if the record is an INCLUDE record, each of the sources makes a channel of the index with the
+-- record's group, and otherwise none does
 abbrev pub ListsAsChannels : (channels : List ℕ) → Record → (sources : List ℕ) → Type 0
 ListsAsChannels channels r sources = All (λ s. MatchBool (is_include r.kind)
     (HasChannel channels (s, r.group)) (¬ HasChannel channels (s, r.group))) sources
 
--- the record's group is among the groups, and its sources make channels as its kind says
+-- the record asks for no more than channels: its group is one of the groups, and its sources make
+-- channels as its kind wants it
 pub record KeepsToChannels (groups channels : List ℕ) (r : Record) : Type 0 where
   pub group : Contains groups r.group
   pub sources : ListsAsChannels channels r r.sources
 
--- if the tally says that no more is asked for, all records keep to the channels if those that are left do
+-- if the tally finds that no more than channels is asked for, all records keep to the channels as
+-- soon as those that are left do
 abbrev pub KeepToChannelsUnlessMore : (groups channels : List ℕ) → List Record → Tally
     → (left : List Record) → Type 0
 KeepToChannelsUnlessMore groups channels records tally left = tally.asks_more ≡ false →

@@ -1,4 +1,5 @@
--- How a domain is put together from its parts.
+-- The domain that a topology, the tables of its routers and the reports of its LANs make: as a
+-- whole, and step by step.
 use Rattle.std.specs.Prelude.{◌≡◌, ◌↔◌, ℕ, Bool, IsTrue, List, [], length, map, filter, Option}
 use Rattle.std.specs.Prelude.{Some, None, slice_get, slice_index_or, option_and_then}
 use Rattle.std.specs.FinMap as finite
@@ -11,17 +12,17 @@ use Rattle.mc_theory.specs.Nets.{Interface, Row, is_lan, router_vif_pairs}
 use Rattle.mc_forward.specs.Domains.{TablesValue, VifsValue, DomainValue, lan_of_vif, row_in_cache}
 use Rattle.mc_forward.specs.Domains.{wants_of}
 
--- the domain of these facts
+-- the domain with these fields
 abbrev pub domain_with : TopologyValue → List VifsValue → List (List Row) → List (List Bool)
     → DomainValue
 domain_with topology vifs rows wants =
     record { topology = topology; vifs = vifs; rows = rows; wants = wants }
 
--- each router's vifs
+-- each router's vifs, from its tables
 abbrev pub vifs_by_tables : List TablesValue → List VifsValue
 vifs_by_tables tables = map (λ t. t.vifs) tables
 
--- what each router's cache has for the flows
+-- each router's row for each flow, from its tables
 abbrev pub rows_by_tables : List Flow → List TablesValue → List (List Row)
 rows_by_tables flows tables = map (λ t. map (row_in_cache t.cache) flows) tables
 
@@ -30,7 +31,7 @@ abbrev pub domain_of_tables : TopologyValue → List TablesValue → List (List 
 domain_of_tables t tables wants =
     domain_with t (vifs_by_tables tables) (rows_by_tables t.flows tables) wants
 
--- tables for each router, and a list of reports for each LAN
+-- there are two tables for each router, and a list of reports for each LAN
 pub record HaveMatchingCounts (t : TopologyValue) (ts : List TablesValue) (rs : List (List Record))
     : Type 0 where
   pub routers : length ts ≡ length t.routers
@@ -49,51 +50,53 @@ pub record IsAssembled (t : TopologyValue) (ts : List TablesValue) (rs : List (L
 
 -- ---- step by step
 
--- the items at one place of both lists are so related
+-- R holds of the two items that both lists have at one place, wherever both have one
 abbrev pub RelatedAtEachIndex : {A B : Type 0} → (A → B → Type 0) → List A → List B → Type 0
 RelatedAtEachIndex {A} {B} R xs ys =
     (k : ℕ) (x : A) (y : B) → slice_get xs k ≡ Some x → slice_get ys k ≡ Some y → R x y
 
--- whether the channel, a source and a group, is wanted by these records
+-- the answer is yes exactly if these records want the channel, a source and a group
 abbrev pub IsChannelWanted : List Record → ℕ × ℕ → Bool → Type 0
 IsChannelWanted records channel wanted = IsTrue wanted ↔ Wants records channel.1 channel.0
 
--- which of the channels are wanted by these records
+-- there is an answer for each of the channels: whether these records want it
 pub record AreChannelsWanted (channels : List (ℕ × ℕ)) (records : List Record) (wanted : List Bool)
     : Type 0 where
   pub count : length wanted ≡ length channels
   pub each : RelatedAtEachIndex (IsChannelWanted records) channels wanted
 
--- whether the flow is wanted by these records
+-- the answer is yes exactly if these records want the flow
 abbrev pub IsWanted : List Record → Flow → Bool → Type 0
 IsWanted records f wanted = IsTrue wanted ↔ Wants records f.group f.source
 
--- which of the flows are wanted by these records
+-- there is an answer for each of the flows: whether these records want it
 pub record AreWanted (flows : List Flow) (records : List Record) (wanted : List Bool) : Type 0 where
   pub count : length wanted ≡ length flows
   pub each : RelatedAtEachIndex (IsWanted records) flows wanted
 
--- an answer for each LAN and flow
+-- there is an answer for each LAN and each flow
 pub record AreAnswers (t : TopologyValue) (wants : List (List Bool)) : Type 0 where
   pub lans : length wants ≡ length t.lans
   pub flows : (lan : ℕ) (wanted : List Bool) → slice_get wants lan ≡ Some wanted
       → length wanted ≡ length t.flows
 
--- the LAN of each vif of one router
+-- the LAN of each vif from 0 to 31 of one router, from the router's vifs
 abbrev pub vif_lans_by_vifs : TopologyValue → ℕ → VifsValue → List (Option ℕ)
 vif_lans_by_vifs topology router vifs =
     map (λ vif. option_and_then (lan_of_vif topology router) (finite.get vifs vif)) (below 32)
 
--- the LAN of a vif, from a table of the LANs of each router's vifs
+-- the LAN of a router's vif, from a table of the LANs of all vifs
 abbrev pub vif_lan_in : List (List (Option ℕ)) → ℕ → ℕ → Option ℕ
 vif_lan_in vif_lans router vif = slice_index_or (slice_index_or vif_lans router []) vif None
 
--- the interfaces of a LAN by such a table, of the first routers
+-- the interfaces of a LAN that are the first `routers` routers', from a table of the LANs of all
+-- vifs
 abbrev pub interfaces_by_vif_lans : List (List (Option ℕ)) → (routers : ℕ) → ℕ → List Interface
 interfaces_by_vif_lans vif_lans routers lan =
     filter (λ i. is_lan (vif_lan_in vif_lans i.0 i.1) lan) (router_vif_pairs 32 routers)
 
--- those of one router, among these vifs
+-- the interfaces of a LAN that are one router's and among these vifs, from the LANs of the router's
+-- vifs
 abbrev pub vifs_on : List (Option ℕ) → ℕ → ℕ → List ℕ → List Interface
 vifs_on vif_lans router lan vifs =
     map (λ vif. (router, vif)) (filter (λ vif. is_lan (slice_index_or vif_lans vif None) lan) vifs)

@@ -1,4 +1,5 @@
--- How a domain is stored: the look-up tables that are computed once beside its value.
+-- How a domain is stored: its facts as their fields, and look-up tables beside them that are
+-- computed once.
 use Rattle.std.specs.Prelude.{◌≡◌, ℕ, Bool, List, map, length, Option, Some, None, refl}
 use Rattle.std.specs.Coded.{Coded, code_by, coded×, coded_list, coded_option, coded_ℕ, coded_bool}
 use Rattle.std.specs.FinMap as finite
@@ -22,22 +23,25 @@ tables_code =
     code_by (VifsValue × CacheValue) (coded× vifs_code cache_code)
     (λ t. (t.vifs, t.cache)) (λ p. record { vifs = p.0; cache = p.1 }) (λ _. refl)
 
--- a row is stored as its entry, or as whether there is a row for every source
+-- a row is stored as its (S,G) entry, or as whether there is a (*,G) or (*,*) one
 abbrev pub stored_row : Row → Option (Option (ℕ × List (ℕ × ℕ)))
 stored_row (Exact incoming pairs) = Some (Some (incoming, pairs))
 stored_row Open = Some None
 stored_row NoRow = None
 
+-- the row that is stored as this
 abbrev pub row_from_stored : Option (Option (ℕ × List (ℕ × ℕ))) → Row
 row_from_stored (Some (Some p)) = Exact p.0 p.1
 row_from_stored (Some None) = Open
 row_from_stored None = NoRow
 
+-- each row is found again by what it is stored as
 abbrev pub row_from_stored-stored_row : (row : Row) → row_from_stored (stored_row row) ≡ row
 row_from_stored-stored_row (Exact incoming pairs) = refl
 row_from_stored-stored_row Open = refl
 row_from_stored-stored_row NoRow = refl
 
+-- a row is stored as `stored_row` gives it
 abbrev pub row_code : Coded Row
 row_code =
     code_by (Option (Option (ℕ × List (ℕ × ℕ))))
@@ -62,14 +66,14 @@ vif_lans_of d =
 abbrev pub interfaces_of : DomainValue → List (List Interface)
 interfaces_of d = map (interfaces (net_of d 0)) (below (length d.topology.lans))
 
--- the look-up tables are those of the domain
+-- the look-up tables are those of the domain: the LANs of all vifs, and the interfaces of all LANs
 pub record AreDerivedTables (d : DomainValue) (ps : List (List (Option ℕ)))
     (is : List (List Interface)) : Type 0 where
   pub domain : IsDomain d
   pub vif_lans : ps ≡ vif_lans_of d
   pub interfaces : is ≡ interfaces_of d
 
--- they are those of each domain of this topology and these vifs
+-- the look-up tables are those of each domain that has this topology and these vifs
 abbrev pub AreDerivedFrom : TopologyValue → List VifsValue → List (List (Option ℕ))
     → List (List Interface) → Type 0
 AreDerivedFrom t vifs ps is =

@@ -1,5 +1,5 @@
--- A domain: its topology, the kernel tables of its routers, and what its hosts want; and the net of one
--- of its flows, which is all that matters to the copies of that flow.
+-- A domain: its topology, the kernel tables of its routers, and what its hosts want; and the net of
+-- one of its flows, which is all that matters to the copies of that flow's packets.
 use Rattle.std.specs.Prelude.{◌≡◌, ℕ, Bool, true, false, ◌||◌, List, [], map, length, Option, Some}
 use Rattle.std.specs.Prelude.{None, slice_get, slice_index_or, option_map, option_and_then}
 use Rattle.std.specs.Prelude.{unwrap_or, if◌then◌else◌}
@@ -26,73 +26,77 @@ pub record TablesValue : Type 0 where
   pub vifs : VifsValue
   pub cache : CacheValue
 
--- A domain is its facts: the topology, each router's vifs, each router's row for each flow, and for each
--- LAN whether it wants each flow. Routers, LANs and flows come in the order of the topology, and their
--- numbers count from 0.
+-- A domain, by its facts: the topology, each router's vifs, each router's row for each flow, and
+-- for each LAN whether it wants each flow. Routers, LANs and flows are in the order of the
+-- topology, and numbered from 0.
 pub record DomainValue : Type 0 where
   pub topology : TopologyValue
   pub vifs : List VifsValue
   pub rows : List (List Row)
   pub wants : List (List Bool)
 
--- ---- placed
+-- ---- on which LAN a vif is placed
 
--- The LAN of a vif: none for a tunnel, a register interface and a vif without a device, and else
--- the LAN on which the topology has the interface of the router and the vif's device.
+-- The LAN on which a router's vif is placed. A tunnel, a register vif and a vif without a device
+-- are placed on none. Any other is placed on the LAN on which the topology has the router's
+-- interface with the vif's device, if it has one.
 abbrev pub lan_of_vif : TopologyValue → ℕ → VifValue → Option ℕ
 lan_of_vif topology router vif =
     if (vif.tunnel || vif.register) || bytes_eq vif.device no_device then None
     else lan_of_interface router vif.device topology.interfaces
 
--- a router's vif of this index
+-- a router's vif of this index, if it has one
 abbrev pub vif_of : List VifsValue → ℕ → ℕ → Option VifValue
 vif_of vifs router vif = option_and_then (λ own. finite.get own vif) (slice_get vifs router)
 
+-- the LAN on which a router's vif is placed, by these vifs of the routers
 abbrev pub placed_in : TopologyValue → List VifsValue → ℕ → ℕ → Option ℕ
 placed_in topology vifs router vif =
     option_and_then (lan_of_vif topology router) (vif_of vifs router vif)
 
--- the LAN that a router's vif is placed on
+-- the LAN on which a router's vif is placed in the domain
 abbrev pub placed_of : DomainValue → ℕ → ℕ → Option ℕ
 placed_of d router vif = placed_in d.topology d.vifs router vif
 
--- ---- row
+-- ---- which row a router has for a flow
 
--- an entry's outgoing vifs with their thresholds
+-- an entry's outgoing vifs, each with its threshold
 abbrev pub oif_pairs : List Oif → List (ℕ × ℕ)
 oif_pairs oifs = map (λ oif. (oif.vif, oif.threshold)) oifs
 
--- The kernel looks for the row of the source and the group first. `wild` says whether there is a
--- resolved row for every source of the group, or for every source and every group.
+-- A router's row for a flow: its (S,G) entry if it has one, since the kernel looks for that first
+-- (`ip_mr_input` in net/ipv4/ipmr.c). `wild` says whether there is a resolved (*,G) entry of the
+-- group, or a resolved (*,*) one.
 abbrev pub row_by_entry : (wild : Bool) → Option EntryValue → Row
 row_by_entry wild (Some entry) = Exact entry.iif (oif_pairs entry.oifs)
 row_by_entry true None = Open
 row_by_entry false None = NoRow
 
+-- the row for a flow that a router's cache has
 abbrev pub row_in_cache : CacheValue → Flow → Row
 row_in_cache cache flow =
     row_by_entry (set.contains cache.wildcards flow.group || set.contains cache.wildcards 0)
     (finite.get cache.entries (flow.source, flow.group))
 
--- what a router has for a flow
+-- a router's row for a flow, by their numbers
 abbrev pub row_of : DomainValue → (flow router : ℕ) → Row
 row_of d flow router = slice_index_or (slice_index_or d.rows router []) flow NoRow
 
--- ---- wants, and the flow
+-- ---- who wants a flow, and the flow's net
 
--- whether a LAN wants a flow
+-- whether a LAN wants a flow, by their numbers
 abbrev pub wants_of : DomainValue → (flow lan : ℕ) → Bool
 wants_of d flow lan = slice_index_or (slice_index_or d.wants lan []) flow false
 
--- the LAN of a flow's source
+-- the LAN of a flow's source, by number
 abbrev pub source_of : DomainValue → (flow : ℕ) → ℕ
 source_of d flow = unwrap_or (option_map (λ f. f.lan) (slice_get d.topology.flows flow)) 0
 
--- the least time to live of a flow's packets
+-- the least TTL with which a flow's source sends
 abbrev pub ttl_of : DomainValue → (flow : ℕ) → ℕ
 ttl_of d flow = unwrap_or (option_map (λ f. f.ttl) (slice_get d.topology.flows flow)) 0
 
--- the net of a flow: what the routers do with its packets
+-- the net of a flow, by its number: what the routers do with its packets
 abbrev pub net_of : DomainValue → (flow : ℕ) → Net
 net_of d flow = record {
   routers = length d.topology.routers;
@@ -105,18 +109,18 @@ net_of d flow = record {
 
 -- ---- what holds of every domain
 
--- vifs for each router, as a kernel has them
+-- there are vifs for each router, as a kernel has them
 pub record AreVifs (t : TopologyValue) (vifs : List VifsValue) : Type 0 where
   pub routers : length vifs ≡ length t.routers
   pub valid : (router : ℕ) (own : VifsValue) → slice_get vifs router ≡ Some own → IsValidVifTable own
 
--- the rules of a row: those of its entry, if it has one
+-- the rules of a row: those of its (S,G) entry, if it has one
 abbrev pub IsValidRow : Row → Type 0
 IsValidRow (Exact incoming pairs) = IsValidEntry (record { iif = incoming; oifs = map to_oif pairs })
 IsValidRow Open = Unit {0}
 IsValidRow NoRow = Unit {0}
 
--- a row for each router and flow, as a kernel has them
+-- there is a row for each router and each flow, as a kernel has them
 pub record AreRows (t : TopologyValue) (rows : List (List Row)) : Type 0 where
   pub routers : length rows ≡ length t.routers
   pub flows : (router : ℕ) (own : List Row) → slice_get rows router ≡ Some own
@@ -124,7 +128,8 @@ pub record AreRows (t : TopologyValue) (rows : List (List Row)) : Type 0 where
   pub valid : (router : ℕ) (own : List Row) → slice_get rows router ≡ Some own
       → AllByRecursion IsValidRow own
 
--- Vifs and rows for each router of the topology, and an answer for each LAN and flow.
+-- The rules of every domain: its topology keeps its own, there are vifs and rows for each router,
+-- and an answer for each LAN and each flow.
 pub record IsDomain (d : DomainValue) : Type 0 where
   pub topology : IsValidTopology d.topology
   pub vifs : AreVifs d.topology d.vifs

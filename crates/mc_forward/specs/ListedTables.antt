@@ -1,4 +1,5 @@
--- A router's tables that keep the rows of the listed flows alone, and the facts of each flow.
+-- Tables of a router that keep what the flows need of the cache, and the facts of a domain that are
+-- all that its answers rest on.
 use Rattle.std.specs.Prelude.{◌≡◌, ℕ, List, [], ◌∷◌, map, Option, Some}
 use Rattle.mc_tables.specs.ListedRows.{IsListedPart}
 use Rattle.mc_tables.specs.VifTable.{VifValue}
@@ -11,12 +12,12 @@ use Rattle.mc_forward.specs.Domains.{TablesValue, DomainValue, net_of, vif_of}
 abbrev pub flow_pairs : List Flow → List (ℕ × ℕ)
 flow_pairs flows = map (λ f. (f.source, f.group)) flows
 
--- The part has all vifs, and of the cache what the flows need.
+-- The part has all vifs of the whole tables, and of the cache what the flows need.
 pub record IsListedPartOfTables (flows : List Flow) (part whole : TablesValue) : Type 0 where
   pub vifs : part.vifs ≡ whole.vifs
   pub cache : IsListedPart (Some (flow_pairs flows)) part.cache whole.cache
 
--- the items of both lists are so related, one by one, and there are as many
+-- the lists have as many items, and R holds of the two at each place
 abbrev pub Pairwise : {A B : Type 0} → (A → B → Type 0) → List A → List B → Type 0
 Pairwise R [] [] = Unit {0}
 Pairwise R (x ∷ xs) (y ∷ ys) = R x y × Pairwise R xs ys
@@ -28,5 +29,6 @@ pub record DomainFacts : Type 0 where
   pub nets : (flow : ℕ) → Net
   pub vifs : (router vif : ℕ) → Option VifValue
 
+-- the facts of a domain
 abbrev pub facts : DomainValue → DomainFacts
 facts d = record { topology = d.topology; nets = net_of d; vifs = vif_of d.vifs }

@@ -1,4 +1,4 @@
--- What is kept of routers' tables for a topology's flows.
+-- What is kept of the routers' tables: the vifs, and the row for each flow of a topology.
 use Rattle.std.specs.Prelude.{◌≡◌, ℕ, List, [], ◌∷◌, ◌++◌, length, map, refl}
 use Rattle.std.specs.Coded.{Coded, code_by, coded×, coded_list, coded_ℕ}
 use Rattle.std.specs.List.{AllByRecursion}
@@ -15,6 +15,7 @@ pub record RouterTablesValue : Type 0 where
   pub vifs : List VifsValue
   pub rows : List (List Row)
 
+-- what is kept, with these fields
 abbrev pub router_tables_with : ℕ → List VifsValue → List (List Row) → RouterTablesValue
 router_tables_with flows vifs rows = record { flows = flows; vifs = vifs; rows = rows }
 
@@ -23,28 +24,29 @@ abbrev pub kept_of_tables : List Flow → List TablesValue → RouterTablesValue
 kept_of_tables flows tables =
     router_tables_with (length flows) (vifs_by_tables tables) (rows_by_tables flows tables)
 
--- the same with what is kept of one router's tables more
+-- what is kept, and after it what is kept of one more router's tables
 abbrev pub with_router : List Flow → RouterTablesValue → TablesValue → RouterTablesValue
 with_router flows kept own =
     router_tables_with kept.flows (kept.vifs ++ own.vifs ∷ [])
     (kept.rows ++ map (row_in_cache own.cache) flows ∷ [])
 
--- each router has a row for each of so many flows, as a kernel has them
+-- there is a row for each of `flows` flows, as a kernel has them
 pub record HaveRows (flows : ℕ) (own : List Row) : Type 0 where
   pub count : length own ≡ flows
   pub valid : AllByRecursion IsValidRow own
 
--- each router has these, and the vifs are those of as many routers
+-- the rules of what is kept: there are vifs and rows for equally many routers, and each router has
+-- its rows
 pub record AreRouterTables (kept : RouterTablesValue) : Type 0 where
   pub routers : length kept.vifs ≡ length kept.rows
   pub rows : AllByRecursion (HaveRows kept.flows) kept.rows
 
--- they are those of the routers and the flows of a topology
+-- what is kept is of as many routers and flows as the topology has
 pub record AreTablesFor (t : TopologyValue) (kept : RouterTablesValue) : Type 0 where
   pub routers : length kept.vifs ≡ length t.routers
   pub flows : kept.flows ≡ length t.flows
 
--- they are stored as their fields
+-- what is kept is stored as its fields
 abbrev pub router_tables_code : Coded RouterTablesValue
 router_tables_code =
     code_by (ℕ × (List VifsValue × List (List Row)))

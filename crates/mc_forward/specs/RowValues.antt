@@ -1,4 +1,5 @@
--- The rows that a domain's look-ups answer.
+-- The rows that a domain's look-ups answer, and those of the theory (`Nets` of mc_theory) that they
+-- are.
 use Rattle.std.specs.Prelude.{◌≡◌, ℕ, List, Some, slice_get}
 use Rattle.mc_tables.specs.CacheTable.{IsValidEntry}
 use Rattle.mc_theory.specs.Nets.{Net, Row}
@@ -7,19 +8,20 @@ use Rattle.mc_forward.specs.declared.row.RowFor.{RowFor}
 use Rattle.mc_forward.specs.declared.row.RowFor.TheVariants.{Exact, Open, NoRow}
 use Rattle.mc_forward.specs.Domains.{oif_pairs}
 
--- the value of an answered row
+-- what an answered row is in the theory
 abbrev pub row_value : RowFor → Row
 row_value (Exact entry) = exact entry.iif (oif_pairs entry.oifs)
 row_value Open = open_row
 row_value NoRow = no_row
 
--- the entry of an answered row is one that a kernel may have
+-- the (S,G) entry of an answered row, if it has one, is one that a kernel may have
 abbrev pub HasValidEntry : RowFor → Type 0
 HasValidEntry (Exact entry) = IsValidEntry entry
 HasValidEntry Open = Unit {0}
 HasValidEntry NoRow = Unit {0}
 
--- each of these rows is the one of the router with its number, and its entry one that a kernel may have
+-- each of these rows is that of the router with its number, and its (S,G) entry, if it has one, one
+-- that a kernel may have
 abbrev pub AreRowsOf : Net → List RowFor → Type 0
 AreRowsOf n rows = (r : ℕ) (row : RowFor) → slice_get rows r ≡ Some row
     → (row_value row ≡ n.row r) × HasValidEntry row

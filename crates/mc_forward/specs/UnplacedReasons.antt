@@ -1,11 +1,11 @@
--- Why a router's vif is placed on no LAN.
+-- Why a router's vif is placed on no LAN: the first reason that holds.
 use Rattle.std.specs.Prelude.{not, Option, Some, None, if◌then◌else◌}
 use Rattle.mc_tables.specs.VifTable.{VifValue, has_device}
 use Rattle.mc_forward.specs.declared.unplaced.UnplacedReason.{UnplacedReason}
 use Rattle.mc_forward.specs.declared.unplaced.UnplacedReason.TheVariants.{NoVifLine, RegisterVif, Tunnel}
 use Rattle.mc_forward.specs.declared.unplaced.UnplacedReason.TheVariants.{NoDevice, OnNoLan}
 
--- why a vif of the table is placed on no LAN: the first of these that holds
+-- why a vif that has a line in its router's table is placed on no LAN
 abbrev pub reason_of_line : VifValue → UnplacedReason
 reason_of_line v =
     if v.register then RegisterVif
@@ -13,7 +13,7 @@ reason_of_line v =
     else if not (has_device v) then NoDevice
     else OnNoLan
 
--- by the vif's line in its router's table, if it has one
+-- why a vif is placed on no LAN, by its line in the router's table, if it has one
 abbrev pub unplaced_reason : Option VifValue → UnplacedReason
 unplaced_reason None = NoVifLine
 unplaced_reason (Some v) = reason_of_line v

@@ -1,10 +1,11 @@
--- The types of a group record (RFC 3376, section 4.2.12).
+-- The types of a group record, and the kinds that they are (RFC 3376, section 4.2.12).
 use Rattle.std.specs.Prelude.{ℕ, ◌==◌, ◌&&◌, nat_le, Bool, true, false, if◌then◌else◌}
 use Rattle.mc_igmp.specs.declared.record.Kind.{Kind}
 use Rattle.mc_igmp.specs.declared.record.Kind.TheVariants.{Include, Exclude, Change, Unknown}
 
--- 1 is MODE_IS_INCLUDE and 2 is MODE_IS_EXCLUDE. 3 to 6 report a change: CHANGE_TO_INCLUDE_MODE,
--- CHANGE_TO_EXCLUDE_MODE, ALLOW_NEW_SOURCES and BLOCK_OLD_SOURCES.
+-- The kind of a type: 1 is MODE_IS_INCLUDE and 2 is MODE_IS_EXCLUDE; 3 to 6 report a change, as
+-- CHANGE_TO_INCLUDE_MODE, CHANGE_TO_EXCLUDE_MODE, ALLOW_NEW_SOURCES and BLOCK_OLD_SOURCES; other
+-- types are unknown.
 unfoldable pub kind_of : ℕ → Kind
 kind_of type =
     if type == 1 then Include
@@ -12,6 +13,7 @@ kind_of type =
     else if nat_le 3 type && nat_le type 6 then Change type
     else Unknown type
 
+-- whether a record of this kind reports a change
 abbrev pub is_change : Kind → Bool
 is_change Include = false
 is_change Exclude = false

@@ -10,32 +10,37 @@ use Rattle.mc_igmp.specs.declared.list_reader.LineReader.{LineReader}
 use Rattle.mc_igmp.specs.declared.fault.ListFaultKind.TheVariants.{TooLarge}
 use Rattle.mc_igmp.specs.ReadingList.{fault_at, read_lines}
 
--- the first `decoded` bytes of a line's message are decoded
+-- the first `decoded` bytes of `message` are there already: those that the line's first digits
+-- write
 pub record IsDecodedAhead (line message : List ℕ) (decoded : ℕ) : Type 0 where
   pub ahead : AreDecoded line message decoded
   pub within : 2 * decoded ≤ length line
   pub fits : decoded ≤ length message
 
--- these records, and those of the lines of these bytes, which come after `ended` lines
+-- these records, and after them those of the lines that these bytes are, which come after `ended`
+-- lines; or the first fault
 abbrev pub read_rest_of_lines : List Record → ℕ → List ℕ → Result (List Record) ListFault
 read_rest_of_lines records ended bytes =
     read_lines (lines_from (ended + 1) bytes) >>= λ others. Ok (records ++ others)
 
--- the records that the lines so far and these bytes after them are read as
+-- the records that the lines so far are read as if the bytes `more` come
 abbrev pub lines_if : LineReader → List ℕ → Result (List Record) ListFault
 lines_if lines more = read_rest_of_lines lines.list lines.ended (lines.begun.items ++ more)
 
--- the line of these bytes, which a line feed ends, after `ended` lines
+-- the line of these bytes, which a line feed ends and which comes after `ended` lines
 abbrev pub line_after : ℕ → List ℕ → LineText
 line_after ended bytes = record { number = ended + 1; bytes = bytes; ended = true }
 
--- if there was no fault, and the text is within the limit, more lines can be read
+-- As long as the text is within the limit and has no fault, more lines can be read: the line that
+-- has begun has no line feed, and its bytes and the line feeds before it are among the bytes that
+-- have come.
 abbrev pub CanReadOn : ℕ → ℕ → List ℕ → Option ListFault → Type 0
 CanReadOn size ended begun fault = size ≤ 16777216 → fault ≡ None →
     HasNoLineFeed begun × (ended + length begun ≤ size)
 
--- the number of bytes that have come and of lines that have ended, the bytes after the last line feed,
--- the records of the lines that have ended, and the first fault of a line
+-- The state of reading: how many bytes have come, how many lines have ended, the bytes after the
+-- last line feed, the records of the lines that have ended, and the first fault of a line, if there
+-- was one.
 pub record ListSoFar : Type 0 where
   pub size : ℕ
   pub ended : ℕ
@@ -43,11 +48,11 @@ pub record ListSoFar : Type 0 where
   pub records : List Record
   pub fault : Option ListFault
 
--- nothing has come
+-- the state before the first byte
 abbrev pub no_list : ListSoFar
 no_list = record { size = 0; ended = 0; begun = []; records = []; fault = None }
 
--- the state without its records, which were forgotten
+-- the state without its records
 abbrev pub without_records : ListSoFar → ListSoFar
 without_records so_far = record {
   size = so_far.size;
@@ -57,13 +62,14 @@ without_records so_far = record {
   fault = so_far.fault;
 }
 
+-- an earlier fault, if there was one, or else what is read
 abbrev pub unless_fault : Option ListFault → Result (List Record) ListFault
     → Result (List Record) ListFault
 unless_fault None read = read
 unless_fault (Some fault) read = Err fault
 
--- What reading ends with if these bytes come. A text past the limit is refused whatever its lines are,
--- as in one piece.
+-- What reading ends with if the bytes `more` come: the records, or the first fault. A text past the
+-- limit is refused whatever its lines are, as one that comes whole is.
 abbrev pub list_if : ListSoFar → List ℕ → Result (List Record) ListFault
 list_if so_far more =
     if nat_lt 16777216 (so_far.size + length more) then Err (fault_at 0 0 TooLarge)

@@ -1,13 +1,15 @@
--- Reports of versions 1 and 2.
+-- Reports of versions 1 and 2 of IGMP, and the record that each counts as.
 use Rattle.std.specs.Prelude.{◌≡◌, ◌⊎◌, ℕ, List, [], ◌∷◌, Option, Some, None, slice_index}
 use Rattle.mc_igmp.specs.declared.record.Kind.TheVariants.{Exclude}
 use Rattle.mc_igmp.specs.declared.record.Record.{Record}
 use Rattle.mc_igmp.specs.Record.{group_at}
 
--- the record that such a report counts as: MODE_IS_EXCLUDE with no source (RFC 3376, section 7.3.2)
+-- the record that a report of version 1 or 2 for a group counts as: MODE_IS_EXCLUDE with no source
+-- (RFC 3376, section 7.3.2)
 abbrev pub older_record : ℕ → Record
 older_record group = record { kind = Exclude; group = group; sources = [] }
 
+-- that record as a list, if there is a group
 abbrev pub older_records : Option ℕ → List Record
 older_records None = []
 older_records (Some group) = older_record group ∷ []

@@ -1,4 +1,5 @@
--- Reading a report list line by line, up to its first fault.
+-- What the text of a report list is read as, line by line: its records, or the first fault. Faults
+-- have the order of docs/FORMATS.md.
 use Rattle.std.specs.Prelude.{ℕ, ◌+◌, ◌||◌, not, nat_lt, List, [], ◌∷◌, ◌++◌, length, Option, Some}
 use Rattle.std.specs.Prelude.{None, Result, Ok, Err, if◌then◌else◌}
 use Rattle.hex.specs.declared.error.FromHexError.{FromHexError}
@@ -20,16 +21,18 @@ use Rattle.mc_igmp.specs.ReadingMessage.{read_message}
 use Rattle.std.specs.Prelude.{◌≡◌}
 use Rattle.mc_igmp.specs.declared.fault.ListFaultKind.TheVariants.{Memory}
 
--- the fault of this kind at a line and a record
+-- a fault of this kind, at a line and a record; the record is 0 where none is meant
 abbrev pub fault_at : ℕ → ℕ → ListFaultKind → ListFault
 fault_at line record_no kind = record { line = line; record_no = record_no; kind = kind }
 
--- the bytes that were decoded from a line, or the fault `BadHex`
+-- the bytes that were decoded from a line, which have to be there (else BadHex)
 abbrev pub decoded_or_bad_hex : ℕ → Result (List ℕ) FromHexError → Result (List ℕ) ListFault
 decoded_or_bad_hex line (Ok bytes) = Ok bytes
 decoded_or_bad_hex line (Err e) = Err (fault_at line 0 BadHex)
 
--- the bytes that the digits of a line write
+-- The bytes that the digits of a line write. A line feed has to end the line (else Unended), it has
+-- to be one of the first 65,536 and to have at most 131,030 bytes (TooLarge), and these are digits
+-- in pairs (BadHex).
 unfoldable pub bytes_of_line : LineText → Result (List ℕ) ListFault
 bytes_of_line line =
     if not line.ended then Err (fault_at line.number 0 Unended)
@@ -37,18 +40,21 @@ bytes_of_line line =
     then Err (fault_at line.number 0 TooLarge)
     else decoded_or_bad_hex line.number (decode_of line.bytes)
 
--- the number of the first record that reports a change, counted from `number`
+-- the number of the first record that reports a change, where the first record has the number
+-- `number`
 unfoldable pub first_change : ℕ → List Record → Option ℕ
 first_change number [] = None
 first_change number (r ∷ rs) =
     if is_change r.kind then Some number else first_change (number + 1) rs
 
--- the records, if none reports a change
+-- the records, of which none may report a change (else StateChange, with the number of the first
+-- that does)
 abbrev pub without_change : ℕ → List Record → Option ℕ → Result (List Record) ListFault
 without_change line records None = Ok records
 without_change line records (Some number) = Err (fault_at line number StateChange)
 
--- the records of a message that was read, if a list accepts it
+-- the records of a message that was read, if a list accepts it; a message that is no report has
+-- none
 abbrev pub accepted_records : ℕ → Result Message MessageFault → Result (List Record) ListFault
 accepted_records line (Ok (Report records)) = without_change line records (first_change 1 records)
 accepted_records line (Ok (Other type)) = Ok []
@@ -56,7 +62,7 @@ accepted_records line (Err message.Short) = Err (fault_at line 0 Short)
 accepted_records line (Err message.BadChecksum) = Err (fault_at line 0 BadChecksum)
 accepted_records line (Err (message.Truncated number)) = Err (fault_at line number Truncated)
 
--- the records of the message on a line
+-- the records of the message on a line, or its first fault
 unfoldable pub read_line : LineText → Result (List Record) ListFault
 read_line line = do
   bytes ← bytes_of_line line
@@ -70,14 +76,17 @@ read_lines (line ∷ lines) = do
   others ← read_lines lines
   Ok (records ++ others)
 
--- the records of a text; one past the limit is refused before any line is read
+-- the records of a text, or its first fault; a text past the limit is refused before any line is
+-- read
 unfoldable pub read_list : List ℕ → Result (List Record) ListFault
 read_list text =
     if nat_lt 16777216 (length text) then Err (fault_at 0 0 TooLarge)
     else read_lines (lines_of text)
 
+-- the fault that memory ran out, which no line has
 abbrev pub oom_fault : ListFault
 oom_fault = record { line = 0; record_no = 0; kind = Memory }
 
+-- the fault is that memory ran out
 abbrev pub IsMemory : ListFault → Type 0
 IsMemory fault = fault ≡ oom_fault

@@ -1,4 +1,4 @@
--- Consecutive group records, as in a report (RFC 3376, sections 4.2.3 and 4.2.4).
+-- Consecutive group records, as those of a Version 3 report (RFC 3376, sections 4.2.3 and 4.2.4).
 use Rattle.std.specs.Prelude.{◌≡◌, ℕ, zero, suc, ◌+◌, List, [], ◌∷◌, ◌++◌, Option, Some, None}
 use Rattle.std.specs.Prelude.{Result, Ok, Err, false}
 use Rattle.std.specs.List.{AllByRecursion}
@@ -12,7 +12,8 @@ AreRecords bytes [] = bytes ≡ []
 AreRecords bytes (r ∷ rs) =
     (own : List ℕ) × (rest : List ℕ) × (bytes ≡ own ++ rest) × IsRecord own r × AreRecords rest rs
 
--- the record that was read and the others, or no records
+-- the record that was read, and before those that `others` gives of the bytes after it; none if
+-- none was read
 abbrev pub with_other_records : Option (Record × List ℕ) → (List ℕ → List Record) → List Record
 with_other_records None others = []
 with_other_records (Some x) others = x.0 ∷ others x.1
@@ -22,14 +23,15 @@ unfoldable pub records_in : ℕ → List ℕ → List Record
 records_in zero bytes = []
 records_in (suc count) bytes = with_other_records (read_record bytes) (records_in count)
 
--- the bytes after the other records, or the number of the record that couldn't be read
+-- what `others` gives of the bytes after the record that was read, or its number if it couldn't be
+-- read
 abbrev pub after_other_records : ℕ → Option (Record × List ℕ) → (List ℕ → Result (List ℕ) ℕ)
     → Result (List ℕ) ℕ
 after_other_records number None others = Err number
 after_other_records number (Some x) others = others x.1
 
--- the bytes after the first `count` records, or the number of the first, counted from `number`, that
--- doesn't end within them
+-- the bytes after the first `count` records, or the number of the first record that doesn't end
+-- within the bytes, where the first record has the number `number`
 unfoldable pub after_records : ℕ → ℕ → List ℕ → Result (List ℕ) ℕ
 after_records number zero bytes = Ok bytes
 after_records number (suc count) bytes =

@@ -1,4 +1,5 @@
--- Report lists: a text with a message on each line, and the records of these messages.
+-- Report lists: a text with an IGMP message on each line, and the records of these messages
+-- (docs/FORMATS.md).
 use Rattle.std.specs.Prelude.{◌≡◌, ℕ, ◌≤◌, true, List, [], ◌∷◌, length, Ok}
 use Rattle.std.specs.List.{flat_map}
 use Rattle.hex.specs.Hex.{decode_of}
@@ -27,6 +28,7 @@ pub record IsMessageLine (line : LineText) (message : Message) : Type 0 where
   pub denotes : IsMessage bytes message
   pub accepted : IsAcceptedMessage message
 
+-- each line is its message, in order
 abbrev pub AreMessageLines : List LineText → List Message → Type 0
 AreMessageLines [] [] = Unit {0}
 AreMessageLines [] (message ∷ messages) = ⊥
@@ -34,7 +36,8 @@ AreMessageLines (line ∷ lines) [] = ⊥
 AreMessageLines (line ∷ lines) (message ∷ messages) =
     IsMessageLine line message × AreMessageLines lines messages
 
--- the text's lines are messages, one a line, and these are all their records
+-- the text has at most 16,777,216 bytes, its lines are messages, one a line, and these are all
+-- their records, in order
 pub record IsReportList (text : List ℕ) (records : List Record) : Type 0 where
   pub messages : List Message
   pub size : length text ≤ 16777216

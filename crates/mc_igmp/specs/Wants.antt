@@ -1,21 +1,23 @@
--- What the hosts of a LAN want (RFC 3376, section 3.2), by their replies to one General Query.
+-- What the hosts of a LAN want (RFC 3376, section 3.2), by the records of their answers to one
+-- General Query.
 use Rattle.std.specs.Prelude.{◌≡◌, ℕ, List, Contains}
 use Rattle.std.specs.List.{Any}
 use Rattle.mc_igmp.specs.declared.record.Record.{Record}
 use Rattle.mc_igmp.specs.declared.record.Kind.{Kind}
 use Rattle.mc_igmp.specs.declared.record.Kind.TheVariants.{Include, Exclude, Change, Unknown}
 
--- A record of a kind with these sources admits a source. MODE_IS_INCLUDE admits the sources in its
--- list, and MODE_IS_EXCLUDE admits all others. The other types admit none.
+-- A record of a kind with these sources admits a source: MODE_IS_INCLUDE admits the sources in its
+-- list, MODE_IS_EXCLUDE all that are not in it, and any other type none.
 abbrev pub AdmitsBy : Kind → List ℕ → ℕ → Type 0
 AdmitsBy Include sources source = Contains sources source
 AdmitsBy Exclude sources source = ¬ (Contains sources source)
 AdmitsBy (Change type) sources source = ⊥
 AdmitsBy (Unknown type) sources source = ⊥
 
+-- the record admits the source
 abbrev pub Admits : Record → ℕ → Type 0
 Admits r source = AdmitsBy r.kind r.sources source
 
--- a LAN wants what the source sends to the group if some record for the group admits the source
+-- a LAN wants what a source sends to a group if some record for the group admits the source
 abbrev pub Wants : List Record → ℕ → ℕ → Type 0
 Wants records group source = Any (λ r. (r.group ≡ group) × Admits r source) records

@@ -1,4 +1,5 @@
--- How a cache stores its entries: by number, with the number of each key that has one.
+-- How a cache's entries are stored: in a list, with the number there of each key that has one. A
+-- key is a source and a group.
 use Rattle.std.specs.Prelude.{◌≡◌, ℕ, zero, suc, ◌<◌, true, false, cond, List, [], ◌∷◌, length}
 use Rattle.std.specs.Prelude.{Option, Some, None, IfSome, is_some, get_or, slice_get}
 use Rattle.std.specs.Option.{option_map}
@@ -10,52 +11,54 @@ use Rattle.mc_tables.specs.declared.listed.listed_entry_numbers.Inserted.{Insert
 use Rattle.mc_tables.specs.declared.listed.listed_entry_numbers.Inserted.TheVariants.{New, Repeated, Unlisted}
 use Rattle.mc_tables.specs.ListedRows.{ListedSet, set_has_key}
 
--- the key of a number, with the entry that has the number
+-- a key with its number, as the key with the entry of that number
 abbrev pub numbered_entry : List EntryValue → (ℕ × ℕ) × ℕ → Option ((ℕ × ℕ) × EntryValue)
 numbered_entry entries p = option_map (λ entry. (p.0, entry)) (slice_get entries p.1)
 
--- the entries by key
+-- the keys that have a number, each with its entry
 abbrev pub entries_by_key : List ((ℕ × ℕ) × ℕ) → List EntryValue → List ((ℕ × ℕ) × EntryValue)
 entries_by_key numbers entries = filter_map (numbered_entry entries) numbers
 
--- the number of a key
+-- the number of a key, if it has one
 abbrev pub number_of_key : List ((ℕ × ℕ) × ℕ) → ℕ × ℕ → Option ℕ
 number_of_key numbers key = lookup (is_at (key_cmp key)) numbers
 
--- each number is that of an entry
+-- each key's number is that of an entry
 abbrev pub AreEntryNumbers : List ((ℕ × ℕ) × ℕ) → List EntryValue → Type 0
 AreEntryNumbers numbers entries =
     (key : ℕ × ℕ) → IfSome (number_of_key numbers key) (λ number. number < length entries)
 
--- ---- numbers of some keys
+-- ---- numbers of listed keys
 
--- which keys can have a number, and those that have one
+-- which keys can have a number, and the numbers of those that have one
 pub record EntryNumbersValue : Type 0 where
   pub listed : ListedSet
   pub numbers : List ((ℕ × ℕ) × ℕ)
 
--- The numbers that a list has at the places of the keys: each plus one, or 0 for a key that has none.
--- A key past the list's end has none.
+-- The numbers that are stored at the places of the keys: each as one more than itself, and 0 for a
+-- key that has none. A key past the end of what is stored has none.
 abbrev pub numbers_at_places : List (ℕ × ℕ) → List ℕ → List ((ℕ × ℕ) × ℕ)
 numbers_at_places (key ∷ keys) (zero ∷ ns) = numbers_at_places keys ns
 numbers_at_places (key ∷ keys) (suc n ∷ ns) = (key, n) ∷ numbers_at_places keys ns
 numbers_at_places _ _ = []
 
--- the number at such a place
+-- the number that is stored at a key's place, if it isn't 0
 abbrev pub decoded_number : ℕ → Option ℕ
 decoded_number zero = None
 decoded_number (suc n) = Some n
 
--- the key is at this place
+-- the key is at this place among the keys
 abbrev pub IsPlaceOf : List (ℕ × ℕ) → ℕ × ℕ → ℕ → Type 0
 IsPlaceOf keys key place = (place < length keys) × (get_or keys place key ≡ key)
 
--- the numbers with that of one more key
+-- `more` has the numbers, and that of one more key
 abbrev pub AddsNumber : (key : ℕ × ℕ) (number : ℕ) (numbers more : List ((ℕ × ℕ) × ℕ)) → Type 0
 AddsNumber key number numbers more =
     (q : ℕ × ℕ) → number_of_key more q ≡ cond (is_at (key_cmp key) q) (Some number) (number_of_key numbers q)
 
--- whether a key got a number, or why not
+-- What the answer says of the insertion of a key's number: `New`, the listed key had none and has
+-- it now; `Repeated`, it had one already; `Unlisted`, the key isn't listed. But for the first
+-- nothing changes.
 abbrev pub IsNumberInserted : (key : ℕ × ℕ) (number : ℕ) (old new : EntryNumbersValue) → Inserted → Type 0
 IsNumberInserted key number old new New =
     (set_has_key old.listed key ≡ true) × (number_of_key old.numbers key ≡ None) × (new.listed ≡ old.listed)
@@ -66,8 +69,8 @@ IsNumberInserted key number old new Unlisted = (set_has_key old.listed key ≡ f
 
 -- ---- the rows that are kept
 
--- the table of the rows that are kept, which keys are kept, and the groups of the rows for every
--- source, in the order in which they are stored
+-- the table of the rows that are kept, which keys are listed, and the groups of the (*,G) rows in
+-- the order in which they are stored
 pub record KeptRowsValue : Type 0 where
   pub table : CacheValue
   pub listed : ListedSet

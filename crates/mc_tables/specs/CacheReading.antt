@@ -1,4 +1,5 @@
 -- What a text of /proc/net/ip_mr_cache is read as, from its front: its table, or the first fault.
+-- Faults have the order of docs/FORMATS.md.
 use Rattle.std.specs.Prelude.{ℕ, ◌==◌, nat_eq, nat_lt, Bool, not, if◌then◌else◌, List, [], ◌∷◌}
 use Rattle.std.specs.Prelude.{length, map, Option, Some, None, Result, Ok, Err, codes}
 use Rattle.std.specs.Option.{ok_or}
@@ -24,7 +25,8 @@ use Rattle.mc_tables.specs.CacheTable.{RowValue, CacheValue, oifs_by_vif, same_k
 
 -- ---- the outgoing words
 
--- the vif and the threshold of a word's parts around its colons, of which there has to be one
+-- the vif and the threshold that the parts of a word around its colons write, where there has to be
+-- one colon
 unfoldable pub oif_in_parts : List (List ℕ) → Result (ℕ × ℕ) TableFaultKind
 oif_in_parts (vif ∷ threshold ∷ []) = do
   v ← ok_or (number_in 0 31 vif) BadOif
@@ -32,44 +34,45 @@ oif_in_parts (vif ∷ threshold ∷ []) = do
   Ok (v, t)
 oif_in_parts parts = Err BadOif
 
--- the vif and the threshold of a word
+-- the vif and the threshold of a word `n:t`
 abbrev pub oif_in : List ℕ → Result (ℕ × ℕ) TableFaultKind
 oif_in word = oif_in_parts (slice_split (λ b. b == 58) word)
 
--- an earlier word has the vif
+-- whether an earlier word has the vif
 abbrev pub oif_repeats : List (ℕ × ℕ) → ℕ × ℕ → Bool
 oif_repeats earlier oif = list_any (nat_eq oif.0) (map (λ other. other.0) earlier)
 
--- the outgoing vif of a word that comes after the earlier ones
+-- the vif and the threshold of a word that comes after the earlier ones
 abbrev pub oif_after : List (ℕ × ℕ) → List ℕ → Result (ℕ × ℕ) TableFaultKind
 oif_after earlier word = do
   oif ← oif_in word
   _ ← demand (not (oif_repeats earlier oif)) RepeatedOif
   Ok oif
 
--- the outgoing vifs of the words, by ascending vif
+-- the outgoing vifs of the words, ascending
 abbrev pub oifs_in : List (List ℕ) → Result (List Oif) TableFaultKind
 oifs_in words = rows_after oif_after [] words >>= λ denoted. Ok (oifs_by_vif (from_entries denoted))
 
 -- ---- a line
 
--- the incoming vif, if there is a number
+-- the incoming vif, which has to be a number
 abbrev pub incoming_number : Option ℕ → Result (Option ℕ) TableFaultKind
 incoming_number None = Err BadIif
 incoming_number (Some iif) = Ok (Some iif)
 
--- the incoming vif of a word, or none for `-1`
+-- the incoming vif of a word; none for `-1`, in an unresolved row
 abbrev pub incoming_in : List ℕ → Result (Option ℕ) TableFaultKind
 incoming_in word =
     if bytes_eq word (codes "-1") then Ok None else incoming_number (number_in 0 31 word)
 
--- the entry of an incoming vif and the words of the outgoing ones, or none in an unresolved row
+-- the entry of an incoming vif and of the words for the outgoing ones; none without an incoming
+-- vif, where no such word may be there
 abbrev pub entry_in : Option ℕ → List (List ℕ) → Result (Option EntryValue) TableFaultKind
 entry_in None [] = Ok None
 entry_in None (word ∷ words) = Err BadOif
 entry_in (Some iif) words = oifs_in words >>= λ oifs. Ok (Some (record { iif = iif; oifs = oifs }))
 
--- the row that the words are read as, from the left
+-- the row that the words of a line are read as, from the left
 unfoldable pub row_in_words : Order → List (List ℕ) → Result RowValue TableFaultKind
 row_in_words order (group ∷ origin ∷ iif ∷ packets ∷ bytes ∷ wrong_if ∷ outgoing) = do
   g ← ok_or (address_in order group) BadAddress
@@ -82,7 +85,7 @@ row_in_words order (group ∷ origin ∷ iif ∷ packets ∷ bytes ∷ wrong_if 
   Ok (record { group = g; origin = o; entry = e })
 row_in_words order words = Err WordCount
 
--- an earlier row has the source and the group
+-- whether the row is an (S,G) row whose source and group an earlier one has
 abbrev pub entry_repeats : List RowValue → RowValue → Bool
 entry_repeats earlier row = is_among same_key (key_of row) (filter_map key_of earlier)
 
@@ -95,16 +98,16 @@ row_in_line order earlier line = do
   _ ← demand (not (entry_repeats earlier row)) RepeatedEntry
   Ok row
 
--- the same, whose fault has the line's number
+-- that row, or the fault at its line
 abbrev pub row_at_line : Order → List RowValue → LineText → Result RowValue TableFault
 row_at_line order earlier line = at_line line.number (row_in_line order earlier line)
 
 -- ---- the text
 
--- the rows in the order of the lines
+-- the rows of a text in the order of its lines, or the first fault
 abbrev pub cache_rows_in : Order → List ℕ → Result (List RowValue) TableFault
 cache_rows_in order text = lines_in (codes "Group") text >>= rows_after (row_at_line order) []
 
--- the table of the text
+-- the table of a text, or the first fault
 abbrev pub cache_in : Order → List ℕ → Result CacheValue TableFault
 cache_in order text = cache_rows_in order text >>= λ rows. Ok (table_of rows)

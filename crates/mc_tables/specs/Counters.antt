@@ -1,4 +1,5 @@
--- The counters of a row, of which nothing is kept.
+-- The three counters of a cache's row (packets, bytes, packets from a wrong vif), of which nothing
+-- is kept. Only contracts of private functions use these definitions.
 use Rattle.std.specs.Prelude.{◌≡◌, ℕ, ◌+◌, ◌<◌, ◌==◌, min, Bool, true, List, ◌∷◌, length, slice_index}
 use Rattle.std.specs.Int.{bit_at}
 use Rattle.std.specs.Char.{is_ascii_digit}
@@ -6,7 +7,7 @@ use Rattle.mc_text.specs.Lines.{words_of}
 use Rattle.mc_tables.specs.TableWords.{is_counter}
 use Rattle.mc_tables.specs.declared.lines.marked_line.MarkedLine.{MarkedLine}
 
--- a line's first three words are counters, and its other words are those of what follows them
+-- a line's first three words are counters, and its other words are those of the bytes `after` them
 pub record HasCounters (line after : List ℕ) : Type 0 where
   pub packets : List ℕ
   pub bytes : List ℕ
@@ -16,17 +17,17 @@ pub record HasCounters (line after : List ℕ) : Type 0 where
   pub bytes_count : is_counter bytes ≡ true
   pub wrong_if_count : is_counter wrong_if ≡ true
 
--- where a bit is set, there is a byte at its place, and it passes
+-- each bit that is set marks a byte, the one at its place, and that byte passes
 abbrev pub AreMarks : (ℕ → Bool) → List ℕ → ℕ → Type 0
 AreMarks passes bytes marks =
     (k : ℕ) → bit_at marks k ≡ 1 → (k < length bytes) × (passes (slice_index bytes k) ≡ true)
 
--- the marked bytes are digits, or spaces
+-- the bytes that are marked as digits are digits, and those that are marked as spaces are spaces
 pub record IsMarked (line : MarkedLine) : Type 0 where
   pub digits : AreMarks is_ascii_digit line.bytes.now line.digits
   pub spaces : AreMarks (λ b. b == 32) line.bytes.now line.spaces
 
--- the set bits are the digits that have a space after them
+-- the bits of `ends` mark the digits that have a space after them
 abbrev pub AreLastDigits : ℕ → ℕ → ℕ → Type 0
 AreLastDigits digits spaces ends =
     (k : ℕ) → bit_at ends k ≡ min (bit_at digits k) (bit_at spaces (k + 1))

@@ -1,4 +1,5 @@
--- Numbers that are shown to differ by the marks that they leave in slots.
+-- How numbers are found to be distinct: each leaves a mark in a slot, or is put to the others if there is
+-- another mark. Only contracts of private functions use this.
 use Rattle.std.specs.Prelude.{◌≡◌, ◌≢◌, ℕ, ◌*◌, ◌<◌, ◌/◌, ◌%◌, ◌^◌, ◌⊎◌, List, ◌∷◌, [], ◌++◌}
 use Rattle.std.specs.Prelude.{length, slice_index, slice_set}
 use Rattle.std.specs.List.{IsDistinct}
@@ -8,7 +9,8 @@ use Rattle.std.specs.Ordering.{nat_cmp, eq_by_cmp}
 abbrev pub AreDistinct : List ℕ → Type 0
 AreDistinct numbers = IsDistinct (eq_by_cmp nat_cmp) numbers
 
--- the slot of a number among so many
+-- the slot of a number among `slots`: the number times a large odd number modulo 2^64, of that the
+-- upper 32 bits, scaled down to the number of slots
 abbrev pub slot_of : ℕ → ℕ → ℕ
 slot_of slots number =
     number * 11400714819323198485 % 18446744073709551616 / 2 ^ 32 * slots / 2 ^ 32
@@ -29,7 +31,7 @@ pub record TakesSlot (slots others : List ℕ) (number : ℕ) (slots' others' : 
   pub put : slots' ≡ slice_set slots (slot_of (length slots) number) (mark_of number)
   pub same : others' ≡ others
 
--- the number goes to the others, since its slot has another mark
+-- the number was put to the others, since another mark is in its slot
 pub record GoesToOthers (slots others : List ℕ) (number : ℕ) (slots' others' : List ℕ)
     : Type 0 where
   pub full : mark_in_slot slots number ≢ 0
@@ -37,7 +39,7 @@ pub record GoesToOthers (slots others : List ℕ) (number : ℕ) (slots' others'
   pub same : slots' ≡ slots
   pub put : others' ≡ others ++ number ∷ []
 
--- the number marked its slot or went to the others
+-- the number left its mark in its slot, or was put to the others
 abbrev pub IsPut : List ℕ → List ℕ → ℕ → List ℕ → List ℕ → Type 0
 IsPut slots others number slots' others' =
     TakesSlot slots others number slots' others' ⊎ GoesToOthers slots others number slots' others'

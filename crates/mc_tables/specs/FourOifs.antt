@@ -1,5 +1,5 @@
 -- Outgoing vifs with thresholds of one digit, as ipmr_mfc_seq_show prints them: " %2d:%-3d"
--- (net/ipv4/ipmr.c).
+-- (net/ipv4/ipmr.c). Only contracts of private functions use these definitions.
 use Rattle.std.specs.Prelude.{◌≡◌, ℕ, ◌+◌, ◌≤◌, ◌==◌, ◌||◌, ◌&&◌, nat_le, Bool, true, List, [], ◌∷◌}
 use Rattle.std.specs.Prelude.{◌++◌, drop, slice_index, Ok}
 use Rattle.std.specs.Char.{is_ascii_digit}
@@ -7,11 +7,12 @@ use Rattle.mc_text.specs.Lines.{words_of}
 use Rattle.mc_tables.specs.declared.cache.entry.Oif.{Oif}
 use Rattle.mc_tables.specs.CacheReading.{oif_in}
 
--- the byte is in this range
+-- whether the byte is one of `least` to `most`
 abbrev pub is_within : ℕ → ℕ → ℕ → Bool
 is_within least most byte = nat_le least byte && nat_le byte most
 
--- a line begins with a printed outgoing vif
+-- a line begins with an outgoing vif of seven bytes: a space, the vif, a colon, a threshold of 1 to
+-- 9, and two spaces
 pub record StartsWithPrintedOif (line : List ℕ) : Type 0 where
   pub before : slice_index line 0 ≡ 32
   pub tens : (slice_index line 1 == 32 || is_within 49 51 (slice_index line 1)) ≡ true
@@ -21,7 +22,7 @@ pub record StartsWithPrintedOif (line : List ℕ) : Type 0 where
   pub behind : slice_index line 5 ≡ 32
   pub last : slice_index line 6 ≡ 32
 
--- a line begins with four printed outgoing vifs
+-- a line begins with four outgoing vifs of that form
 pub record StartsWithFourOifs (line : List ℕ) : Type 0 where
   pub first : StartsWithPrintedOif line
   pub second : StartsWithPrintedOif (drop 7 line)
@@ -36,8 +37,8 @@ DenoteAscendingOifs next (word ∷ words) (oif ∷ oifs) end =
     × DenoteAscendingOifs (oif.vif + 1) words oifs end
 DenoteAscendingOifs next words oifs end = ⊥
 
--- The words of a line before its rest denote outgoing vifs that ascend from `next` on and were added
--- behind the old ones, and `end` is the number after the last one.
+-- The words of a line before `rest` denote outgoing vifs, which ascend from `next` on and were
+-- added after the old ones; `end` is the number after the last of them.
 abbrev pub AddsAscendingOifs : (line rest : List ℕ) (next : ℕ) (old new : List Oif) (end : ℕ) → Type 0
 AddsAscendingOifs line rest next old new end =
     (words : List (List ℕ)) × (four : List Oif) × (words_of line ≡ words ++ words_of rest)

@@ -1,4 +1,5 @@
--- The words of a table's line, in their order.
+-- The words of a line of the kernel's two tables, in their order (ipmr_vif_seq_show and
+-- ipmr_mfc_seq_show in net/ipv4/ipmr.c).
 use Rattle.std.specs.Prelude.{◌≡◌, ℕ, ◌≤◌, List, [], ◌∷◌, length, take, drop, Some}
 use Rattle.mc_text.specs.Lines.{words_of}
 use Rattle.mc_text.specs.declared.text.addr.Order.{Order}
@@ -7,24 +8,24 @@ use Rattle.mc_tables.specs.declared.vifs.vif_line.CounterWords.{CounterWords}
 use Rattle.mc_tables.specs.declared.vifs.vif_line.VifWords.{VifWords}
 use Rattle.mc_tables.specs.declared.cache.cache_line.CacheWords.{CacheWords}
 
--- the four counters, and then the rest
+-- the four counters of a vif's line, and then the words after them
 abbrev pub counters_before : CounterWords → List (List ℕ) → List (List ℕ)
 counters_before w rest =
     w.bytes_in.now ∷ w.packets_in.now ∷ w.bytes_out.now ∷ w.packets_out.now ∷ rest
 
--- the nine words of a vif
+-- the nine words of a vif's line
 abbrev pub vif_word_list : VifWords → List (List ℕ)
 vif_word_list w =
     w.index.now ∷ w.device.now
     ∷ counters_before w.counters (w.flags.now ∷ w.local.now ∷ w.remote.now ∷ [])
 
--- the six words of a row, and then those of its outgoing vifs
+-- the six words of a cache's row, and then those of its outgoing vifs
 abbrev pub row_words_before : CacheWords → List (List ℕ) → List (List ℕ)
 row_words_before w outgoing =
     w.group.now ∷ w.origin.now ∷ w.iif.now ∷ w.packets.now ∷ w.bytes.now ∷ w.wrong_if.now ∷ outgoing
 
--- a row's first two words are eight digits each, with a space after each (`%08X %08X ` of
--- ipmr_mfc_seq_show in net/ipv4/ipmr.c), and denote these addresses
+-- a cache's row begins with two words of eight digits, each with a space after it (`%08X %08X `),
+-- and they denote these addresses
 pub record HasAddresses (order : Order) (line : List ℕ) (group origin : ℕ) : Type 0 where
   pub long : 18 ≤ length line
   pub words : words_of line ≡ take 8 line ∷ take 8 (drop 9 line) ∷ words_of (drop 18 line)

@@ -1,4 +1,4 @@
--- The summary of a cache while its rows are read.
+-- The summary of a cache that grows row by row, while the rows are read.
 use Rattle.std.specs.Prelude.{◌≡◌, Bool, ℕ, ◌+◌, ◌&&◌, true, false, not, List, [], ◌∷◌, ◌++◌}
 use Rattle.std.specs.Prelude.{map as map_list, Option, Some, None, is_some, Result, Ok, Err}
 use Rattle.std.specs.Prelude.{if◌then◌else◌}
@@ -20,7 +20,7 @@ use Rattle.mc_tables.specs.Summary.{group_first, shown_pairs, SummaryValue}
 
 -- ---- one more entry
 
--- the rows with the entry of a key that has none
+-- what is kept, with the entry of a key that has none
 abbrev pub with_first_entry : KeptRowsValue → ℕ × ℕ → EntryValue → KeptRowsValue
 with_first_entry kept key entry = record {
   table = record {
@@ -32,7 +32,9 @@ with_first_entry kept key entry = record {
   groups = kept.groups;
 }
 
--- whether an entry was added, or why not
+-- What the answer says of the insertion of an entry: `New`, the listed key had none and has it now;
+-- `Repeated`, it had one already; `Unlisted`, the key isn't listed. But for the first nothing
+-- changes.
 abbrev pub IsEntryInserted : ℕ × ℕ → EntryValue → (old new : KeptRowsValue) → Inserted → Type 0
 IsEntryInserted key entry old new New =
     (set_has_key old.listed key ≡ true) × (is_some (map.get old.table.entries key) ≡ false)
@@ -41,40 +43,42 @@ IsEntryInserted key entry old new Repeated =
     (set_has_key old.listed key ≡ true) × (is_some (map.get old.table.entries key) ≡ true) × (new ≡ old)
 IsEntryInserted key entry old new Unlisted = (set_has_key old.listed key ≡ false) × (new ≡ old)
 
--- the rows with the entry of a key, if the key can have one and has none
+-- what is kept, with the entry of a key, if the key is listed and has none
 abbrev pub with_entry_if_new : KeptRowsValue → ℕ × ℕ → EntryValue → KeptRowsValue
 with_entry_if_new kept key entry =
     if set_has_key kept.listed key && not (is_some (map.get kept.table.entries key))
     then with_first_entry kept key entry else kept
 
--- ---- the pairs that are kept
+-- ---- the lowest pairs
 
--- the pairs p and ps with one more: before p if it is less, nowhere if it is equal, and if it is
--- greater as `put`, which has it among ps
+-- The ascending pairs p and ps with one more pair, which is less than p, equal to it or greater. It
+-- comes first if it is less, and changes nothing if it is equal; if it is greater, `put` has it
+-- among ps.
 abbrev pub put_at : Ordering → (pair p : ℕ × ℕ) (ps put : List (ℕ × ℕ)) → List (ℕ × ℕ)
 put_at Less pair p ps put = pair ∷ p ∷ ps
 put_at Equal pair p ps put = p ∷ ps
 put_at Greater pair p ps put = p ∷ put
 
--- ascending pairs with one more at its place, if it isn't there
+-- ascending pairs with one more at its place, if it isn't among them
 abbrev pub put_pair : ℕ × ℕ → List (ℕ × ℕ) → List (ℕ × ℕ)
 put_pair pair [] = pair ∷ []
 put_pair pair (p ∷ ps) = put_at (key_cmp pair p) pair p ps (put_pair pair ps)
 
--- whether all pairs are kept or the lowest, and those that are kept, ascending and each once
+-- whether all pairs are kept or only the lowest 20, and those that are kept, in ascending order,
+-- each of them once
 pub record KeptPairs : Type 0 where
   pub all : Bool
   pub pairs : List (ℕ × ℕ)
 
--- the pairs with one more
+-- what is kept after one more pair
 abbrev pub with_pair : ℕ × ℕ → KeptPairs → KeptPairs
 with_pair pair kept =
     record { all = kept.all; pairs = shown_pairs kept.all (put_pair pair kept.pairs) }
 
 -- ---- row by row
 
--- The listed keys, and those of them that have an unresolved row; the first rows for every source; how
--- many rows have other keys, and which of these keys are kept.
+-- The listed keys, and those of them that an unresolved row has; the first (*,G) rows; how many
+-- (S,G) rows have other keys, and which of these keys are kept.
 pub record SummarySoFar : Type 0 where
   pub listed : ListedSet
   pub unresolved : set.FinSet key_cmp
@@ -96,7 +100,7 @@ empty_summary all listed = record {
   lowest = record { all = all; pairs = [] };
 }
 
--- the summary with one more unresolved row, if it is one
+-- the summary with one more row, by its key if it is unresolved
 abbrev pub summary_with_unresolved : SummarySoFar → Option (ℕ × ℕ) → SummarySoFar
 summary_with_unresolved summary None = summary
 summary_with_unresolved summary (Some key) = record {
@@ -109,7 +113,7 @@ summary_with_unresolved summary (Some key) = record {
   lowest = summary.lowest;
 }
 
--- the summary with one more row for every source, if it is one
+-- the summary with one more row, by its key and entry if it is a (*,G) row
 abbrev pub summary_with_every_source : SummarySoFar → Option ((ℕ × ℕ) × EntryValue) → SummarySoFar
 summary_with_every_source summary None = summary
 summary_with_every_source summary (Some exact) = record {
@@ -120,7 +124,7 @@ summary_with_every_source summary (Some exact) = record {
   lowest = summary.lowest;
 }
 
--- the summary with one more row whose key isn't listed
+-- the summary with one more (S,G) row whose key isn't listed
 abbrev pub summary_with_unlisted : SummarySoFar → ℕ × ℕ → SummarySoFar
 summary_with_unlisted summary key = record {
   listed = summary.listed;
@@ -130,13 +134,13 @@ summary_with_unlisted summary key = record {
   lowest = with_pair (group_first key) summary.lowest;
 }
 
--- the summary with one more row for one source, if it is one
+-- the summary with one more row, by its key if it is an (S,G) row
 abbrev pub summary_with_exact : SummarySoFar → Option (ℕ × ℕ) → SummarySoFar
 summary_with_exact summary None = summary
 summary_with_exact summary (Some key) =
     if set_has_key summary.listed key then summary else summary_with_unlisted summary key
 
--- the summary with one more row
+-- the summary with one more row, of whatever kind
 abbrev pub summary_with_row : SummarySoFar → RowValue → SummarySoFar
 summary_with_row summary row =
     summary_with_exact
@@ -153,8 +157,8 @@ finished_summary summary = record {
   lowest = summary.lowest.pairs;
 }
 
--- a summary of its parts: the numbers of the keys of unresolved rows, the first rows for every source,
--- how many rows have other keys, and which of these keys are kept
+-- The summary, from what is stored of it: the keys of unresolved rows, each with a number; the
+-- first (*,G) rows; how many (S,G) rows have unlisted keys, and which of these are kept.
 abbrev pub summary_of_parts : List ((ℕ × ℕ) × ℕ) → KeptRowsValue → ℕ → List (ℕ × ℕ) → SummaryValue
 summary_of_parts numbers first unlisted lowest = record {
   unresolved = set.from_list (map_list (λ p. p.0) numbers);
@@ -165,7 +169,7 @@ summary_of_parts numbers first unlisted lowest = record {
 
 -- ---- line by line
 
--- the summary with the row that a line is read as, if it is one
+-- the summary with the row that was read, if one was
 abbrev pub summary_with_read : SummarySoFar → Result RowValue TableFaultKind → SummarySoFar
 summary_with_read summary (Err kind) = summary
 summary_with_read summary (Ok row) = summary_with_row summary row

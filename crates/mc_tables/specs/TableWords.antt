@@ -1,4 +1,5 @@
--- The words of the kernel's tables: the form of each kind of word, and the value that it denotes.
+-- The words of the kernel's two tables: the form of each kind of word, and the value that it
+-- denotes (ipmr_vif_seq_show and ipmr_mfc_seq_show in net/ipv4/ipmr.c).
 use Rattle.std.specs.Prelude.{ℕ, ◌≤◌, ◌==◌, nat_le, Bool, ◌&&◌, List, length, drop}
 use Rattle.std.specs.Prelude.{slice_index, Option, Some, None, if◌then◌else◌}
 use Rattle.std.specs.Char.{is_ascii_digit, is_ascii_hexdigit}
@@ -17,28 +18,29 @@ use Rattle.mc_text.specs.Number.{IsDecimal}
 abbrev pub without_sign : List ℕ → List ℕ
 without_sign word = if slice_index word 0 == 45 then drop 1 word else word
 
--- one to twenty decimal digits, with one `-` before them allowed
+-- whether the word is a counter (`%lu` or `%ld`): one to twenty decimal digits, maybe with a `-`
+-- before them
 abbrev pub is_counter : List ℕ → Bool
 is_counter word =
     (nat_le 1 (length (without_sign word)) && nat_le (length (without_sign word)) 20)
     && list_all is_ascii_digit (without_sign word)
 
--- so many hexadecimal digits of either case, and nothing else
+-- whether the word has `least` to `most` hexadecimal digits of either case, and nothing else
 abbrev pub is_hexadecimal : ℕ → ℕ → List ℕ → Bool
 is_hexadecimal least most word =
     (nat_le least (length word) && nat_le (length word) most) && list_all is_ascii_hexdigit word
 
 -- ---- numbers
 
--- the word denotes the number n in decimal, from least to most
+-- the word denotes the number n, which is `least` to `most`, in decimal
 abbrev pub WordDenotesNumber : ℕ → ℕ → List ℕ → ℕ → Type 0
 WordDenotesNumber least most word n = IsDecimal word n × (least ≤ n) × (n ≤ most)
 
--- one or more decimal digits, and nothing else
+-- whether the word has one decimal digit or more, and nothing else
 abbrev pub is_decimal_word : List ℕ → Bool
 is_decimal_word word = nat_le 1 (length word) && list_all is_ascii_digit word
 
--- the number that the word denotes
+-- the number that the word denotes, if it denotes one that is `least` to `most`
 abbrev pub number_in : ℕ → ℕ → List ℕ → Option ℕ
 number_in least most word =
     if is_decimal_word word
@@ -48,10 +50,10 @@ number_in least most word =
 
 -- ---- addresses
 
--- the word denotes the address a
+-- the word denotes the address a, as a router prints it whose machine has this byte order
 abbrev pub WordDenotesAddress : Order → List ℕ → ℕ → Type 0
 WordDenotesAddress order word a = IsAddr a × IsAddressWord order word a
 
--- the address that the word denotes
+-- the address that the word denotes, if it denotes one
 abbrev pub address_in : Order → List ℕ → Option ℕ
 address_in order word = address_of_octets order (decode_of word)

@@ -1,4 +1,5 @@
--- Rows of a cache of which only the key and the line are kept, by which a repeated one is found.
+-- The (S,G) rows of a cache that aren't listed: of each only the key and the line are kept, by
+-- which one is found that repeats an earlier one.
 use Rattle.std.specs.Prelude.{ℕ, nat_lt, Bool, ◌&&◌, if◌then◌else◌, List, [], ◌∷◌, map, filter, Option}
 use Rattle.std.specs.Prelude.{Some, None, Result, Ok, Err}
 use Rattle.std.specs.List.{list_any}
@@ -9,7 +10,7 @@ use Rattle.mc_tables.specs.declared.fault.TableFault.{TableFault}
 use Rattle.mc_tables.specs.declared.fault.TableFaultKind.TheVariants.{RepeatedEntry}
 use Rattle.mc_tables.specs.CacheTable.{key_cmp, same_key}
 
--- the key of a row, and its line
+-- a row's key, and its line
 abbrev pub UnlistedRow : Type 0
 UnlistedRow = (ℕ × ℕ) × ℕ
 
@@ -17,24 +18,24 @@ UnlistedRow = (ℕ × ℕ) × ℕ
 abbrev pub key_number : UnlistedRow → ℕ
 key_number row = pair_number row.0
 
--- rows are ordered by key, and then by line
+-- the order of rows: by key, and then by line
 abbrev pub row_cmp : UnlistedRow → UnlistedRow → Ordering
 row_cmp x y = ordering_then (key_cmp x.0 y.0) (nat_cmp x.1 y.1)
 
--- a row repeats another one that has its key and an earlier line
+-- whether a row repeats `earlier`: it has the same key, on a later line
 abbrev pub repeats : UnlistedRow → UnlistedRow → Bool
 repeats row earlier = same_key earlier.0 row.0 && nat_lt earlier.1 row.1
 
--- the row repeats one of these
+-- whether the row repeats one of these
 abbrev pub is_repeat : List UnlistedRow → UnlistedRow → Bool
 is_repeat rows row = list_any (repeats row) rows
 
--- the lesser of a number and of another one, if there is one
+-- the lesser of a number and another one, if there is another
 abbrev pub lesser_or : ℕ → Option ℕ → ℕ
 lesser_or n None = n
 lesser_or n (Some m) = if nat_lt m n then m else n
 
--- the least of some numbers
+-- the least of numbers, if there are any
 abbrev pub least : List ℕ → Option ℕ
 least [] = None
 least (n ∷ ns) = Some (lesser_or n (least ns))
@@ -43,11 +44,11 @@ least (n ∷ ns) = Some (lesser_or n (least ns))
 unfoldable pub first_repeat : List UnlistedRow → Option ℕ
 first_repeat rows = least (map (λ row. row.1) (filter (is_repeat rows) rows))
 
--- the fault of a line whose row repeats another, if there is one
+-- the fault of a line whose row repeats another, if there is such a line
 abbrev pub repeat_fault : Option ℕ → Result (Unit {0}) TableFault
 repeat_fault None = Ok tt
 repeat_fault (Some line) = Err (record { line = line; kind = RepeatedEntry })
 
--- none of the rows repeats another, or else the fault of the first that does
+-- nothing, if none of the rows repeats another, or else the fault of the first that does
 abbrev pub without_repeat : List UnlistedRow → Result (Unit {0}) TableFault
 without_repeat rows = repeat_fault (first_repeat rows)

@@ -1,4 +1,5 @@
 -- What a text of /proc/net/ip_mr_vif is read as, from its front: its vifs, or the first fault.
+-- Faults have the order of docs/FORMATS.md.
 use Rattle.std.specs.Prelude.{ℕ, nat_eq, Bool, not, if◌then◌else◌, List, [], ◌∷◌, map, Result, Ok}
 use Rattle.std.specs.Prelude.{Err, codes}
 use Rattle.std.specs.Option.{ok_or}
@@ -22,15 +23,15 @@ use Rattle.mc_tables.specs.TableWords.{is_counter, is_hexadecimal, number_in}
 use Rattle.mc_tables.specs.TableLines.{is_among, lines_in, rows_after}
 use Rattle.mc_tables.specs.VifTable.{VifValue, is_tunnel, is_register, device_of}
 
--- the word, if it is a device's name
+-- the word, which has to be a device's name
 abbrev pub device_in : List ℕ → Result (List ℕ) TableFaultKind
 device_in word = if is_device_name word then Ok word else Err BadDevice
 
--- the flags that the word denotes
+-- the flags that the word denotes: five to eight hexadecimal digits
 abbrev pub flags_in : List ℕ → Result ℕ TableFaultKind
 flags_in word = if is_hexadecimal 5 8 word then Ok (digits_value 16 word) else Err BadFlags
 
--- the vif and the index that the words are read as, from the left
+-- the index and the vif that the words of a line are read as, from the left
 unfoldable pub vif_in_words : List (List ℕ) → Result (ℕ × VifValue) TableFaultKind
 vif_in_words (index ∷ device ∷ bytes_in ∷ packets_in ∷ bytes_out ∷ packets_out ∷ flags ∷ local
     ∷ remote ∷ []) = do
@@ -46,15 +47,15 @@ vif_in_words (index ∷ device ∷ bytes_in ∷ packets_in ∷ bytes_out ∷ pac
       Ok (i, record { device = name; tunnel = is_tunnel bits; register = is_register bits })
 vif_in_words words = Err WordCount
 
--- an earlier row has the index
+-- whether an earlier row has the index
 abbrev pub index_repeats : List (ℕ × VifValue) → ℕ × VifValue → Bool
 index_repeats earlier row = list_any (nat_eq row.0) (map (λ other. other.0) earlier)
 
--- an earlier row has the device, if it is one
+-- whether the vif has a device, and an earlier row has it too
 abbrev pub device_repeats : List (ℕ × VifValue) → ℕ × VifValue → Bool
 device_repeats earlier row = is_among bytes_eq (device_of row) (filter_map device_of earlier)
 
--- the vif of a line that comes after the earlier ones
+-- the index and the vif of a line that comes after the earlier ones
 unfoldable pub vif_in_line : List (ℕ × VifValue) → LineText → Result (ℕ × VifValue) TableFaultKind
 vif_in_line earlier line = do
   _ ← demand line.ended Unended
@@ -63,14 +64,14 @@ vif_in_line earlier line = do
   _ ← demand (not (device_repeats earlier row)) RepeatedDevice
   Ok row
 
--- the same, whose fault has the line's number
+-- that index and vif, or the fault at the line
 abbrev pub vif_at_line : List (ℕ × VifValue) → LineText → Result (ℕ × VifValue) TableFault
 vif_at_line earlier line = at_line line.number (vif_in_line earlier line)
 
--- the vifs with their indexes, in the order of the lines
+-- the vifs of a text with their indexes, in the order of its lines, or the first fault
 abbrev pub vif_rows_in : List ℕ → Result (List (ℕ × VifValue)) TableFault
 vif_rows_in text = lines_in (codes "Interface") text >>= rows_after vif_at_line []
 
--- the vifs by their indexes
+-- the vifs of a text by their indexes, or the first fault
 abbrev pub vifs_in : List ℕ → Result (FinMap nat_cmp VifValue) TableFault
 vifs_in text = vif_rows_in text >>= λ rows. Ok (from_entries rows)

@@ -1,18 +1,20 @@
--- IPv4 addresses. An address is a number of 32 bits, with its first octet as the most significant
--- one: addresses are ordered by their octets, as the numbers are.
+-- IPv4 addresses (RFC 791, section 2.3). An address is a number of 32 bits, whose most significant
+-- octet is its first: addresses are ordered as their octets are.
 use Rattle.std.specs.Prelude.{◌≢◌, ℕ, ◌+◌, ◌*◌, ◌/◌, ◌<◌, ◌≤◌, ◌^◌, ◌==◌, ◌&&◌, not, nat_lt, nat_le}
 use Rattle.std.specs.Prelude.{Bool, List}
 use Rattle.std.specs.Int.{w32, to_be_bytes}
 use Rattle.std.specs.Net.Text.{ipv4_text}
 
+-- a number of 32 bits
 abbrev pub IsAddr : ℕ → Type 0
 IsAddr a = a < 2 ^ 32
 
--- the four octets, the first one first
+-- the four octets of an address, the first one first
 abbrev pub octets_of : ℕ → List ℕ
 octets_of a = to_be_bytes w32 a
 
--- the four octets in decimal without leading zeros, with dots between them
+-- how an address is written: its octets in decimal without leading zeros, with dots between them
+-- (RFC 1123, section 2.1)
 abbrev pub dotted : ℕ → List ℕ
 dotted a = ipv4_text (octets_of a)
 
@@ -20,11 +22,11 @@ dotted a = ipv4_text (octets_of a)
 abbrev pub IsForwardedGroup : ℕ → Type 0
 IsForwardedGroup a = (224 * 2 ^ 24 + 2 ^ 8 ≤ a) × (a < 240 * 2 ^ 24)
 
--- the same as a computable test
+-- whether an address is a group that routers forward, as a test that computes
 abbrev pub is_forwarded_group : ℕ → Bool
 is_forwarded_group a = nat_le (224 * 2 ^ 24 + 2 ^ 8) a && nat_lt a (240 * 2 ^ 24)
 
--- the first octet
+-- the first octet of an address
 abbrev pub first_octet : ℕ → ℕ
 first_octet a = a / 2 ^ 24
 
@@ -33,7 +35,7 @@ first_octet a = a / 2 ^ 24
 abbrev pub IsSource : ℕ → Type 0
 IsSource a = (1 ≤ first_octet a) × (first_octet a ≤ 223) × (first_octet a ≢ 127)
 
--- the same as a computable test
+-- whether an address is one that a host may send from, as a test that computes
 abbrev pub is_source : ℕ → Bool
 is_source a =
     (nat_le 1 (first_octet a) && nat_le (first_octet a) 223) && not (first_octet a == 127)

@@ -1,6 +1,6 @@
--- How a kernel prints an address: as eight hexadecimal digits of the four network-order bytes, read
--- as one number in the byte order of its machine (`%08X` of `mfc_mcastgrp` and `mfc_origin` in
--- net/ipv4/ipmr.c).
+-- How a kernel prints an address in its table: as eight hexadecimal digits of the four
+-- network-order bytes, read as one number in the byte order of its machine (`%08X` of
+-- `mfc_mcastgrp` and `mfc_origin` in ipmr_mfc_seq_show of net/ipv4/ipmr.c).
 use Rattle.std.specs.Prelude.{◌≡◌, ℕ, List, reverse, Ok}
 use Rattle.hex.specs.Hex.{decode_of}
 use Rattle.mc_text.specs.declared.text.addr.Order.{Order}
@@ -9,8 +9,8 @@ use Rattle.mc_text.specs.Addr.{octets_of}
 use Rattle.std.specs.Prelude.{unwrap_or}
 use Rattle.hex.specs.Hex.{hex_digit_value}
 
--- the octets in the order in which the digits write them: first to last on a big-endian machine, last
--- to first on a little-endian one
+-- an address's octets in the order in which the digits write them: first to last on a big-endian
+-- machine, last to first on a little-endian one
 abbrev pub printed_octets : Order → ℕ → List ℕ
 printed_octets Big a = octets_of a
 printed_octets Little a = reverse (octets_of a)
@@ -19,6 +19,6 @@ printed_octets Little a = reverse (octets_of a)
 abbrev pub IsAddressWord : Order → List ℕ → ℕ → Type 0
 IsAddressWord order word a = decode_of word ≡ Ok (printed_octets order a)
 
--- the value of a digit of either case, or 16
+-- the value of a hexadecimal digit, in upper or lower case; 16 for every other byte
 abbrev pub hex_value_or_16 : ℕ → ℕ
 hex_value_or_16 c = unwrap_or (hex_digit_value c) 16

@@ -1,8 +1,8 @@
--- The faults of a bundle's text, and those of reading it from an input.
+-- Which faults say something of a bundle's text, and which of the input that it is read from.
 use Rattle.mc_text.specs.declared.bundle.bundle_fault.BundleFault.{BundleFault}
 use Rattle.mc_text.specs.declared.bundle.bundle_fault.BundleFault.TheVariants as faults
 
--- the text is no bundle
+-- the fault says that the text is no bundle
 abbrev pub IsFramingFault : BundleFault → Type 0
 IsFramingFault faults.Read = ⊥
 IsFramingFault faults.Memory = ⊥
@@ -10,7 +10,7 @@ IsFramingFault faults.Write = ⊥
 IsFramingFault faults.Failed = ⊥
 IsFramingFault fault = Unit {0}
 
--- the bytes of the input are no bundle, or the input failed
+-- the fault says that the input's bytes are no bundle, or that reading them failed
 abbrev pub IsInputFault : BundleFault → Type 0
 IsInputFault faults.Read = Unit {0}
 IsInputFault fault = IsFramingFault fault

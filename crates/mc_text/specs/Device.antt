@@ -1,43 +1,46 @@
--- The values in contracts of inputs and outputs, and the number of a device's failed calls after
--- another call.
+-- What contracts see of inputs and outputs, from which bytes come and to which they go, and how
+-- many calls of one have failed.
 use Rattle.std.specs.Prelude.{ℕ, ◌+◌, ◌<◌, ◌==◌, ◌&&◌, nat_lt, List, length, take, Option, Result}
 use Rattle.std.specs.Prelude.{Ok, Err, Bool, true, cond, if◌then◌else◌}
 use Rattle.std.specs.Io.KnownBytes.{Appends}
 use Rattle.mc_text.specs.declared.io.device.DeviceFault.{DeviceFault}
 
+-- an input
 pub record InputState : Type 0 where
   -- the bytes that are still to be read, if they are known
   pub remaining : Option (List ℕ)
   -- how many calls failed
   pub failed : ℕ
 
+-- an output
 pub record OutputState : Type 0 where
   -- the bytes that were written, if they are known
   pub written : Option (List ℕ)
   -- how many calls failed
   pub failed : ℕ
 
--- a read fails if it returns an error
+-- how many calls failed, after a read: it fails if it returns an error
 abbrev pub failures_after_read : Result ℕ DeviceFault → ℕ → ℕ
 failures_after_read (Ok n) before = before
 failures_after_read (Err e) before = before + 1
 
--- a write fails if it returns an error, or writes no byte of a nonempty text
+-- how many calls failed, after a write: it fails if it returns an error, or takes no byte of a text
+-- that has some
 abbrev pub failures_after_write : Result ℕ DeviceFault → List ℕ → ℕ → ℕ
 failures_after_write (Ok n) text before =
     if (n == 0) && nat_lt 0 (length text) then before + 1 else before
 failures_after_write (Err e) text before = before + 1
 
--- the failures of a device after a call that stops at the first failure: one more if the fault is the
--- device's own
+-- how many calls failed, after a function that stops at the first failure: one more if the fault is
+-- the device's own
 abbrev pub failures_after : {X E : Type 0} → (E → Bool) → Result X E → ℕ → ℕ
 failures_after is_own (Ok x) before = before
 failures_after is_own (Err e) before = cond (is_own e) (before + 1) before
 
--- every fault of a device is its own
+-- whether a device's fault is its own: each is
 abbrev pub is_failure : DeviceFault → Bool
 is_failure e = true
 
--- a proper prefix of the text was appended
+-- some bytes from the text's front, but not all, were appended to what an output had taken
 abbrev pub AppendsProperPrefix : Option (List ℕ) → Option (List ℕ) → List ℕ → Type 0
 AppendsProperPrefix old new text = (k : ℕ) × (k < length text) × Appends old new (take k text)

@@ -4,12 +4,12 @@ use Rattle.std.specs.Prelude.{◌≡◌, ℕ, ◌-◌, ◌*◌, ◌%◌, ◌^◌
 use Rattle.std.specs.Prelude.{Bool, List, ◌++◌, codes, decimal}
 use Rattle.mc_text.specs.Addr.{dotted}
 
--- the number of groups in a range of this length
+-- how many groups a range of this length has
 abbrev pub range_size : ℕ → ℕ
 range_size length = 2 ^ (32 - length)
 
--- A range, of its first address and its length, is a part of 224.0.0.0/4 or all of it (RFC 5771, section
--- 3), and the bits of its address behind its length are zero.
+-- A range is its first address and its length, the number of leading bits. It is all of 224.0.0.0/4
+-- or a part of it (RFC 5771, section 3), and the bits of its address past its length are zero.
 pub record IsGroupRange (range : ℕ × ℕ) : Type 0 where
   pub low : 224 * 2 ^ 24 ≤ range.0
   pub high : range.0 < 240 * 2 ^ 24
@@ -21,6 +21,6 @@ pub record IsGroupRange (range : ℕ × ℕ) : Type 0 where
 abbrev pub range_text : ℕ × ℕ → List ℕ
 range_text range = dotted range.0 ++ (codes "/" ++ decimal range.1)
 
--- the range has the group
+-- whether the range has the group
 abbrev pub has_group : ℕ × ℕ → ℕ → Bool
 has_group range group = nat_le range.0 group && nat_lt (group - range.0) (range_size range.1)

@@ -1,10 +1,11 @@
--- The lines of a text, which line feeds separate, numbered from 1; and the words of a line.
+-- The lines of a text, which line feeds separate, numbered from 1; and the words of a line, which
+-- spaces separate.
 use Rattle.std.specs.Prelude.{◌≡◌, ℕ, ◌+◌, ◌<◌, ◌==◌, IsTrue, MatchBool, Bool, true, false, List}
 use Rattle.std.specs.Prelude.{[], ◌∷◌, ◌++◌, length, if◌then◌else◌}
 use Rattle.std.specs.List.{slice_split, flat_map, AllByRecursion}
 use Rattle.std.specs.Prelude.{not, filter}
 
--- none of the bytes is this one
+-- none of the bytes is `byte`
 abbrev pub HasNoByte : ℕ → List ℕ → Type 0
 HasNoByte byte bytes = AllByRecursion (λ b. (b == byte) ≡ false) bytes
 
@@ -12,18 +13,18 @@ HasNoByte byte bytes = AllByRecursion (λ b. (b == byte) ≡ false) bytes
 abbrev pub HasNoLineFeed : List ℕ → Type 0
 HasNoLineFeed bytes = HasNoByte 10 bytes
 
--- the greatest length of a text that is read as lines, in bytes
+-- the most bytes of a text that is read as lines
 abbrev pub max_text : ℕ
 max_text = 16777216
 
--- the number and the bytes of a line, and whether a line feed ends it
+-- a line: its number, its bytes, and whether a line feed ends it
 pub record LineText : Type 0 where
   pub number : ℕ
   pub bytes : List ℕ
   pub ended : Bool
 
--- The lines of the parts between line feeds. Each but the last is a line that a line feed ends. The
--- last is a line that none ends, if it is not empty.
+-- The lines of the parts between line feeds, from the number n on. A line feed ends each but the
+-- last; the last is a line only if it has bytes.
 abbrev pub numbered : ℕ → List (List ℕ) → List LineText
 numbered n [] = []
 numbered n (part ∷ []) =
@@ -31,27 +32,28 @@ numbered n (part ∷ []) =
 numbered n (part ∷ next ∷ more) =
     record { number = n; bytes = part; ended = true } ∷ numbered (n + 1) (next ∷ more)
 
--- the lines of a text whose first has the number n
+-- the lines of a text, whose first has the number n
 abbrev pub lines_from : ℕ → List ℕ → List LineText
 lines_from n text = numbered n (slice_split (λ b. b == 10) text)
 
+-- the lines of a text, numbered from 1
 abbrev pub lines_of : List ℕ → List LineText
 lines_of text = lines_from 1 text
 
--- the bytes of a line, with its line feed if it has one
+-- how a line is written: its bytes, and its line feed if one ends it
 abbrev pub spelling : LineText → List ℕ
 spelling line = if line.ended then line.bytes ++ 10 ∷ [] else line.bytes
 
--- the text that the lines join to
+-- the text of these lines, one after another
 abbrev pub join_lines : List LineText → List ℕ
 join_lines lines = flat_map spelling lines
 
--- each line but the last is ended by a line feed, and a last line without one is not empty
+-- a line feed ends each line but the last, and a last line that none ends has bytes
 abbrev pub OnlyLastMayBeUnended : List LineText → Type 0
 OnlyLastMayBeUnended [] = Unit {0}
 OnlyLastMayBeUnended (line ∷ []) = MatchBool line.ended (Unit {0}) (0 < length line.bytes)
 OnlyLastMayBeUnended (line ∷ next ∷ more) = IsTrue line.ended × OnlyLastMayBeUnended (next ∷ more)
 
--- The words of a line: the longest stretches without a space, in order.
+-- the words of a line: its longest stretches without a space, in order
 abbrev pub words_of : List ℕ → List (List ℕ)
 words_of line = filter (λ part. not (length part == 0)) (slice_split (λ b. b == 32) line)

@@ -1,4 +1,5 @@
--- A part's name in memory: its bytes, followed by zeros, and their number.
+-- A part's name in memory: 64 bytes, of which the first are the name and the others zeros, and the
+-- name's length.
 use Rattle.std.specs.Prelude.{◌≡◌, ℕ, ◌≤◌, List, length, take}
 use Rattle.mc_text.specs.declared.bundle.part_name.PartName.TheInside.{Inside}
 use Rattle.mc_text.specs.Bundle.{IsPartName, max_name}
@@ -8,17 +9,17 @@ use Rattle.std.specs.Prelude.{◌-◌, ◌++◌, replicate}
 abbrev pub padded : List ℕ → List ℕ
 padded name = name ++ replicate (max_name - length name) 0
 
--- the bytes of the name
+-- the name in these fields
 abbrev pub name_of : Inside → List ℕ
 name_of a = take a.length a.bytes
 
--- the bytes are a name, followed by zeros
+-- these fields have a part's name, and zeros after it
 pub record IsNameInside (a : Inside) : Type 0 where
   pub name : IsPartName (name_of a)
   pub within : a.length ≤ max_name
   pub full : length a.bytes ≡ max_name
   pub zeros : a.bytes ≡ padded (name_of a)
 
--- the fields of a name in memory
+-- the fields of a name
 abbrev pub inside_of : List ℕ → Inside
 inside_of name = record { bytes = padded name; length = length name }

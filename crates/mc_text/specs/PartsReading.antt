@@ -1,4 +1,4 @@
--- Reading a bundle part by part from an input: what its remaining bytes are read as.
+-- A bundle that is read part by part from an input: what its remaining bytes are read as.
 use Rattle.std.specs.Prelude.{◌≡◌, ℕ, ◌-◌, ◌≤◌, ◌==◌, nat_lt, Bool, true, false, List, [], ◌∷◌}
 use Rattle.std.specs.Prelude.{◌++◌, length, take, drop, codes}
 use Rattle.std.specs.Prelude.{IsSome, Option, Some, None, Result, Ok, Err, if◌then◌else◌}
@@ -14,13 +14,14 @@ use Rattle.mc_text.specs.Bundle.{PartText, max_part, max_parts, max_bundle}
 use Rattle.mc_text.specs.BundleReading.{line_at, parse_part_line, part_bytes_at, is_too_large}
 use Rattle.mc_text.specs.BundleReading.{part_room, parts_from, bundle_of}
 
--- whether the fault is a failed read
+-- whether the fault is that a read failed
 abbrev pub is_read : BundleFault → Bool
 is_read faults.Read = true
 is_read fault = false
 
--- The function's result, with `view` applied, and the bytes that remain after it are what `read` gives
--- of the bytes before it. Nothing is claimed if the input failed, or if its bytes are unknown.
+-- The function's result, with `view` applied to its value, and the bytes that are left after it are
+-- what `read` gives of the bytes before it. Nothing is claimed if a read failed, or if the input's
+-- bytes are unknown.
 abbrev pub ReadsAs : {X Y : Type 0} → (X → Y) → Option (List ℕ) → Option (List ℕ)
     → Result X BundleFault → (List ℕ → Result (Y × List ℕ) BundleFault) → Type 0
 ReadsAs view None new answer read = Unit {0}
@@ -29,17 +30,18 @@ ReadsAs view (Some text) new (Err fault) read = read text ≡ Err fault
 ReadsAs view (Some text) None (Ok x) read = ⊥
 ReadsAs view (Some text) (Some later) (Ok x) read = read text ≡ Ok (view x, later)
 
--- the first line
+-- the bytes after a bundle's first line, with which the text has to begin
 abbrev pub magic_of : List ℕ → Result (Unit {0} × List ℕ) BundleFault
 magic_of text =
     if bytes_eq (take 17 text) (codes "mcaudit bundle 1\n") then Ok (tt, drop 17 text)
     else Err faults.NoMagic
 
--- the rest of a part, `left` bytes, and its line feed
+-- the bytes after what is left of a part, which is `left` bytes and a line feed
 abbrev pub rest_of_part : ℕ → List ℕ → Result (Unit {0} × List ℕ) BundleFault
 rest_of_part left text = part_bytes_at left text >>= λ found. Ok (tt, found.1)
 
--- the part that a line with this name and length opens, where so many parts and bytes may come
+-- the part that a line with this name and length opens, where at most `parts` parts of at most
+-- `room` bytes in all may come
 abbrev pub opened_part : ℕ → ℕ → List ℕ → Option (List ℕ × ℕ) → Result OpenPart BundleFault
 opened_part parts room line None = Err faults.BadPartLine
 opened_part parts room line (Some header) =
@@ -52,36 +54,41 @@ opened_part parts room line (Some header) =
       room = room - part_room line header.1;
     })
 
--- what the line `end` opens: nothing, if no byte follows it
+-- what the line `end` opens: nothing. Its four bytes have to fit into the bundle, and no byte may
+-- follow
 abbrev pub opened_end : ℕ → List ℕ → Result (Option OpenPart × List ℕ) BundleFault
 opened_end room after =
     if nat_lt room 4 then Err faults.TooLarge
     else if length after == 0 then Ok (None, after)
     else Err faults.AfterEnd
 
--- what a line opens, and the bytes after it
+-- what a line opens, a part or nothing, and the bytes after the line, where at most `parts` parts
+-- of at most `room` bytes in all may come
 abbrev pub opened_by_line : ℕ → ℕ → List ℕ × List ℕ → Result (Option OpenPart × List ℕ) BundleFault
 opened_by_line parts room cut =
     if bytes_eq cut.0 (codes "end") then opened_end room cut.1
     else (opened_part parts room cut.0 (parse_part_line cut.0) >>= λ part. Ok (Some part, cut.1))
 
--- what the line at the text's front opens
+-- what the line at the text's front opens, and the bytes after the line
 abbrev pub opened_at : ℕ → ℕ → List ℕ → Result (Option OpenPart × List ℕ) BundleFault
 opened_at parts room text = line_at text >>= opened_by_line parts room
 
--- what comes before the line of the next part: the first line, or the rest of the current part
+-- the bytes after what comes before the next part's line: at the start the first line, and else
+-- what is left of a part
 abbrev pub skipped_before_next : Bool → ℕ → List ℕ → Result (Unit {0} × List ℕ) BundleFault
 skipped_before_next start left text = if start then magic_of text else rest_of_part left text
 
--- what the next part's line opens
+-- what the next part's line opens, and the bytes after the line
 abbrev pub opened_next : Bool → ℕ → ℕ → ℕ → List ℕ → Result (Option OpenPart × List ℕ) BundleFault
 opened_next start left parts room text =
     skipped_before_next start left text >>= λ found. opened_at parts room found.1
 
 -- ---- the parts that are still to come
 
--- The state of reading: the stage (at the start, in a part, past the end or after a fault), how many
--- parts and bytes may still come, the current part with its bytes left, and the input.
+-- The state of reading: the stage (at the start, in a part, past the end or after a fault), how
+-- many parts and bytes may still come, the current part's name and size, how many of its bytes are
+-- left, and the input: the bytes that it still gives, how many of its calls failed, and what it
+-- borrows.
 pub record PartsState : Type 0 where
   pub stage : Stage
   pub parts : ℕ
@@ -115,8 +122,8 @@ pub record IsOpened (state : PartsState) (name : List ℕ) : Type 0 where
   pub left : state.left ≡ state.size
   pub size : state.size ≤ max_part
 
--- the current part, of which the bytes `done` were read and `left` more come at the front of the text,
--- and the parts after it
+-- the current part and the parts after it, where its bytes `done` were read before, and the text
+-- begins with the `left` bytes that are left of it
 abbrev pub part_and_rest : List ℕ → List ℕ → ℕ → ℕ → ℕ → List ℕ
     → Result (List PartText) BundleFault
 part_and_rest name done left parts room text =
@@ -125,7 +132,7 @@ part_and_rest name done left parts room text =
     let part : PartText = record { name = name; bytes = done ++ found.0 } in
     Ok (part ∷ others)
 
--- the current part, if there is one, and those after it
+-- the current part, if there is one, and the parts after it
 abbrev pub current_and_rest : Option (List ℕ) → List ℕ → ℕ → ℕ → ℕ → List ℕ
     → Result (List PartText) BundleFault
 current_and_rest None done left parts room text = Err faults.Failed
@@ -146,25 +153,27 @@ parts_at_stage stages.Failed state done text = Err faults.Failed
 abbrev pub parts_from_current : PartsState → List ℕ → List ℕ → Result (List PartText) BundleFault
 parts_from_current state done text = parts_at_stage state.stage state done text
 
--- the part of this name, if there is a name
+-- the part of this name and these bytes, if there is a name
 abbrev pub part_if_named : Option (List ℕ) → List ℕ → List PartText
 part_if_named None bytes = []
 part_if_named (Some name) bytes = record { name = name; bytes = bytes } ∷ []
 
+-- the current part at a stage, as a list: none but in a part
 abbrev pub current_part_at_stage : Stage → PartsState → List ℕ → List ℕ → List PartText
 current_part_at_stage stages.Part state done text = part_if_named state.name (done ++ take state.left text)
 current_part_at_stage stage state done text = []
 
--- the current part, if there is one, as a list
+-- the current part as a list, if there is one: its bytes `done`, and those that are left of it in
+-- the text
 abbrev pub current_part : PartsState → List ℕ → List ℕ → List PartText
 current_part state done text = current_part_at_stage state.stage state done text
 
--- these parts before those that were read
+-- these parts, and then those that were read
 abbrev pub prepend_parts : List PartText → Result (List PartText) BundleFault
     → Result (List PartText) BundleFault
 prepend_parts parts read = read >>= λ others. Ok (parts ++ others)
 
--- the invariant of the state of reading
+-- the rules of every state of reading
 pub record IsValidPartsState (state : PartsState) : Type 0 where
   pub start : state.stage ≡ stages.Start
       → (state.parts ≡ max_parts) × (state.room ≡ max_bundle - 17)
@@ -172,7 +181,7 @@ pub record IsValidPartsState (state : PartsState) : Type 0 where
   pub left : state.left ≤ state.size
   pub size : state.size ≤ max_part
 
--- the parts from a line on: that of a part, which was opened, or `end`
+-- the parts from a line on that opened a part, or nothing at the line `end`
 abbrev pub parts_of_opened : Option OpenPart → List ℕ → Result (List PartText) BundleFault
 parts_of_opened None later = Ok []
 parts_of_opened (Some part) later =

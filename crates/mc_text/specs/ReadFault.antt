@@ -1,15 +1,15 @@
--- What is read by a function that calls `read` many times.
+-- What was read of an input by a function that calls `read` many times.
 use Rattle.std.specs.Prelude.{◌≡◌, ℕ, ◌≤◌, Bool, true, false, List, ◌++◌, length, Option}
 use Rattle.std.specs.Io.KnownBytes.{Consumes}
 use Rattle.mc_text.specs.declared.io.input_bytes.ReadFault.{ReadFault}
 use Rattle.mc_text.specs.declared.io.input_bytes.ReadFault.TheVariants.{Read, Memory}
 
--- whether the fault is a failed read, as lack of memory is not
+-- whether the fault is that a read failed, and not that memory ran out
 abbrev pub is_read : ReadFault → Bool
 is_read Read = true
 is_read Memory = false
 
--- the bytes that were read were appended to the old ones
+-- some bytes were read, and appended to the old ones
 abbrev pub ReadsOnto : Option (List ℕ) → Option (List ℕ) → List ℕ → List ℕ → Type 0
 ReadsOnto remaining later old new = (bytes : List ℕ) × Consumes remaining later bytes × (new ≡ old ++ bytes)
 

@@ -1,6 +1,6 @@
 -- The certificate that a clean travel of a packet with TTL 255 makes: an entry for each copy that
--- it carried, in the order in which they were carried. A copy comes after the one that it was
--- sent on from.
+-- LANs carried, in the order in which they did. A copy comes after the one that it was sent on
+-- from.
 use Rattle.std.specs.Prelude.{ℕ, ◌+◌, ◌-◌, max, ◌==◌, if◌then◌else◌}
 use Rattle.std.specs.Prelude.{List, [], ◌∷◌, ◌++◌, Option, Some, None}
 use Rattle.mc_theory.specs.Nets.{Net, Row, Interface}
@@ -10,30 +10,32 @@ use Rattle.mc_theory.specs.Certificates.{Entry, IsAccepted}
 use Rattle.mc_theory.specs.Reasons.{entry_at}
 use Rattle.mc_theory.specs.Findings.{from_lan}
 
--- the threshold of a vif's pair
+-- the threshold of vif v among these pairs; 0 if it has none
 abbrev pub threshold_of : ℕ → List (ℕ × ℕ) → ℕ
 threshold_of v [] = 0
 threshold_of v (p ∷ ps) = if p.0 == v then p.1 else threshold_of v ps
 
+-- the pairs of a row; only an (S,G) entry has any
 abbrev pub row_pairs : Row → List (ℕ × ℕ)
 row_pairs (Exact incoming pairs) = pairs
 row_pairs Open = []
 row_pairs NoRow = []
 
--- what a copy needs that comes from this entry's LAN over a pair with this threshold
+-- the need of a LAN that is reached from the LAN of an entry, by a pair with this threshold; 1
+-- without such an entry
 abbrev pub need_over : ℕ → Option Entry → ℕ
 need_over threshold None = 1
 need_over threshold (Some p) = max p.need (p.rank + threshold + 1)
 
--- The need of a copy with this sender, after the entries of the earlier copies: 1 for the
--- source's copy, and for another the greater of the need of the LAN that its sender took it from,
--- and of what passes the threshold there.
+-- The need of a copy's LAN, by the copy's sender, after the entries of the earlier copies: 1 for
+-- the source's copy, and for another the greater of the need of the LAN that its sender took it
+-- from, and of what passes the threshold there.
 abbrev pub need_after : Net → List Entry → Option Interface → ℕ
 need_after n es None = 1
 need_after n es (Some i) =
     need_over (threshold_of i.1 (row_pairs (n.row i.0))) (entry_at es (from_lan n (Some i)))
 
--- a copy's entry, after those of the earlier copies: its rank is what its TTL has lost
+-- a copy's entry, after those of the earlier copies; its rank is what its TTL has lost since 255
 abbrev pub entry_after : Net → List Entry → Copy → Entry
 entry_after n es c = record {
   lan = c.lan;
@@ -42,7 +44,7 @@ entry_after n es c = record {
   forwarder = c.sender;
 }
 
--- the entries of some copies, after those of the earlier ones
+-- the entries `es` of the earlier copies, and then those of these copies
 abbrev pub entries_after : Net → List Entry → List Copy → List Entry
 entries_after n es [] = es
 entries_after n es (c ∷ cs) = entries_after n (es ++ entry_after n es c ∷ []) cs

@@ -1,12 +1,12 @@
--- Where a copy came from: each carried copy but the source's was sent on from one that was
--- carried before it.
+-- Where a copy came from: each carried copy but the source's was sent on from one that was carried
+-- before it.
 use Rattle.std.specs.Prelude.{◌≡◌, ℕ, ◌+◌, ◌<◌, List, [], ◌∷◌, ◌++◌, Some, ⊤}
 use Rattle.mc_theory.specs.Lists.{In}
 use Rattle.mc_theory.specs.Nets.{Net, Interface}
 use Rattle.mc_theory.specs.Nets.Row.{Exact}
 use Rattle.mc_theory.specs.Flights.{Copy}
 
--- Interface i sent copy c when its router handled copy b: the router's exact row takes from b's
+-- Interface i sent copy c when its router handled copy b: the router's (S,G) entry takes from b's
 -- LAN, it has a pair of i's vif whose threshold b's TTL passed, and c has one TTL less.
 pub record IsSentOn (n : Net) (b c : Copy) (i : Interface) : Type 0 where
   pub incoming : ℕ
@@ -24,7 +24,7 @@ abbrev pub IsSentOnFromSome : Net → List Copy → Copy → Type 0
 IsSentOnFromSome n earlier c = (i : Interface) → c.sender ≡ Some i →
     (b : Copy) × In b earlier × IsSentOn n b c i
 
--- Each of these copies was sent on from one before it in the list.
+-- Each of these copies, after the `earlier` ones, was sent on from one before it.
 abbrev pub AreInSendingOrder : Net → List Copy → List Copy → Type 0
 AreInSendingOrder n earlier [] = ⊤
 AreInSendingOrder n earlier (c ∷ cs) =

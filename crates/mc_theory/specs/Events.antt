@@ -1,4 +1,5 @@
--- What a handling shows: which interface took a copy with which TTL, and what came of it.
+-- What is seen of a run, handling by handling: which interface took a copy with which TTL, and what
+-- came of it.
 use Rattle.std.specs.Prelude.{ℕ, not, ◌&&◌, nat_lt, ◌==◌, if◌then◌else◌, List, [], ◌∷◌, slice_get}
 use Rattle.std.specs.Prelude.{Option, Some, None, is_some}
 use Rattle.mc_theory.specs.Lists.{count_of}
@@ -6,6 +7,7 @@ use Rattle.mc_theory.specs.Nets.{Net, Row}
 use Rattle.mc_theory.specs.Nets.Row.{Exact, Open as open_row, NoRow as no_row}
 use Rattle.mc_theory.specs.Flights.{Waiting, Flight, step}
 
+-- what came of a copy that a router took
 pub data Outcome : Type 0 where
   -- the router's row isn't followed
   Open : Outcome
@@ -13,34 +15,36 @@ pub data Outcome : Type 0 where
   NoRow : Outcome
   -- the copy came in by another vif than the expected one
   OtherVif : Outcome
-  -- so many copies were put on LANs, and so many left the known domain
+  -- it was forwarded: so many copies were put on LANs, and so many left the known domain
   Sent : (copies strays : ℕ) → Outcome
 
+-- one router handling one copy, which waited at its vif with this TTL
 pub record Event : Type 0 where
   pub router : ℕ
   pub vif : ℕ
   pub ttl : ℕ
   pub outcome : Outcome
 
--- how many pairs of router r send a copy that came with TTL t onto a LAN
+-- how many of the pairs send a copy that came to router r with TTL t onto a LAN
 abbrev pub onto_lan_count : Net → ℕ → ℕ → List (ℕ × ℕ) → ℕ
 onto_lan_count n r t pairs = count_of (λ p. nat_lt p.1 t && is_some (n.placed r p.0)) pairs
 
--- how many pairs send it out of the known domain
+-- how many of the pairs send that copy out of the known domain
 abbrev pub astray_count : Net → ℕ → ℕ → List (ℕ × ℕ) → ℕ
 astray_count n r t pairs = count_of (λ p. nat_lt p.1 t && not (is_some (n.placed r p.0))) pairs
 
--- what comes of pairs that send a copy that came with TTL t
+-- what comes of a copy that these pairs send, which came to router r with TTL t
 abbrev pub outcome_of_sending : Net → (r t : ℕ) → List (ℕ × ℕ) → Outcome
 outcome_of_sending n r t pairs = Sent (onto_lan_count n r t pairs) (astray_count n r t pairs)
 
+-- what comes of a waiting copy, by the router's row
 abbrev pub outcome_by_row : Net → Waiting → Row → Outcome
 outcome_by_row n w open_row = Open
 outcome_by_row n w no_row = NoRow
 outcome_by_row n w (Exact incoming pairs) =
     if incoming == w.vif then outcome_of_sending n w.router w.ttl pairs else OtherVif
 
--- the event of a waiting copy's handling
+-- the event in which a waiting copy is handled
 abbrev pub event_of : Net → Waiting → Event
 event_of n w = record {
   router = w.router;
@@ -49,23 +53,25 @@ event_of n w = record {
   outcome = outcome_by_row n w (n.row w.router);
 }
 
--- puts the waiting copy's event, if there is one, before others
+-- the event of a waiting copy, if there is one, and then others
 abbrev pub prepend_event : Net → Option Waiting → List Event → List Event
 prepend_event n None es = es
 prepend_event n (Some w) es = event_of n w ∷ es
 
--- the events of a run without loss, whose picks these are
+-- the events of a run without loss, which handles the waiting copies at these places
 abbrev pub events : Net → List ℕ → Flight → List Event
 events n [] f = []
 events n (i ∷ is) f = prepend_event n (slice_get f.waiting i) (events n is (step n i f))
 
--- how many copies were put on LANs, and how many left the known domain
+-- how many copies an outcome put on LANs
 abbrev pub copies_in : Outcome → ℕ
 copies_in Open = 0
 copies_in NoRow = 0
 copies_in OtherVif = 0
 copies_in (Sent copies strays) = copies
 
+-- how many copies left the known domain by an outcome; one that came to a row that isn't followed
+-- is one of them
 abbrev pub strays_in : Outcome → ℕ
 strays_in Open = 1
 strays_in NoRow = 0

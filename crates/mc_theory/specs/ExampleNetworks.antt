@@ -1,4 +1,4 @@
--- Small networks as values, on which the definitions are computed and what they promise is judged
+-- Small networks as values, on which the definitions are computed, and what they promise is judged
 -- by hand. Routers r1 to r4 are 0 to 3, LANs l0 to l3 are 0 to 3, and the source sends on l0.
 use Rattle.std.specs.Prelude.{ℕ, zero, suc, Bool, cond, ◌&&◌, ◌||◌, ◌==◌, List, [], ◌∷◌, ◌++◌, Option}
 use Rattle.std.specs.Prelude.{Some, None}
@@ -15,15 +15,17 @@ use Rattle.mc_theory.specs.Paths.{Hop}
 abbrev pub Placement : Type 0
 Placement = ℕ × ℕ × ℕ
 
+-- the LAN on which vif v of router r is placed, by a table of placements
 abbrev pub placed_by_table : List Placement → ℕ → ℕ → Option ℕ
 placed_by_table [] r v = None
 placed_by_table (p ∷ ps) r v = cond ((p.0 == r) && (p.1 == v)) (Some p.2) (placed_by_table ps r v)
 
+-- router r's row, by a table of routers with their rows; no row for a router that isn't there
 abbrev pub row_by_table : List (ℕ × Row) → ℕ → Row
 row_by_table [] r = NoRow
 row_by_table (t ∷ ts) r = cond (t.0 == r) t.1 (row_by_table ts r)
 
--- so many routers, with these wanting LANs and this TTL
+-- a network of `routers` routers, with these placements, rows, wanting LANs and TTL
 abbrev pub network : ℕ → List Placement → List (ℕ × Row) → (ℕ → Bool) → ℕ → Net
 network routers places rows wants ttl = record {
   routers = routers;
@@ -34,6 +36,7 @@ network routers places rows wants ttl = record {
   ttl = ttl;
 }
 
+-- an entry with these fields
 abbrev pub entry : ℕ → ℕ → ℕ → Option Interface → Entry
 entry lan rank need forwarder = record {
   lan = lan;
@@ -42,6 +45,7 @@ entry lan rank need forwarder = record {
   forwarder = forwarder;
 }
 
+-- a copy with these fields
 abbrev pub copy : ℕ → ℕ → Option Interface → Copy
 copy lan ttl sender = record { lan = lan; ttl = ttl; sender = sender }
 
@@ -49,12 +53,12 @@ copy lan ttl sender = record { lan = lan; ttl = ttl; sender = sender }
 abbrev pub finished_flight : List Copy → Flight
 finished_flight copies = record { carried = copies; waiting = []; strays = [] }
 
--- so many picks of the first waiting copy
+-- the picks of the first waiting copy, again and again, as many as the number says
 abbrev pub fifo_picks : ℕ → List ℕ
 fifo_picks zero = []
 fifo_picks (suc k) = 0 ∷ fifo_picks k
 
--- the flight of a packet with TTL 255 after these
+-- the flight of a packet with TTL 255 after k picks of the first waiting copy
 abbrev pub fifo_flight : Net → ℕ → Flight
 fifo_flight n k = run n (handles (fifo_picks k)) (start n 255)
 
@@ -62,8 +66,9 @@ fifo_flight n k = run n (handles (fifo_picks k)) (start n 255)
 abbrev pub onward : Row
 onward = Exact 0 ((1, 1) ∷ [])
 
--- ---- hops by vif 1: above a threshold, or an onward row's, from one LAN by a router onto another
+-- ---- hops by vif 1
 
+-- the hop above a threshold from one LAN by a router onto another
 abbrev pub hop_above : ℕ → ℕ → ℕ → ℕ → Hop
 hop_above threshold from router onto = record {
   from = from;
@@ -73,25 +78,29 @@ hop_above threshold from router onto = record {
   onto = onto;
 }
 
+-- the hop of a router's onward row from one LAN onto another
 abbrev pub onward_hop : ℕ → ℕ → ℕ → Hop
 onward_hop from router onto = hop_above 1 from router onto
 
 -- ---- the line: r1 forwards from l0 to l1, and r2 from l1 to l2, where a host listens
 
+-- where the line's vifs are placed
 abbrev pub line_places : List Placement
 line_places = (0, 0, 0) ∷ (0, 1, 1) ∷ (1, 0, 1) ∷ (1, 1, 2) ∷ []
 
--- the line's places with these rows and this TTL
+-- the line's placements with these rows and this TTL
 abbrev pub line_with : List (ℕ × Row) → ℕ → Net
 line_with rows ttl = network 2 line_places rows (λ l. l == 2) ttl
 
+-- the line's rows
 abbrev pub line_rows : List (ℕ × Row)
 line_rows = (0, onward) ∷ (1, onward) ∷ []
 
+-- the line, for a flow with this TTL
 abbrev pub line : ℕ → Net
 line ttl = line_with line_rows ttl
 
--- after a packet of TTL 3, handled by r1 and then by r2
+-- the line's last flight of a packet with TTL 3, handled by r1 and then by r2
 abbrev pub line_end : Flight
 line_end = finished_flight (copy 0 3 None ∷ copy 1 2 (Some (0, 1)) ∷ copy 2 1 (Some (1, 1)) ∷ [])
 
@@ -99,7 +108,7 @@ line_end = finished_flight (copy 0 3 None ∷ copy 1 2 (Some (0, 1)) ∷ copy 2 
 abbrev pub line_with_a_leak : Net
 line_with_a_leak = line_with ((0, onward) ∷ (1, Exact 0 ((1, 1) ∷ (2, 1) ∷ [])) ∷ []) 3
 
--- r2 has only a row for every source
+-- r2 has a (*,G) entry, and no (S,G) one
 abbrev pub line_with_an_open_row : Net
 line_with_an_open_row = line_with ((0, onward) ∷ (1, Open) ∷ []) 3
 
@@ -107,29 +116,33 @@ line_with_an_open_row = line_with ((0, onward) ∷ (1, Open) ∷ []) 3
 abbrev pub sends_back : Row
 sends_back = Exact 0 ((0, 1) ∷ (1, 1) ∷ [])
 
--- r1 sends by the vif that it takes from too
+-- r1 also sends by the vif that it takes from
 abbrev pub line_that_sends_back : Net
 line_that_sends_back = line_with ((0, sends_back) ∷ (1, onward) ∷ []) 3
 
--- the line without r2, with this row of r1
+-- the line without r2, where r1 has this row
 abbrev pub r1_alone : Row → Net
 r1_alone row = network 2 ((0, 0, 0) ∷ (0, 1, 1) ∷ []) ((0, row) ∷ []) (λ l. l == 2) 3
 
--- the entries of l0, l1 and l2, and the line's certificate
+-- the entry of l0, the source's LAN
 abbrev pub l0_entry : Entry
 l0_entry = entry 0 0 1 None
 
+-- the entry of l1, to which r1 forwards from l0
 abbrev pub l1_entry : Entry
 l1_entry = entry 1 1 2 (Some (0, 1))
 
+-- the entry of l2, to which r2 forwards from l1
 abbrev pub l2_entry : Entry
 l2_entry = entry 2 2 3 (Some (1, 1))
 
+-- the line's certificate
 abbrev pub line_entries : List Entry
 line_entries = l0_entry ∷ l1_entry ∷ l2_entry ∷ []
 
--- ---- the line and a third router with this row, at these places
+-- ---- the line and a third router
 
+-- the line and r3, with this row and its vifs at these placements
 abbrev pub line_with_third_router : List Placement → Row → ℕ → Net
 line_with_third_router places row ttl = network 3 (places ++ line_places)
     ((2, row) ∷ (0, onward) ∷ (1, onward) ∷ []) (λ l. l == 2) ttl
@@ -145,31 +158,34 @@ line_with_loop ttl = line_with_third_router ((2, 0, 2) ∷ (2, 1, 0) ∷ []) onw
 -- ---- the diamond: r1 and r2 forward from l0 to l1 and l2, and r3 and r4 from there to l3, where a
 -- host listens
 
+-- where the diamond's vifs are placed
 abbrev pub diamond_places : List Placement
 diamond_places = (0, 0, 0) ∷ (0, 1, 1) ∷ (1, 0, 0) ∷ (1, 1, 2) ∷ (2, 0, 1) ∷ (2, 1, 3) ∷ (3, 0, 2)
     ∷ (3, 1, 3) ∷ []
 
--- r4 has no row
+-- the diamond's rows, of which r4 has none
 abbrev pub diamond_rows : List (ℕ × Row)
 diamond_rows = (0, onward) ∷ (1, onward) ∷ (2, onward) ∷ []
 
+-- the diamond, in which r4 doesn't forward
 abbrev pub diamond : Net
 diamond = network 4 diamond_places diamond_rows (λ l. l == 3) 3
 
--- r4 forwards too
+-- the diamond in which r4 forwards too
 abbrev pub closed_diamond : Net
 closed_diamond = network 4 diamond_places ((3, onward) ∷ diamond_rows) (λ l. l == 3) 3
 
--- after a packet of TTL 4, handled by each router in turn, and by r4 and r3 at the vifs by which they
--- hear each other
+-- the closed diamond's last flight of a packet with TTL 4, handled by each router in turn, and by
+-- r4 and r3 at the vifs by which they hear each other
 abbrev pub closed_diamond_end : Flight
 closed_diamond_end = finished_flight (copy 0 4 None ∷ copy 1 3 (Some (0, 1)) ∷ copy 2 3 (Some (1, 1))
     ∷ copy 3 2 (Some (2, 1)) ∷ copy 3 2 (Some (3, 1)) ∷ [])
 
--- the path by r1 and r3
+-- the path by r1 and r3 to l3
 abbrev pub upper_path : List Hop
 upper_path = onward_hop 1 2 3 ∷ onward_hop 0 0 1 ∷ []
 
+-- the diamond's certificate
 abbrev pub diamond_entries : List Entry
 diamond_entries = l0_entry ∷ l1_entry ∷ entry 2 1 2 (Some (1, 1))
     ∷ entry 3 2 3 (Some (2, 1)) ∷ []
@@ -177,28 +193,34 @@ diamond_entries = l0_entry ∷ l1_entry ∷ entry 2 1 2 (Some (1, 1))
 -- ---- the fork: r1 forwards from l0 to l1, with threshold 1, and to l2, with threshold 64; hosts
 -- listen on both
 
+-- where the fork's vifs are placed
 abbrev pub fork_places : List Placement
 fork_places = (0, 0, 0) ∷ (0, 1, 1) ∷ (0, 2, 2) ∷ []
 
+-- the fork's row
 abbrev pub fork_rows : List (ℕ × Row)
 fork_rows = (0, Exact 0 ((1, 1) ∷ (2, 64) ∷ [])) ∷ []
 
+-- the fork, for a flow with this TTL
 abbrev pub fork : ℕ → Net
 fork ttl = network 1 fork_places fork_rows (λ l. (l == 1) || (l == 2)) ttl
 
--- after a packet of TTL 65
+-- the fork's last flight of a packet with TTL 65
 abbrev pub fork_end : Flight
 fork_end = finished_flight (copy 0 65 None ∷ copy 1 64 (Some (0, 1)) ∷ copy 2 64 (Some (0, 2)) ∷ [])
 
+-- the fork's certificate
 abbrev pub fork_entries : List Entry
 fork_entries = l0_entry ∷ l1_entry ∷ entry 2 1 65 (Some (0, 2)) ∷ []
 
 -- ---- the twins: r1 and r2 both forward from l0 to l1, where a host listens, and r1 with threshold
 -- 64
 
+-- the twins, for a flow with TTL 65
 abbrev pub twins : Net
 twins = network 2 ((0, 0, 0) ∷ (0, 1, 1) ∷ (1, 0, 0) ∷ (1, 1, 1) ∷ [])
     ((0, Exact 0 ((1, 64) ∷ [])) ∷ (1, onward) ∷ []) (λ l. l == 1) 65
 
+-- the entries of l0 and of l1, with r1 as its forwarder
 abbrev pub twins_entries : List Entry
 twins_entries = l0_entry ∷ entry 1 1 65 (Some (0, 1)) ∷ []

@@ -1,4 +1,4 @@
--- What each finding means for the flight that a travel ends with.
+-- What each finding means for the flight that a travel ends with, in the words of copies and walks.
 use Rattle.std.specs.Prelude.{◌≡◌, ℕ, ◌<◌, true, List, [], ◌∷◌, ◌++◌}
 use Rattle.mc_theory.specs.Lists.{In, Distinct}
 use Rattle.mc_theory.specs.Nets.{Net, Interface}
@@ -7,7 +7,7 @@ use Rattle.mc_theory.specs.Certificates.{lans, IsClean}
 use Rattle.mc_theory.specs.Findings.{Finding, IsWalkBack}
 use Rattle.mc_theory.specs.Findings.Finding.{Clean, Duplicate, Loop, Stray, Missed}
 
--- the first of the carried copies that has an earlier one on its LAN
+-- the copy is the first of the carried ones that has an earlier one on its LAN
 pub record IsFirstDouble (cs : List Copy) (c : Copy) : Type 0 where
   pub earlier : List Copy
   pub later : List Copy
@@ -15,7 +15,7 @@ pub record IsFirstDouble (cs : List Copy) (c : Copy) : Type 0 where
   pub once : Distinct (lans earlier)
   pub again : In c.lan (lans earlier)
 
--- the walk back from the first double copy, which is on this LAN
+-- the walk back from the first double copy, which is on LAN l
 pub record FirstDoubleWalk (n : Net) (f : Flight) (l : ℕ) : Type 0 where
   pub copy : Copy
   pub first : IsFirstDouble f.carried copy

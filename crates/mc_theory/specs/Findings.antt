@@ -1,5 +1,5 @@
--- Findings, and travels: a travel is the run that a picker's choices make, up to the first flight that
--- shows a finding. All of it is our own choice; a travel loses no copy.
+-- Findings, and travels: a travel is the run that a picker's choices make, up to the first flight
+-- that shows a finding. It loses no copy. All of this is our own choice.
 use Rattle.std.specs.Prelude.{IsTrue, ◌↔◌}
 use Rattle.std.specs.Prelude.{◌≡◌, ℕ, zero, suc, ◌-◌, ◌<◌, ◌%◌, Bool, false, ◌||◌, ◌==◌}
 use Rattle.std.specs.Prelude.{if◌then◌else◌, List, [], ◌∷◌, ◌++◌, length, Option, Some, None}
@@ -11,6 +11,7 @@ use Rattle.mc_theory.specs.Nets.Row.{Exact, Open, NoRow}
 use Rattle.mc_theory.specs.Flights.{Copy, Waiting, Flight, Pick, start, step, run}
 use Rattle.mc_theory.specs.Flights.Pick.{Handles}
 
+-- what a travel finds
 pub data Finding : Type 0 where
   -- nothing waits, no LAN carried two copies, none left the domain, and each wanting LAN carried
   -- one
@@ -26,21 +27,21 @@ pub data Finding : Type 0 where
 
 -- ---- a second copy
 
--- a LAN's first copy
+-- the first copy that LAN l carried, if it carried one
 abbrev pub first_copy_on : List Copy → ℕ → Option Copy
 first_copy_on [] l = None
 first_copy_on (c ∷ cs) l = if c.lan == l then Some c else first_copy_on cs l
 
--- the first copy that has an earlier one on its LAN
+-- the first of these copies that has an earlier one on its LAN, after the `earlier` ones
 abbrev pub first_double : List Copy → List Copy → Option Copy
 first_double earlier [] = None
 first_double earlier (c ∷ cs) =
     if is_some (first_copy_on earlier c.lan) then Some c else first_double (earlier ++ c ∷ []) cs
 
--- ---- the walk back: from a copy to the LAN that its sender took it from, to that LAN's first
--- copy, and so on to the source's copy
+-- ---- the walk back from a copy: to the LAN that its sender took it from, to that LAN's first copy,
+-- and so on to the source's copy
 
--- the LAN that a router's row takes from
+-- the LAN that the row of router r takes copies from, if there is one
 abbrev pub taken_from : Net → ℕ → Row → Option ℕ
 taken_from n r (Exact incoming pairs) = n.placed r incoming
 taken_from n r Open = None
@@ -51,25 +52,25 @@ abbrev pub from_lan : Net → Option Interface → Option ℕ
 from_lan n None = None
 from_lan n (Some i) = taken_from n i.0 (n.row i.0)
 
--- These copies, one after the other, are the walk back from copy c. It ends at the source's copy.
+-- These copies, one after another, are the walk back from copy c, which ends at the source's copy.
 abbrev pub IsWalkBack : Net → List Copy → Copy → List Copy → Type 0
 IsWalkBack n cs c [] = c.sender ≡ None
 IsWalkBack n cs c (d ∷ ds) =
     (from_lan n c.sender ≡ Some d.lan) × (first_copy_on cs d.lan ≡ Some d) × IsWalkBack n cs d ds
 
--- the sender of a LAN's first copy
+-- the sender of LAN l's first copy, if it has one
 abbrev pub sender_on : List Copy → ℕ → Option Interface
 sender_on [] l = None
 sender_on (c ∷ cs) l = if c.lan == l then c.sender else sender_on cs l
 
--- whether a LAN of the walk is LAN l, or the walk passes l after it
+-- whether the walk comes to LAN l next, or passes it later
 abbrev pub is_lan_or : ℕ → (ℕ → Bool) → Option ℕ → Bool
 is_lan_or l next None = false
 is_lan_or l next (Some p) = (p == l) || next p
 
--- Whether the walk back from a sender's copy, over at most so many LANs, passes LAN l. The copy's own
--- LAN doesn't count, unless the walk comes back to it. In the flight of a travel the walk ends at the
--- source's copy before it has passed as many LANs as there are carried copies.
+-- Whether the walk back from a copy that x sent, over a limited number of LANs, passes LAN l. The
+-- copy's own LAN doesn't count, unless the walk comes back to it. In the flight of a travel the
+-- walk ends at the source's copy before it has passed as many LANs as there are carried copies.
 abbrev pub walk_visits : Net → List Copy → ℕ → ℕ → Option Interface → Bool
 walk_visits n cs l zero x = false
 walk_visits n cs l (suc k) x = is_lan_or l (λ p. walk_visits n cs l k (sender_on cs p)) (from_lan n x)
@@ -88,7 +89,7 @@ AllWalksEnd n cs = (c : Copy) → In c cs → WalkEnds n cs c
 
 -- ---- a LAN that was missed
 
--- the first of these LANs that wants the flow and carried no copy
+-- the first of these LANs that wants the flow and carried no copy, if there is one
 abbrev pub missed : Net → List Copy → List ℕ → Option ℕ
 missed n cs [] = None
 missed n cs (l ∷ ls) =
@@ -96,23 +97,25 @@ missed n cs (l ∷ ls) =
     then (if is_some (first_copy_on cs l) then missed n cs ls else Some l)
     else missed n cs ls
 
+-- the finding where nothing waits, no LAN carried two copies and none is a stray: the LAN that was
+-- missed, if there is one
 abbrev pub missed_finding : Option ℕ → Finding
 missed_finding None = Clean
 missed_finding (Some l) = Missed l
 
--- ---- findings, the first of these; no finding means that the travel goes on
+-- ---- what a flight shows: the first of these findings, or nothing, and then the travel goes on
 
--- nothing waits: the lowest wanting LAN that carried none, or clean
+-- where nothing waits: the lowest wanting LAN that carried no copy, or that all is clean
 abbrev pub end_finding : Net → ℕ → List Copy → List Waiting → Option Finding
 end_finding n count cs [] = Some (missed_finding (missed n cs (below count)))
 end_finding n count cs (w ∷ ws) = None
 
--- the first stray
+-- the first stray, or else what comes at the end
 abbrev pub stray_finding : Net → ℕ → List Copy → List Waiting → List Interface → Option Finding
 stray_finding n count cs ws [] = end_finding n count cs ws
 stray_finding n count cs ws (i ∷ is) = Some (Stray i.0 i.1)
 
--- the first second copy of a LAN
+-- the first second copy of a LAN, or else the first stray, or else what comes at the end
 abbrev pub double_finding : Net → ℕ → Flight → Option Copy → Option Finding
 double_finding n count f None = stray_finding n count f.carried f.waiting f.strays
 double_finding n count f (Some c) =
@@ -122,19 +125,20 @@ double_finding n count f (Some c) =
     else Duplicate c.lan
     )
 
--- what the flight shows; LANs are numbered below the count
+-- what the flight shows, where LANs are numbered below the count
 abbrev pub finding : Net → ℕ → Flight → Option Finding
 finding n count f = double_finding n count f (first_double [] f.carried)
 
 -- ---- travels
 
--- What a picker chooses: these numbers one after the other, and then always the last copy or
--- always the first.
+-- What a picker chooses by: these numbers one after another, and then always the last waiting copy
+-- or always the first.
 pub record Choices : Type 0 where
   pub numbers : List ℕ
   pub last : Bool
 
--- the choice among so many waiting copies
+-- the place that is chosen among `waiting` copies: the next number modulo `waiting`, or, where no
+-- number is left, the last place or the first
 abbrev pub choice : ℕ → List ℕ → Bool → ℕ
 choice waiting [] last = if last then waiting - 1 else 0
 choice waiting (x ∷ xs) last = x % waiting
@@ -148,8 +152,8 @@ numbers_left (x ∷ xs) = xs
 abbrev pub after_choice : Choices → Choices
 after_choice c = record { numbers = numbers_left c.numbers; last = c.last }
 
--- From flight f on these picks are the picker's choices, no flight before the last shows anything, and
--- the last one shows x.
+-- From flight f on these picks are the picker's choices, no flight before the last shows anything,
+-- and the last one shows x.
 abbrev pub IsTravel : Net → ℕ → List ℕ → Bool → List ℕ → Flight → Finding → Type 0
 IsTravel n count numbers last [] f x = finding n count f ≡ Some x
 IsTravel n count numbers last (i ∷ is) f x =
@@ -157,7 +161,8 @@ IsTravel n count numbers last (i ∷ is) f x =
     × (i ≡ choice (length f.waiting) numbers last)
     × IsTravel n count (numbers_left numbers) last is (step n i f) x
 
--- The same of an unfinished travel: its last flight may show something or nothing yet.
+-- From flight f on these picks are the picker's choices, and no flight before the last shows
+-- anything; the last one may.
 abbrev pub IsTravelUnfinished : Net → ℕ → List ℕ → Bool → List ℕ → Flight → Type 0
 IsTravelUnfinished n count numbers last [] f = ⊤
 IsTravelUnfinished n count numbers last (i ∷ is) f =
@@ -165,7 +170,7 @@ IsTravelUnfinished n count numbers last (i ∷ is) f =
     × (i ≡ choice (length f.waiting) numbers last)
     × IsTravelUnfinished n count (numbers_left numbers) last is (step n i f)
 
--- a travel's picks as those of a run
+-- a travel's picks as those of a run: each handles its copy
 abbrev pub handles : List ℕ → List Pick
 handles [] = []
 handles (i ∷ is) = Handles i ∷ handles is

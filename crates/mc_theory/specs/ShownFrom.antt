@@ -1,5 +1,5 @@
--- From which TTL on packets show what a travel found: the greatest need among the copies that the finding
--- rests on. All of it is our own choice.
+-- From which TTL on packets show what a travel found: the greatest need among the copies that the
+-- finding rests on. All of it is our own choice.
 use Rattle.std.specs.Prelude.{◌≡◌, ℕ, ◌+◌, ◌≤◌, ◌⊎◌, max, List, length, Some, None}
 use Rattle.mc_theory.specs.Lists.{In}
 use Rattle.mc_theory.specs.Nets.{Net}
@@ -12,14 +12,14 @@ use Rattle.mc_theory.specs.Paths.{Hop, CameByHops, need}
 
 -- ---- what a finding rests on
 
--- The first copy on a LAN came by these hops.
+-- The first copy of LAN `lan` came by these hops.
 pub record FirstCameByHops (n : Net) (cs : List Copy) (lan : ℕ) (path : List Hop) : Type 0 where
   pub first : Copy
   pub first_on : first_copy_on cs lan ≡ Some first
   pub came : CameByHops n cs first path
 
--- A LAN's first copy and its second, the first double one of these copies, came by two paths, and k is the
--- greater of their needs.
+-- A LAN's first copy and its second, the first of these copies that has an earlier one on its LAN,
+-- came by two paths, and k is the greater of the paths' needs.
 pub record RestsOnTwoCopies (n : Net) (cs : List Copy) (lan k : ℕ) : Type 0 where
   pub first_path : List Hop
   pub first : FirstCameByHops n cs lan first_path
@@ -30,8 +30,9 @@ pub record RestsOnTwoCopies (n : Net) (cs : List Copy) (lan k : ℕ) : Type 0 wh
   pub came : CameByHops n cs second second_path
   pub need_is : k ≡ max (need first_path) (need second_path)
 
--- Router r's exact row takes the copy of a LAN, which came by a path, and sends it by vif v, which is
--- placed on no LAN. Packets meet k that get through the path and the threshold behind it.
+-- Router r's (S,G) entry takes the copy of a LAN, which came by a path, and sends it by vif v,
+-- which is placed on no LAN. k is what a packet needs to get through the path and pass the
+-- threshold after it.
 pub record RestsOnSentCopy (n : Net) (cs : List Copy) (r v k : ℕ) : Type 0 where
   pub incoming : ℕ
   pub pairs : List (ℕ × ℕ)
@@ -45,7 +46,8 @@ pub record RestsOnSentCopy (n : Net) (cs : List Copy) (r v k : ℕ) : Type 0 whe
   pub first : FirstCameByHops n cs lan path
   pub need_is : k ≡ max (need path) (length path + threshold + 1)
 
--- Router r's row isn't followed, and its vif v is placed on a LAN, whose copy came by a path with need k.
+-- Router r's row isn't followed, and its vif v is placed on a LAN, whose copy came by a path with
+-- need k.
 pub record RestsOnOpenRow (n : Net) (cs : List Copy) (r v k : ℕ) : Type 0 where
   pub row : n.row r ≡ Open
   pub lan : ℕ
@@ -54,8 +56,9 @@ pub record RestsOnOpenRow (n : Net) (cs : List Copy) (r v k : ℕ) : Type 0 wher
   pub first : FirstCameByHops n cs lan path
   pub need_is : k ≡ need path
 
--- k is the greatest need among the copies that the finding rests on: the first and the second copy of a
--- LAN, or the copy that a router sent out of the known domain or has no row for.
+-- k is the greatest need among the copies that the finding rests on: the first and the second copy
+-- of a LAN, or the copy that a router sent out of the known domain or took by a row that isn't
+-- followed.
 abbrev pub IsShownFrom : Net → List Copy → Finding → (k : ℕ) → Type 0
 IsShownFrom n cs (Duplicate l) k = RestsOnTwoCopies n cs l k
 IsShownFrom n cs (Loop l) k = RestsOnTwoCopies n cs l k
@@ -65,7 +68,8 @@ IsShownFrom n cs (Missed l) k = ⊥
 
 -- ---- what a run shows
 
--- The flight has two copies on the LAN of the finding, or its stray, whatever else it has.
+-- The flight shows the fault of the finding, whatever else it shows: two copies on its LAN, or its
+-- stray.
 abbrev pub HasFault : Finding → Flight → Type 0
 HasFault (Duplicate l) f = 2 ≤ copy_count_on f.carried l
 HasFault (Loop l) f = 2 ≤ copy_count_on f.carried l

@@ -1,6 +1,6 @@
--- The bounds of a text that is read as TOML, so that reading takes little time and memory: each table and
--- each value has a mark of its own, and each pair is compared with the header above it. Comments, strings
--- and headers are those of TOML 1.0.0, sections "Comment", "String" and "Table".
+-- The bounds of a text that is read as TOML, so that reading takes little time and memory: each
+-- table and each value has a mark of its own, and each pair is compared with the header above it.
+-- Comments, strings and headers are those of TOML 1.0.0, sections "Comment", "String" and "Table".
 use Rattle.std.specs.Prelude.{ℕ, ◌+◌, ◌-◌, ◌==◌, ◌&&◌, ◌||◌, nat_le, Bool, true, false, List, codes}
 use Rattle.std.specs.Prelude.{fold, if◌then◌else◌}
 use Rattle.std.specs.List.{list_any}
@@ -14,28 +14,31 @@ use Rattle.mc_topology.specs.declared.read.bounds.Scan.{Scan}
 
 -- ---- comments and strings
 
--- outside, `#` begins a comment, and `"` or `'` a string
+-- the state after a byte outside of comments and strings: `#` begins a comment, and `"` or `'` a
+-- string
 abbrev pub after_outside_byte : ℕ → LexState
 after_outside_byte c = if c == 35 then Comment else if c == 34 || c == 39 then OneQuote c else Outside
 
--- a backslash escapes the next byte in a string between `"`, and none in one between `'`
+-- whether the byte escapes the next one: a backslash does in a string between `"`, and not in one
+-- between `'`
 abbrev pub begins_escape : ℕ → ℕ → Bool
 begins_escape quote c = c == 92 && quote == 34
 
--- a single-line string ends at its quote; it ends with its line as well, where the text is no TOML and is
--- refused for that
+-- The state after a byte in a string on one line, which ends at its quote. It ends with its line as
+-- well: there the text is no TOML, and is refused for that.
 abbrev pub after_one_line_byte : ℕ → ℕ → LexState
 after_one_line_byte quote c =
     if c == quote || c == 10 then Outside else if begins_escape quote c then OneLineEscape else OneLine quote
 
--- a multi-line string ends after three or more of its quotes in a row
+-- the state after a byte in a string on many lines, which ends after three or more of its quotes in
+-- a row
 abbrev pub after_multi_line_byte : ℕ → ℕ → ℕ → LexState
 after_multi_line_byte quote quotes c =
     if c == quote then (if nat_le 3 quotes then MultiLine quote quotes else MultiLine quote (quotes + 1))
     else if nat_le 3 quotes then after_outside_byte c
     else if begins_escape quote c then MultiLineEscape else MultiLine quote 0
 
--- the state after a byte
+-- the state after a byte, by the state before it
 unfoldable pub after_byte : LexState → ℕ → LexState
 after_byte Outside c = after_outside_byte c
 after_byte Comment c = if c == 10 then Outside else Comment
@@ -46,6 +49,7 @@ after_byte OneLineEscape c = OneLine 34
 after_byte (MultiLine quote quotes) c = after_multi_line_byte quote quotes c
 after_byte MultiLineEscape c = MultiLine 34 0
 
+-- whether the state is outside of comments and strings
 abbrev pub is_outside : LexState → Bool
 is_outside Outside = true
 is_outside Comment = false
@@ -58,19 +62,19 @@ is_outside MultiLineEscape = false
 
 -- ---- headers
 
--- white space: a tab, a line feed, a carriage return or a space
+-- whether the byte is white space: a tab, a line feed, a carriage return or a space
 abbrev pub is_blank : ℕ → Bool
 is_blank c = (c == 9 || c == 10) || (c == 13 || c == 32)
 
--- the part of the line after a byte that doesn't end it: a header begins with a `[` that is the first on
--- its line, but for blanks and a byte order mark
+-- the part of a line after a byte that doesn't end it: a header begins with a `[` that is the first
+-- on its line, but for blanks and a byte order mark
 abbrev pub part_with_byte : LinePart → ℕ → LinePart
 part_with_byte Margin c =
     if c == 91 then Header else if is_blank c || nat_le 128 c then Margin else Rest
 part_with_byte Header c = Header
 part_with_byte Rest c = Rest
 
--- the part of the line after a byte: a line within brackets has no header
+-- the part of a line after a byte: where a line begins within brackets, it has no header
 abbrev pub part_after : LinePart → ℕ → Bool → ℕ → LinePart
 part_after part nesting outside c =
     if outside && c == 10 then (if nesting == 0 then Margin else Rest) else part_with_byte part c
@@ -80,7 +84,8 @@ abbrev pub nesting_after : ℕ → ℕ → ℕ
 nesting_after nesting c =
     if c == 91 || c == 123 then nesting + 1 else if c == 93 || c == 125 then nesting - 1 else nesting
 
--- a byte of a comment, or a blank outside of strings, isn't counted in a header
+-- whether a byte in this state isn't counted in a header: one of a comment, or a blank outside of
+-- strings
 abbrev pub is_skipped_in_header : LexState → ℕ → Bool
 is_skipped_in_header Outside c = is_blank c
 is_skipped_in_header Comment c = true
@@ -91,7 +96,7 @@ is_skipped_in_header OneLineEscape c = false
 is_skipped_in_header (MultiLine quote quotes) c = false
 is_skipped_in_header MultiLineEscape c = false
 
--- how many bytes the last header has after a byte
+-- how many bytes the last header has, after a byte
 abbrev pub header_after : LinePart → ℕ → LexState → ℕ → ℕ
 header_after Margin header state c = if c == 91 then 1 else header
 header_after Header header state c = if is_skipped_in_header state c then header else header + 1
@@ -99,10 +104,11 @@ header_after Rest header state c = header
 
 -- ---- marks
 
--- a byte that a table or a value begins with or has beside it
+-- whether the byte is a mark: a table or a value begins with one, or has one beside it
 abbrev pub is_mark : ℕ → Bool
 is_mark c = list_any (λ mark. mark == c) (codes ".,={[")
 
+-- the scan with the byte c, after which the state is `state`
 abbrev pub with_state : Scan → LexState → ℕ → Scan
 with_state scan state c = let outside = is_outside state in record {
   state = state;

@@ -1,4 +1,5 @@
--- The topology that a text denotes: the rules of docs/FORMATS.md, over the table that TOML's reader gives.
+-- Which topology a text denotes: the rules of docs/FORMATS.md, section "Topology", over the table
+-- that TOML's reader gives.
 use Rattle.std.specs.Prelude.{◌≡◌, ℕ, pos, ◌<◌, ◌≤◌, List, [], ◌∷◌, length, codes, IsTrue, IsUtf8}
 use Rattle.std.specs.Prelude.{Option, Some, None}
 use Rattle.toml.specs.Data.{Data, string, integer, array, table, Items, Members, get_member}
@@ -22,25 +23,25 @@ use Rattle.mc_topology.specs.Topology.{interface_key, source_key, flow_key}
 
 -- ---- tables
 
--- the key has this text
+-- under the key there is this text
 abbrev pub HasText : List ℕ → Members → List ℕ → Type 0
 HasText key ms text = get_member key ms ≡ Some (string text)
 
--- the key has this whole number
+-- under the key there is this whole number
 abbrev pub HasNumber : List ℕ → Members → ℕ → Type 0
 HasNumber key ms n = get_member key ms ≡ Some (integer (pos n))
 
--- the key has a list of these values, or is missing and they are none
+-- a value is a list of these rows; where there is no value, there are no rows
 abbrev pub AreRows : Option Data → List Data → Type 0
 AreRows None rows = rows ≡ []
 AreRows (Some d) rows = (items : Items) × (d ≡ array items) × (rows ≡ rows_in items)
 
--- a table with no other keys than the known ones
+-- the value is a table with these members, and with no other keys than the known ones
 pub record IsTable (known : List (List ℕ)) (d : Data) (ms : Members) : Type 0 where
   pub members : d ≡ table ms
   pub keys : IsTrue (has_only known ms)
 
--- each row denotes its value
+-- each row denotes its value, in order
 abbrev pub EachDenotes : {X : Type 0} → (Data → X → Type 0) → List Data → List X → Type 0
 EachDenotes Denotation [] [] = Unit {0}
 EachDenotes Denotation [] (x ∷ xs) = ⊥
@@ -49,21 +50,22 @@ EachDenotes Denotation (d ∷ ds) (x ∷ xs) = Denotation d x × EachDenotes Den
 
 -- ---- the rows
 
--- a text that can be a name
+-- a value denotes a LAN's name: a text that can be one
 pub record DenotesLan (d : Data) (name : List ℕ) : Type 0 where
   pub text : d ≡ string name
   pub fits : IsTrue (is_name name)
 
--- the text of a byte order, which is `little` where there is none
+-- the text of a byte order
 abbrev pub order_text : Order → List ℕ
 order_text Little = codes "little"
 order_text Big = codes "big"
 
+-- the text of a byte order denotes it; where there is none, it is little-endian
 abbrev pub DenotesOrder : Option Data → Order → Type 0
 DenotesOrder None order = order ≡ Little
 DenotesOrder (Some d) order = d ≡ string (order_text order)
 
--- a table of a name and a byte order
+-- a value denotes a router: a table of its name, and maybe of its byte order
 pub record DenotesRouter (d : Data) (r : RouterRow) : Type 0 where
   pub members : Members
   pub is_table : IsTable router_keys d members
@@ -71,7 +73,7 @@ pub record DenotesRouter (d : Data) (r : RouterRow) : Type 0 where
   pub order : DenotesOrder (get_member (codes "order") members) r.order
   pub fits : IsTrue (is_name r.name)
 
--- a table of the name of a router, a device and the name of a LAN
+-- a value denotes an interface: a table of a router's name, a device, and a LAN's name
 pub record DenotesInterface (lans : List (List ℕ)) (routers : List RouterRow) (d : Data)
     (i : InterfaceRow) : Type 0 where
   pub members : Members
@@ -85,7 +87,7 @@ pub record DenotesInterface (lans : List (List ℕ)) (routers : List RouterRow) 
   pub fits : IsTrue (is_device i.device)
   pub lan : index_of lan_name lans ≡ Some i.lan
 
--- a table of the address of a host that may send, and the name of a LAN
+-- a value denotes a source: a table of the address of a host that may send, and of a LAN's name
 pub record DenotesSource (lans : List (List ℕ)) (d : Data) (s : SourceRow) : Type 0 where
   pub members : Members
   pub lan_name : List ℕ
@@ -96,8 +98,8 @@ pub record DenotesSource (lans : List (List ℕ)) (d : Data) (s : SourceRow) : T
   pub may_send : IsSource s.address
   pub lan : index_of lan_name lans ≡ Some s.lan
 
--- a table of the address of one of the sources, the address of a group that routers forward and a
--- time to live of 1 to 255
+-- a value denotes a flow: a table of the address of one of the sources, of the address of a group
+-- that routers forward, and of a TTL of 1 to 255
 pub record DenotesFlow (sources : List SourceRow) (d : Data) (f : Flow) : Type 0 where
   pub members : Members
   pub is_table : IsTable flow_keys d members
@@ -111,9 +113,9 @@ pub record DenotesFlow (sources : List SourceRow) (d : Data) (f : Flow) : Type 0
   pub ttl_from : 1 ≤ f.ttl
   pub ttl_to : f.ttl ≤ 255
 
--- ---- the whole
+-- ---- the text
 
--- a list of at most 1,024 names, no two of them the same; the key is required
+-- the key `lans`, which has to be there, has a list of at most 1,024 names, no two of them the same
 pub record DenotesLans (ms : Members) (lans : List (List ℕ)) : Type 0 where
   pub items : Items
   pub list : get_member (codes "lans") ms ≡ Some (array items)
@@ -121,7 +123,8 @@ pub record DenotesLans (ms : Members) (lans : List (List ℕ)) : Type 0 where
   pub each_row : EachDenotes DenotesLan (rows_in items) lans
   pub distinct : AreDistinctBy lan_key lans
 
--- a list of at most `most` rows, no two with the same key; it may be missing
+-- the key `name` has a list of at most `most` rows, no two with the same key; it may be missing,
+-- and then there are no rows
 pub record DenotesSection {X K : Type 0} (name : List ℕ) (most : ℕ) (Denotation : Data → X → Type 0)
     (key : X → K) (ms : Members) (xs : List X) : Type 0 where
   pub rows : List Data
@@ -130,7 +133,7 @@ pub record DenotesSection {X K : Type 0} (name : List ℕ) (most : ℕ) (Denotat
   pub each_row : EachDenotes Denotation rows xs
   pub distinct : AreDistinctBy key xs
 
--- a table of version 1
+-- a table of version 1 denotes a topology, section by section; it has at least one flow
 pub record DenotesDocument (ms : Members) (t : TopologyValue) : Type 0 where
   pub keys : IsTrue (has_only top_keys ms)
   pub version : HasNumber (codes "version") ms 1
@@ -142,7 +145,8 @@ pub record DenotesDocument (ms : Members) (t : TopologyValue) : Type 0 where
   pub flows : DenotesSection (codes "flow") 4096 (DenotesFlow t.sources) flow_key ms t.flows
   pub some_flow : 0 < length t.flows
 
--- a text of at most 16,777,216 bytes in UTF-8 that TOML's reader accepts
+-- a text denotes a topology: it has at most 16,777,216 bytes, is UTF-8, and TOML's reader accepts
+-- it as a table that denotes the topology
 pub record DenotesTopology (text : List ℕ) (t : TopologyValue) : Type 0 where
   pub document : Members
   pub few : length text ≤ 16777216
@@ -150,7 +154,7 @@ pub record DenotesTopology (text : List ℕ) (t : TopologyValue) : Type 0 where
   pub reads : parse_document text ≡ Some document
   pub denotes : DenotesDocument document t
 
--- the same of a text that is within the bounds, so that it is read as TOML
+-- a text denotes a topology, and is within the bounds of what is read as TOML
 pub record DenotesBoundedTopology (text : List ℕ) (t : TopologyValue) : Type 0 where
   pub denotes : DenotesTopology text t
   pub bounded : IsTrue (is_bounded text)

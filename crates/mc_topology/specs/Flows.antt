@@ -1,4 +1,5 @@
--- The flows.
+-- The section `flow` of a topology: the flows that are read, or the first fault. Faults have the
+-- order of docs/FORMATS.md.
 use Rattle.std.specs.Prelude.{ℕ, ℤ, pos, negsuc, ◌==◌, ◌&&◌, nat_le, List, [], ◌∷◌, length, codes}
 use Rattle.std.specs.Prelude.{Bool, Result, Ok, Err, ok_or, if◌then◌else◌}
 use Rattle.std.specs.List.{list_any}
@@ -16,22 +17,22 @@ use Rattle.mc_topology.specs.Answer.{◌>>=◌, locate_fault, each_row}
 use Rattle.mc_topology.specs.Document.{known_table, text_at, number_at, optional_list_at}
 use Rattle.mc_topology.specs.Sources.{lan_of_source}
 
--- the keys of a flow
+-- the keys of a flow's table
 abbrev pub flow_keys : List (List ℕ)
 flow_keys = codes "source" ∷ codes "group" ∷ codes "ttl" ∷ []
 
--- a time to live is 1 to 255 (else BadTtl)
+-- the TTL that a whole number has to be: 1 to 255 (else BadTtl)
 unfoldable pub ttl_of : ℤ → Result ℕ TopologyFaultKind
 ttl_of (pos n) = if nat_le 1 n && nat_le n 255 then Ok n else Err BadTtl
 ttl_of (negsuc n) = Err BadTtl
 
--- a flow has the source and the group
+-- whether a flow has the source and the group
 abbrev pub has_flow : ℕ → ℕ → List Flow → Bool
 has_flow source group flows = list_any (λ f. (f.source == source) && (f.group == group)) flows
 
--- The flow of the three values: the first is the address of a host that may send (BadAddress), a
--- source has it (UnknownName), the second is the address of a group that routers forward
--- (BadAddress), the third is a time to live (BadTtl), and no earlier flow has the source and the
+-- The flow of the three values. The first has to be the address of a host that may send (else
+-- BadAddress), and that of a source (UnknownName); the second the address of a group that routers
+-- forward (BadAddress); the third a TTL (BadTtl). Last, no earlier flow may have the source and the
 -- group (RepeatedFlow).
 unfoldable pub flow_of_values : List SourceRow → List Flow → List ℕ → List ℕ → ℤ
     → Result Flow TopologyFaultKind
@@ -43,9 +44,10 @@ flow_of_values sources earlier source_text group_text ttl_number = do
   if has_flow source group earlier then Err RepeatedFlow
       else Ok (record { source = source; lan = lan; group = group; ttl = ttl })
 
--- A flow. It has to be a table (else BadKind) of no other keys (UnknownKey). Then the keys:
--- `source`, `group` and `ttl`, in this order, each have to be there (MissingKey) and to be a text,
--- and `ttl` a whole number (BadKind). Then the values are checked, by `flow_of_values`.
+-- A flow. It has to be a table (else BadKind) with no other keys than these (UnknownKey). Then come
+-- the keys `source`, `group` and `ttl`, in this order: each has to be there (MissingKey), the first
+-- two as texts, and `ttl` as a whole number (BadKind). Then the values are checked, by
+-- `flow_of_values`.
 unfoldable pub flow_of : List SourceRow → List Flow → Data → Result Flow TopologyFaultKind
 flow_of sources earlier d = do
   table ← known_table flow_keys d
@@ -54,16 +56,16 @@ flow_of sources earlier d = do
   ttl_number ← number_at (codes "ttl") table
   flow_of_values sources earlier source_text group_text ttl_number
 
--- The rows have to be a list (else BadKind), then of at least one flow (NoFlow), and then of at most
--- 4,096 (TooMany).
+-- The rows of the section. They have to be a list (else BadKind) of at least one flow (NoFlow) and
+-- at most 4,096 (TooMany), in this order.
 unfoldable pub flow_rows : Members → Result (List Data) TopologyFaultKind
 flow_rows ms = do
   rows ← optional_list_at (codes "flow") ms
   if length rows == 0 then Err NoFlow
       else if nat_le (length rows) 4096 then Ok rows else Err TooMany
 
--- The flows: first their list, at the number 0, then each flow from the front, at its number,
--- counted from 1.
+-- The flows: first the section, whose faults have the number 0, and then each flow from the front,
+-- whose faults have its number, counted from 1.
 unfoldable pub flows_in : List SourceRow → Members → Result (List Flow) TopologyFault
 flows_in sources ms = do
   rows ← locate_fault section.Flow 0 (flow_rows ms)

@@ -1,4 +1,5 @@
--- The interfaces.
+-- The section `interface` of a topology: the interfaces that are read, or the first fault. Faults
+-- have the order of docs/FORMATS.md.
 use Rattle.std.specs.Prelude.{ℕ, not, List, [], ◌∷◌, codes}
 use Rattle.std.specs.Prelude.{Result, Ok, Err, ok_or, if◌then◌else◌}
 use Rattle.toml.specs.Data.{Data, Members}
@@ -13,13 +14,13 @@ use Rattle.mc_topology.specs.Document.{known_table, text_at, rows_at}
 use Rattle.mc_topology.specs.Names.{is_device, index_of}
 use Rattle.mc_topology.specs.Lookup.{router_no_of, has_interface}
 
--- the keys of an interface
+-- the keys of an interface's table
 abbrev pub interface_keys : List (List ℕ)
 interface_keys = codes "router" ∷ codes "device" ∷ codes "lan" ∷ []
 
--- The interface of the three values: a router has the first name (UnknownName), a device can have
--- the second (BadName), a LAN has the third (UnknownName), and no earlier interface has the router
--- and the device (RepeatedInterface).
+-- The interface of the three values. The first has to be the name of a router (else UnknownName),
+-- the second one that a device can have (BadName), the third the name of a LAN (UnknownName). Last,
+-- no earlier interface may have the router and the device (RepeatedInterface).
 unfoldable pub interface_of_values : List (List ℕ) → List RouterRow → List InterfaceRow → List ℕ
     → List ℕ → List ℕ → Result InterfaceRow TopologyFaultKind
 interface_of_values lans routers earlier router_name device lan_name = do
@@ -29,9 +30,9 @@ interface_of_values lans routers earlier router_name device lan_name = do
     if has_interface router device earlier then Err RepeatedInterface
         else Ok (record { router = router; device = device; lan = lan })
 
--- An interface. It has to be a table (else BadKind) of no other keys (UnknownKey). Then the keys:
--- `router`, `device` and `lan`, in this order, each have to be there (MissingKey) and to be a text
--- (BadKind). Then the values are checked, by `interface_of_values`.
+-- An interface. It has to be a table (else BadKind) with no other keys than these (UnknownKey).
+-- Then come the keys `router`, `device` and `lan`, in this order: each has to be there (MissingKey)
+-- as a text (BadKind). Then the values are checked, by `interface_of_values`.
 unfoldable pub interface_of : List (List ℕ) → List RouterRow → List InterfaceRow → Data
     → Result InterfaceRow TopologyFaultKind
 interface_of lans routers earlier d = do
@@ -41,8 +42,9 @@ interface_of lans routers earlier d = do
   lan_name ← text_at (codes "lan") table
   interface_of_values lans routers earlier router_name device lan_name
 
--- The interfaces: first their list, which has to be a list (else BadKind) of at most 8,192
--- (TooMany), at the number 0, then each interface from the front, at its number, counted from 1.
+-- The interfaces: first the section, which has to be a list (else BadKind) of at most 8,192
+-- (TooMany) and whose faults have the number 0, and then each interface from the front, whose
+-- faults have its number, counted from 1.
 unfoldable pub interfaces_in : List (List ℕ) → List RouterRow → Members
     → Result (List InterfaceRow) TopologyFault
 interfaces_in lans routers ms = do

@@ -1,4 +1,5 @@
--- The list of LANs.
+-- The key `lans` of a topology: the LANs that are read, or the first fault. Faults have the order
+-- of docs/FORMATS.md.
 use Rattle.std.specs.Prelude.{ℕ, not, nat_le, List, [], length, codes, Bool, Result, Ok, Err}
 use Rattle.std.specs.Prelude.{if◌then◌else◌}
 use Rattle.std.specs.List.{list_any}
@@ -13,7 +14,7 @@ use Rattle.mc_topology.specs.Answer.{◌>>=◌, locate_fault, each_row}
 use Rattle.mc_topology.specs.Document.{text_of, list_at}
 use Rattle.mc_topology.specs.Names.{is_name}
 
--- a LAN has the name
+-- whether a LAN has the name
 abbrev pub has_lan : List ℕ → List (List ℕ) → Bool
 has_lan name lans = list_any (λ lan. bytes_eq lan name) lans
 
@@ -25,15 +26,15 @@ lan_name_of earlier d = do
   if not (is_name name) then Err BadName
       else if has_lan name earlier then Err RepeatedName else Ok name
 
--- The list has to be there (else MissingKey), then to be a list (BadKind), and then to have at most
--- 1,024 values (TooMany).
+-- The values of the list. It has to be there (else MissingKey), to be a list (BadKind), and to have
+-- at most 1,024 values (TooMany), in this order.
 unfoldable pub lan_rows : Members → Result (List Data) TopologyFaultKind
 lan_rows ms = do
   rows ← list_at (codes "lans") ms
   if nat_le (length rows) 1024 then Ok rows else Err TooMany
 
--- The LANs: first their list, whose faults have the number 0, then each value from the front, whose
--- faults have its number, counted from 1.
+-- The LANs: first the list, whose faults have the number 0, and then each name from the front,
+-- whose faults have its number, counted from 1.
 unfoldable pub lans_in : Members → Result (List (List ℕ)) TopologyFault
 lans_in ms = do
   rows ← locate_fault Lans 0 (lan_rows ms)

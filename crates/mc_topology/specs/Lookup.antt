@@ -1,24 +1,24 @@
--- Look-ups in the rows of a topology, whatever text they were read from: a router by its name, and an
--- interface by its router and device.
+-- Look-ups in the rows of a topology, whatever text they were read from: a router by its name, and
+-- an interface by its router and device.
 use Rattle.std.specs.Prelude.{ℕ, ◌≤◌, ◌==◌, ◌&&◌, List, find, position, length, Bool, Option, option_map}
 use Rattle.std.specs.List.{All, list_any}
 use Rattle.std.specs.Str.{bytes_eq}
 use Rattle.mc_topology.specs.SectionRows.{RouterRow, InterfaceRow}
 use Rattle.mc_topology.specs.declared.interfaces.InterfaceKey.{InterfaceKey}
 
--- a router has the name
+-- whether a router has the name
 abbrev pub has_router : List ℕ → List RouterRow → Bool
 has_router name routers = list_any (λ r. bytes_eq r.name name) routers
 
--- the number of the router with the name
+-- the number of the router with the name, counted from 0
 abbrev pub router_no_of : List ℕ → List RouterRow → Option ℕ
 router_no_of name routers = position (λ r. bytes_eq r.name name) routers
 
--- the interface has this router and this device
+-- whether the interface has this router and this device
 abbrev pub is_interface_of : ℕ → List ℕ → InterfaceRow → Bool
 is_interface_of router device i = (i.router == router) && bytes_eq i.device device
 
--- an interface has this router and this device
+-- whether an interface has this router and this device
 abbrev pub has_interface : ℕ → List ℕ → List InterfaceRow → Bool
 has_interface router device interfaces = list_any (is_interface_of router device) interfaces
 
@@ -27,7 +27,7 @@ abbrev pub lan_of_interface : ℕ → List ℕ → List InterfaceRow → Option 
 lan_of_interface router device interfaces =
     option_map (λ i. i.lan) (find (is_interface_of router device) interfaces)
 
--- the row of a key and a LAN
+-- the interface with this router and device, and on this LAN
 abbrev pub interface_row : InterfaceKey × ℕ → InterfaceRow
 interface_row e = record { router = e.0.router; device = e.0.device.items; lan = e.1 }
 

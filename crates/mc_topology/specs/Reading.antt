@@ -1,4 +1,5 @@
--- The topology that a text denotes, or its first fault, in the order in which a text is checked.
+-- The topology that a text is read as, or its first fault. Faults have the order of
+-- docs/FORMATS.md.
 use Rattle.std.specs.Prelude.{ℕ, pos, nat_le, List, [], ◌∷◌, length, codes, Result, Ok, Err, ok_or}
 use Rattle.std.specs.Prelude.{◌&&◌, if◌then◌else◌}
 use Rattle.std.specs.Ordering.{int_eq}
@@ -22,31 +23,33 @@ use Rattle.mc_topology.specs.Sources.{sources_in}
 use Rattle.mc_topology.specs.Flows.{flows_in}
 use Rattle.mc_topology.specs.Topology.{TopologyValue}
 
--- a text in UTF-8 (else NotToml)
+-- the text, which has to be UTF-8 (else NotToml)
 unfoldable pub require_utf8 : List ℕ → Result (List ℕ) TopologyFaultKind
 require_utf8 text = if is_utf8 text then Ok text else Err NotToml
 
--- the table of a text that is UTF-8 and TOML (else NotToml)
+-- the table of a text, which has to be UTF-8 and TOML (else NotToml)
 unfoldable pub parse_toml : List ℕ → Result Members TopologyFaultKind
 parse_toml text = require_utf8 text >>= λ t. ok_or (parse_document t) NotToml
 
--- the table of a text, which has to have at most 16,777,216 bytes (else TooMany), and then to be TOML
+-- the table of a text, which has to have at most 16,777,216 bytes (else TooMany) and then to be
+-- TOML
 unfoldable pub table_of : List ℕ → Result Members TopologyFaultKind
 table_of text = if nat_le (length text) 16777216 then parse_toml text else Err TooMany
 
--- the same of a text that has to be within the bounds too (else TooMany), before it is read as TOML
+-- the table of a text, which has to be within the bounds as well (else TooMany) before it is read
+-- as TOML
 unfoldable pub document_of : List ℕ → Result Members TopologyFaultKind
 document_of text =
     if nat_le (length text) 16777216 && is_bounded text then parse_toml text else Err TooMany
 
--- the keys of a topology
+-- the keys of a topology's table
 abbrev pub top_keys : List (List ℕ)
 top_keys =
     codes "version" ∷ codes "lans" ∷ codes "router" ∷ codes "interface" ∷ codes "source"
     ∷ codes "flow" ∷ []
 
--- The top has to have no other keys (else UnknownKey), and then `version` has to be there
--- (MissingKey), to be a whole number (BadKind), and to be 1 (BadVersion).
+-- A topology's table has to have no other keys than these (else UnknownKey), and its `version` has
+-- to be there (MissingKey), to be a whole number (BadKind), and to be 1 (BadVersion).
 unfoldable pub check_version : Members → Result (Unit {0}) TopologyFaultKind
 check_version ms =
     if has_only top_keys ms
@@ -54,8 +57,8 @@ check_version ms =
     if int_eq version (pos 1) then Ok tt else Err BadVersion)
     else Err UnknownKey
 
--- the topology of a table: the keys and the version, at `top` 0, and then the sections in this order,
--- each with those that it names
+-- the topology of a table: first its keys and its version, whose faults are at `top` 0, and then
+-- the sections in this order, each with the ones before it that it names
 unfoldable pub topology_in : Members → Result TopologyValue TopologyFault
 topology_in ms = do
   version ← locate_fault Top 0 (check_version ms)
@@ -72,7 +75,7 @@ topology_in ms = do
     flows = flows;
   })
 
--- the sources on these LANs, and the flows, each from one of the sources
+-- the sources, each on one of these LANs, and the flows, each from one of the sources
 unfoldable pub sources_and_flows_in : List (List ℕ) → Members
     → Result (List SourceRow × List Flow) TopologyFault
 sources_and_flows_in lans ms = do
@@ -80,7 +83,7 @@ sources_and_flows_in lans ms = do
   flows ← flows_in sources ms
   Ok (sources, flows)
 
--- the interfaces, the sources and the flows, beside the LANs and the routers
+-- the interfaces, the sources and the flows, after these LANs and routers
 unfoldable pub interfaces_and_flows_in : List (List ℕ) → List RouterRow → Members
     → Result (List InterfaceRow × List SourceRow × List Flow) TopologyFault
 interfaces_and_flows_in lans routers ms = do
@@ -88,10 +91,12 @@ interfaces_and_flows_in lans routers ms = do
   sourced ← sources_and_flows_in lans ms
   Ok (interfaces, sourced.0, sourced.1)
 
--- the topology of a text: first the text as a whole, at `top` 0, and then its table
+-- the topology of a text: first the text as a whole, whose faults are at `top` 0, and then its
+-- table
 unfoldable pub parse_topology : List ℕ → Result TopologyValue TopologyFault
 parse_topology text = locate_fault Top 0 (document_of text) >>= topology_in
 
--- the same without the bounds: what a text denotes, whatever it takes to read it
+-- the topology of a text that may be beyond the bounds: what it denotes, whatever it takes to read
+-- it
 unfoldable pub parse_unbounded_topology : List ℕ → Result TopologyValue TopologyFault
 parse_unbounded_topology text = locate_fault Top 0 (table_of text) >>= topology_in

@@ -1,4 +1,5 @@
--- The routers.
+-- The section `router` of a topology: the routers that are read, or the first fault. Faults have
+-- the order of docs/FORMATS.md.
 use Rattle.std.specs.Prelude.{ℕ, not, List, [], ◌∷◌, codes, Option, Some, None}
 use Rattle.std.specs.Prelude.{Result, Ok, Err, if◌then◌else◌}
 use Rattle.std.specs.Str.{bytes_eq}
@@ -16,11 +17,12 @@ use Rattle.mc_topology.specs.Document.{known_table, text_at, optional_text_at, r
 use Rattle.mc_topology.specs.Lookup.{has_router}
 use Rattle.mc_topology.specs.Names.{is_name}
 
--- the keys of a router
+-- the keys of a router's table
 abbrev pub router_keys : List (List ℕ)
 router_keys = codes "name" ∷ codes "order" ∷ []
 
--- a byte order by its text, which is `little` where there is none
+-- the byte order of a text, which has to be `little` or `big` (else BadKind); without a text it is
+-- little-endian
 unfoldable pub order_of : Option (List ℕ) → Result Order TopologyFaultKind
 order_of None = Ok Little
 order_of (Some text) =
@@ -28,10 +30,11 @@ order_of (Some text) =
     else if bytes_eq text (codes "big") then Ok Big
     else Err BadKind
 
--- A router. It has to be a table (else BadKind) of no other keys (UnknownKey). Then the keys:
--- `name` has to be there (MissingKey) and to be a text (BadKind), and so does `order` if it is
--- there (BadKind). Then the values: the name can be one (BadName), the order is one of the two
--- (BadKind), and no earlier router has the name (RepeatedName).
+-- A router. It has to be a table (else BadKind) with no other keys than these (UnknownKey). Then
+-- come the keys: `name` has to be there (MissingKey) as a text (BadKind), and `order`, if it is
+-- there, has to be a text (BadKind). Then come the values: the name has to be one that a router can
+-- have (BadName), and the order one of the two (BadKind). Last, no earlier router may have the name
+-- (RepeatedName).
 unfoldable pub router_of : List RouterRow → Data → Result RouterRow TopologyFaultKind
 router_of earlier d = do
   table ← known_table router_keys d
@@ -41,8 +44,9 @@ router_of earlier d = do
     order ← order_of order_text
     if has_router name earlier then Err RepeatedName else Ok (record { name = name; order = order })
 
--- The routers: first their list, which has to be a list (else BadKind) of at most 256 (TooMany), at
--- the number 0, then each router from the front, at its number, counted from 1.
+-- The routers: first the section, which has to be a list (else BadKind) of at most 256 (TooMany)
+-- and whose faults have the number 0, and then each router from the front, whose faults have its
+-- number, counted from 1.
 unfoldable pub routers_in : Members → Result (List RouterRow) TopologyFault
 routers_in ms = do
   rows ← locate_fault section.Router 0 (rows_at (codes "router") 256 ms)

@@ -1,4 +1,5 @@
--- The sources.
+-- The section `source` of a topology: the sources that are read, or the first fault. Faults have
+-- the order of docs/FORMATS.md.
 use Rattle.std.specs.Prelude.{ℕ, ◌==◌, List, [], ◌∷◌, codes, find, Bool, Option, option_map, Result}
 use Rattle.std.specs.Prelude.{Ok, Err, ok_or, if◌then◌else◌}
 use Rattle.std.specs.List.{list_any}
@@ -14,11 +15,11 @@ use Rattle.mc_topology.specs.Answer.{◌>>=◌, locate_fault, each_row}
 use Rattle.mc_topology.specs.Document.{known_table, text_at, rows_at}
 use Rattle.mc_topology.specs.Names.{index_of}
 
--- the keys of a source
+-- the keys of a source's table
 abbrev pub source_keys : List (List ℕ)
 source_keys = codes "address" ∷ codes "lan" ∷ []
 
--- a source has the address
+-- whether a source has the address
 abbrev pub has_source : ℕ → List SourceRow → Bool
 has_source address sources = list_any (λ s. s.address == address) sources
 
@@ -26,8 +27,9 @@ has_source address sources = list_any (λ s. s.address == address) sources
 abbrev pub lan_of_source : ℕ → List SourceRow → Option ℕ
 lan_of_source address sources = option_map (λ s. s.lan) (find (λ s. s.address == address) sources)
 
--- The source of the two values: the first is the address of a host that may send (BadAddress), a
--- LAN has the name (UnknownName), and no earlier source has the address (RepeatedName).
+-- The source of the two values. The first has to be the address of a host that may send (else
+-- BadAddress), the second the name of a LAN (UnknownName). Last, no earlier source may have the
+-- address (RepeatedName).
 unfoldable pub source_of_values : List (List ℕ) → List SourceRow → List ℕ → List ℕ
     → Result SourceRow TopologyFaultKind
 source_of_values lans earlier text lan_name = do
@@ -36,8 +38,8 @@ source_of_values lans earlier text lan_name = do
   if has_source address earlier then Err RepeatedName
       else Ok (record { address = address; lan = lan })
 
--- A source. It has to be a table (else BadKind) of no other keys (UnknownKey). Then the keys:
--- `address` and `lan`, in this order, each have to be there (MissingKey) and to be a text
+-- A source. It has to be a table (else BadKind) with no other keys than these (UnknownKey). Then
+-- come the keys `address` and `lan`, in this order: each has to be there (MissingKey) as a text
 -- (BadKind). Then the values are checked, by `source_of_values`.
 unfoldable pub source_of : List (List ℕ) → List SourceRow → Data
     → Result SourceRow TopologyFaultKind
@@ -47,8 +49,9 @@ source_of lans earlier d = do
   lan_name ← text_at (codes "lan") table
   source_of_values lans earlier text lan_name
 
--- The sources: first their list, which has to be a list (else BadKind) of at most 4,096 (TooMany),
--- at the number 0, then each source from the front, at its number, counted from 1.
+-- The sources: first the section, which has to be a list (else BadKind) of at most 4,096 (TooMany)
+-- and whose faults have the number 0, and then each source from the front, whose faults have its
+-- number, counted from 1.
 unfoldable pub sources_in : List (List ℕ) → Members → Result (List SourceRow) TopologyFault
 sources_in lans ms = do
   rows ← locate_fault section.Source 0 (rows_at (codes "source") 4096 ms)

@@ -1,4 +1,5 @@
--- What a topology is.
+-- What a topology is, whatever text it was read from, and the rules that each one keeps
+-- (docs/FORMATS.md, section "Topology").
 use Rattle.std.specs.Prelude.{◌≡◌, ℕ, ◌<◌, ◌≤◌, IsTrue, List, [], length, refl, Some, slice_get}
 use Rattle.std.specs.Prelude.{option_map, unwrap_or}
 use Rattle.std.specs.Coded.{Coded, code_by, coded×, coded_ℕ, coded_list}
@@ -9,8 +10,8 @@ use Rattle.mc_topology.specs.Names.{is_name, is_device}
 use Rattle.mc_topology.specs.SectionRows.{RouterRow, InterfaceRow, SourceRow, router_code, interface_code}
 use Rattle.mc_topology.specs.SectionRows.{source_code}
 
--- The names of the LANs, the routers, the interfaces, the sources and the flows, each in the order
--- of the text.
+-- A topology: the names of its LANs, its routers, its interfaces, its sources and its flows, each
+-- in the order of the text, by which they are numbered from 0.
 pub record TopologyValue : Type 0 where
   pub lans : List (List ℕ)
   pub routers : List RouterRow
@@ -18,65 +19,67 @@ pub record TopologyValue : Type 0 where
   pub sources : List SourceRow
   pub flows : List Flow
 
--- the name of a LAN, and of a router; empty for a number that the topology doesn't have
+-- the name of the LAN with this number; empty if there is none
 abbrev pub lan_name : TopologyValue → ℕ → List ℕ
 lan_name t lan = unwrap_or (slice_get t.lans lan) []
 
+-- the name of the router with this number; empty if there is none
 abbrev pub router_name : TopologyValue → ℕ → List ℕ
 router_name t router = unwrap_or (option_map (λ r. r.name) (slice_get t.routers router)) []
 
--- the flow with a number; one of zeros for a number that the topology doesn't have
+-- the flow with this number; one of zeros if there is none
 abbrev pub flow_at : TopologyValue → ℕ → Flow
 flow_at t flow =
     unwrap_or (slice_get t.flows flow) (record { source = 0; lan = 0; group = 0; ttl = 0 })
 
--- the key of a row, by which no two rows of its section agree: the name of a LAN and of a router,
+-- the key of a LAN, by which no two agree: its name
 abbrev pub lan_key : List ℕ → List ℕ
 lan_key name = name
 
+-- the key of a router, by which no two agree: its name
 abbrev pub router_key : RouterRow → List ℕ
 router_key r = r.name
 
--- the router and the device of an interface,
+-- the key of an interface, by which no two agree: its router and its device
 abbrev pub interface_key : InterfaceRow → ℕ × List ℕ
 interface_key i = (i.router, i.device)
 
--- the address of a source,
+-- the key of a source, by which no two agree: its address
 abbrev pub source_key : SourceRow → ℕ
 source_key s = s.address
 
--- and the source and the group of a flow
+-- the key of a flow, by which no two agree: its source and its group
 abbrev pub flow_key : Flow → ℕ × ℕ
 flow_key f = (f.source, f.group)
 
--- no two places of the list have items with the same key
+-- no two items of the list have the same key
 abbrev pub AreDistinctBy : {X K : Type 0} → (X → K) → List X → Type 0
 AreDistinctBy {X} {K} key xs =
     (i j : ℕ) (x y : X) → slice_get xs i ≡ Some x → slice_get xs j ≡ Some y → key x ≡ key y → i ≡ j
 
--- an item is in the list
+-- the item is in the list
 abbrev pub IsIn : {X : Type 0} → List X → X → Type 0
 IsIn xs x = (n : ℕ) × (slice_get xs n ≡ Some x)
 
--- the topology has an interface of this router and this device, on this LAN
+-- the topology has an interface with this router and this device, on this LAN
 abbrev pub HasInterface : TopologyValue → ℕ → List ℕ → ℕ → Type 0
 HasInterface t router device lan =
     IsIn t.interfaces (record { router = router; device = device; lan = lan })
 
--- a device of one of the routers, on one of the LANs
+-- the rules of an interface: it is a device of one of the routers, on one of the LANs
 pub record IsValidInterface (t : TopologyValue) (i : InterfaceRow) : Type 0 where
   pub router : i.router < length t.routers
   pub device : IsTrue (is_device i.device)
   pub lan : i.lan < length t.lans
 
--- the address of a host that may send, on one of the LANs
+-- the rules of a source: it has the address of a host that may send, and is on one of the LANs
 pub record IsValidSource (lans : List (List ℕ)) (s : SourceRow) : Type 0 where
   pub is_address : IsAddr s.address
   pub may_send : IsSource s.address
   pub lan : s.lan < length lans
 
--- a flow from a host that may send, on one of the LANs, to a group that routers forward, with a
--- time to live of 1 to 255
+-- the rules of a flow: it is from a host that may send, on one of the LANs, to a group that routers
+-- forward, with a TTL of 1 to 255
 pub record IsValidFlow (lans : List (List ℕ)) (f : Flow) : Type 0 where
   pub lan : f.lan < length lans
   pub is_address : IsAddr f.source
@@ -85,10 +88,10 @@ pub record IsValidFlow (lans : List (List ℕ)) (f : Flow) : Type 0 where
   pub ttl_from : 1 ≤ f.ttl
   pub ttl_to : f.ttl ≤ 255
 
--- The rules of a topology: at most 1,024 LANs and 256 routers, each with a valid name, no two with
--- the same name; at most 8,192 interfaces, each as above, no two with the same router and device; at
--- most 4,096 sources, each as above, no two with the same address; and 1 to 4,096 flows, each as
--- above, no two with the same source and group.
+-- The rules of a topology: at most 1,024 LANs and 256 routers, each with a name that it can have,
+-- no two LANs and no two routers with the same name; at most 8,192 interfaces, no two with the same
+-- router and device; at most 4,096 sources, no two with the same address; and 1 to 4,096 flows, no
+-- two with the same source and group. Each interface, source and flow keeps its own rules.
 pub record IsValidTopology (t : TopologyValue) : Type 0 where
   pub few_lans : length t.lans ≤ 1024
   pub few_routers : length t.routers ≤ 256
@@ -110,7 +113,7 @@ pub record IsValidTopology (t : TopologyValue) : Type 0 where
       → IsValidSource t.lans s
   pub valid_flows : (n : ℕ) (f : Flow) → slice_get t.flows n ≡ Some f → IsValidFlow t.lans f
 
--- a topology is coded as the tuple of its fields, and so is a flow
+-- a flow is stored as its fields
 abbrev pub flow_code : Coded Flow
 flow_code =
     code_by (ℕ × (ℕ × (ℕ × ℕ))) (coded× coded_ℕ (coded× coded_ℕ (coded× coded_ℕ coded_ℕ)))
@@ -118,6 +121,7 @@ flow_code =
     (λ p. record { source = p.0; lan = p.1.0; group = p.1.1.0; ttl = p.1.1.1 })
     (λ _. refl)
 
+-- a topology is stored as its fields
 abbrev pub topology_code : Coded TopologyValue
 topology_code =
     code_by (List (List ℕ) × (List RouterRow × (List InterfaceRow × (List SourceRow × List Flow))))

@@ -1,13 +1,13 @@
--- The pairs of one group, which stand together among ascending pairs.
+-- The pairs of one group, which are next to each other among ascending pairs. A pair has its group first.
 use Rattle.std.specs.Prelude.{◌≡◌, ℕ, ◌-◌, ◌==◌, ◌≤◌, ◌++◌, false, true, List, drop, filter, length}
 use Rattle.std.specs.Prelude.{map, take}
 use Rattle.std.specs.List.{AllWithin}
 
--- the second parts of the pairs that have a first part
+-- the second parts of the pairs of a group
 abbrev pub seconds_of : (group : ℕ) → List (ℕ × ℕ) → List ℕ
 seconds_of group pairs = map (λ p. p.1) (filter (λ p. p.0 == group) pairs)
 
--- the pairs of the group are those from the one place up to the other
+-- The pairs of the group are those from place `run.0` on and before place `run.1`.
 pub record IsRunOf (group : ℕ) (pairs : List (ℕ × ℕ)) (run : ℕ × ℕ) : Type 0 where
   pub ordered : run.0 ≤ run.1
   pub within : run.1 ≤ length pairs
@@ -15,6 +15,6 @@ pub record IsRunOf (group : ℕ) (pairs : List (ℕ × ℕ)) (run : ℕ × ℕ) 
   pub inside : AllWithin (λ p. (p.0 == group) ≡ true) pairs run.0 run.1
   pub behind : AllWithin (λ p. (p.0 == group) ≡ false) pairs run.1 (length pairs)
 
--- the elements from one place up to another are changed
+-- the list with the elements from one place on and before another changed by f
 abbrev pub with_run : {A : Type 0} → (A → A) → (run : ℕ × ℕ) → List A → List A
 with_run f run xs = take run.0 xs ++ (map f (take (run.1 - run.0) (drop run.0 xs)) ++ drop run.1 xs)

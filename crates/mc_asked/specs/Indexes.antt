@@ -1,5 +1,5 @@
--- What the indexes hold by which wants are looked up, and wants by their classes. Contracts of private
--- functions use them, and `AreFlowsWanted` a public one.
+-- What indexes hold in which wants are looked up, and wants by their classes. Only contracts of private
+-- functions use these definitions, but for `AreFlowsWanted`, which a public one uses.
 use Rattle.std.specs.Prelude.{◌≡◌, ◌↔◌, ℕ, ◌==◌, ◌&&◌, Bool, not, IsTrue, List, Contains, Some}
 use Rattle.std.specs.Prelude.{slice_get, map, filter}
 use Rattle.std.specs.List.{list_any}
@@ -15,38 +15,38 @@ use Rattle.mc_filter.specs.ChannelPlaces.{IsWantedAnswer}
 use Rattle.mc_filter.specs.ChannelWants.{is_wanted_group}
 use Rattle.mc_filter.specs.FilterBuilding.{has_exclude}
 
--- the index has the groups for which a record is an EXCLUDE record
+-- The index has exactly the groups for which a record is an EXCLUDE record.
 abbrev pub IsIndexOfExcludes : List Record → List ℕ → Type 0
 IsIndexOfExcludes records index = (group : ℕ) → Contains index group ↔ IsTrue (has_exclude records group)
 
--- the merged filter of the want's group asks for it, by the groups of EXCLUDE records
+-- whether the merged filter of the want's group asks for it, where these are the groups of EXCLUDE records
 abbrev pub is_of_merged_filter_by : (excluded : List ℕ) → Want → Bool
 is_of_merged_filter_by excluded want =
     is_forwarded_group want.0 && not (not (want.1 == any_source) && has excluded want.0)
 
--- the answers say of each flow, a source and a group, whether the records want it
+-- The answers say of each flow, a source and a group, whether the records want it.
 abbrev pub AreFlowsWanted : (flows : List (ℕ × ℕ)) → List Record → List Bool → Type 0
 AreFlowsWanted flows records answers =
     (i : ℕ) (flow : ℕ × ℕ) (is_wanted : Bool) → slice_get flows i ≡ Some flow →
     slice_get answers i ≡ Some is_wanted → IsWantedAnswer records flow is_wanted
 
--- the index has the groups of the flows, each a source and a group, that the records want
+-- The index has exactly the groups of the flows, each a source and a group, that the records want.
 abbrev pub IsIndexOfWantedGroups : (flows : List (ℕ × ℕ)) → List Record → List ℕ → Type 0
 IsIndexOfWantedGroups flows records index =
     (group : ℕ) → Contains index group ↔ IsTrue (is_wanted_group flows records group)
 
--- the index has the pairs, as numbers
+-- The index has exactly these pairs, as numbers.
 abbrev pub IsIndexOfPairs : List (ℕ × ℕ) → List ℕ → Type 0
 IsIndexOfPairs pairs index = (pair : ℕ × ℕ) → pair_of (pair_number pair) ≡ pair →
     Contains index (pair_number pair)
     ↔ IsTrue (list_any (λ p. (p.0 == pair.0) && (p.1 == pair.1)) pairs)
 
--- the index has the second parts of the pairs
+-- The index has exactly the second parts of these pairs.
 abbrev pub IsIndexOfGroups : List (ℕ × ℕ) → List ℕ → Type 0
 IsIndexOfGroups pairs index = (group : ℕ) →
     Contains index group ↔ IsTrue (list_any (λ p. p.1 == group) pairs)
 
--- the wants that nothing answers, and the groups of those that are a service's
+-- Of these wants, those of the class `Asked`, and the groups of those of the class `Service`.
 pub record IsClassified (a : AnswersValue) (lan : ℕ) (records : List Record) (wants : List Want)
     (c : ClassifiedWants) : Type 0 where
   pub asked : c.asked.items ≡ filter (λ want. is_asked_class (class_of a lan records want)) wants

@@ -1,4 +1,5 @@
--- What is kept of the wants of a LAN's list.
+-- What an audit keeps of the wants of a LAN's list: those of the lines `asked`, and the groups of services
+-- (docs/FORMATS.md, "What hosts ask for and no flow answers").
 use Rattle.std.specs.Prelude.{ℕ, Bool, true, false, List, map, filter, length}
 use Rattle.std.specs.List.{dedup}
 use Rattle.std.specs.Prelude.{nat_eq}
@@ -9,6 +10,7 @@ use Rattle.mc_asked.specs.declared.want_class.WantClass.TheVariants.{Answered, O
 use Rattle.mc_asked.specs.Answers.{AnswersValue, class_of}
 use Rattle.mc_asked.specs.ListWants.{Want, wants_in}
 
+-- whether wants of this class come into the lines `asked`
 abbrev pub is_asked_class : WantClass → Bool
 is_asked_class Answered = false
 is_asked_class OnLan = false
@@ -16,6 +18,7 @@ is_asked_class Ignored = false
 is_asked_class Service = false
 is_asked_class Asked = true
 
+-- whether wants of this class are a service's
 abbrev pub is_service_class : WantClass → Bool
 is_service_class Answered = false
 is_service_class OnLan = false
@@ -23,21 +26,23 @@ is_service_class Ignored = false
 is_service_class Service = true
 is_service_class Asked = false
 
--- the wants that nothing answers, and that are neither left aside nor a service's
+-- the wants of a list that no flow answers, nor the LAN itself, and that are neither ignored nor a service's
 abbrev pub asked_wants : AnswersValue → (lan : ℕ) → List Record → List Want
 asked_wants a lan records = filter (λ want. is_asked_class (class_of a lan records want)) (wants_in records)
 
--- the group of each want that is a service's
+-- the group of each want of a list that is a service's
 abbrev pub service_groups : AnswersValue → (lan : ℕ) → List Record → List ℕ
 service_groups a lan records =
     map (λ want. want.0) (filter (λ want. is_service_class (class_of a lan records want)) (wants_in records))
 
--- the wants that nothing answers, all or the 20 lowest, how many there are, and the groups of services
+-- What is kept: the wants of the class `Asked`, all or the 20 lowest; how many there are; and the groups of
+-- services.
 pub record LanWantsValue : Type 0 where
   pub lowest : List Want
   pub count : ℕ
   pub services : List ℕ
 
+-- what is kept of these wants and groups, each group once
 abbrev pub kept_wants : (all : Bool) → (asked : List Want) → (groups : List ℕ) → LanWantsValue
 kept_wants all asked groups = record {
   lowest = shown_pairs all asked;
@@ -45,6 +50,7 @@ kept_wants all asked groups = record {
   services = dedup nat_eq groups;
 }
 
+-- what is kept of a LAN's list
 abbrev pub lan_wants : (all : Bool) → AnswersValue → (lan : ℕ) → List Record → LanWantsValue
 lan_wants all a lan records =
     kept_wants all (asked_wants a lan records) (service_groups a lan records)

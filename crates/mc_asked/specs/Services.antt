@@ -1,12 +1,12 @@
--- Groups that hosts ask for by themselves, by the names of their services (IANA, IPv4 Multicast Address
--- Space Registry).
+-- The groups of services, which most hosts ask for by themselves (docs/FORMATS.md, "What hosts ask for and no
+-- flow answers"; the names are those of IANA's IPv4 Multicast Address Space Registry).
 use Rattle.std.specs.Prelude.{ℕ, ◌+◌, ◌*◌, ◌==◌, List, [], ◌∷◌, Option, option_map, codes, find}
 
--- the address with four octets
+-- the address with these four octets
 abbrev address : ℕ → ℕ → ℕ → ℕ → ℕ
 address a b c d = ((a * 256 + b) * 256 + c) * 256 + d
 
--- the groups and their names, by group
+-- the groups of services, ascending, each with the name of its service
 abbrev pub services : List (ℕ × List ℕ)
 services =
     (address 224 0 1 1, codes "NTP") ∷ (address 224 0 1 22, codes "SLP")
@@ -18,6 +18,6 @@ services =
     ∷ (address 239 255 255 250, codes "SSDP") ∷ (address 239 255 255 253, codes "SLP")
     ∷ (address 239 255 255 255, codes "SAP") ∷ []
 
--- the name of the service of a group
+-- the name of the service of a group, if it is a service's
 abbrev pub service_name : ℕ → Option (List ℕ)
 service_name group = option_map (λ s. s.1) (find (λ s. s.0 == group) services)

@@ -1,5 +1,5 @@
--- The sources that the filter of a LAN doesn't admit, of groups that it wants from any source, and those
--- that the filter of none of several LANs admits.
+-- The sources that the filter of a LAN doesn't admit (RFC 3376, section 3.2), of groups that it wants from
+-- any source, and the sources that the filter of none of several LANs admits.
 use Rattle.std.specs.Prelude.{◌≡◌, ◌==◌, slice_get, unwrap_or, ℕ, not, Bool, List, [], ◌∷◌, filter, flat_map}
 use Rattle.std.specs.Prelude.{map, Some, if◌then◌else◌}
 use Rattle.std.specs.List.{list_any}
@@ -14,36 +14,38 @@ use Rattle.mc_asked.specs.ListWants.{Want, any_source}
 abbrev pub listed_by : (groups : List ℕ) → Record → List (ℕ × ℕ)
 listed_by groups r = if has groups r.group then map (λ s. (r.group, s)) r.sources else []
 
--- Of these groups, each with each source that a record lists and none admits. Where a record for the group is
--- an EXCLUDE record, these are all that the merged filter doesn't admit (RFC 3376, section 3.2).
+-- Each of these groups with each source that some record lists and no record admits. Where a record for the
+-- group is an EXCLUDE record, these are all sources that the merged filter doesn't admit (RFC 3376, section
+-- 3.2).
 abbrev pub unadmitted_in : List Record → (groups : List ℕ) → List (ℕ × ℕ)
 unadmitted_in records groups =
     filter (λ p. not (wanted records p.0 p.1)) (in_order (flat_map (listed_by groups) records))
 
--- each pair has a mark, which is set exactly if the pair passes the test
+-- Each pair has a mark, which is set exactly if the pair passes the test.
 abbrev pub AreMarksOf : (test : ℕ × ℕ → Bool) → (pairs : List (ℕ × ℕ)) → (marks : List Bool) → Type 0
 AreMarksOf test pairs marks = (i : ℕ) (pair : ℕ × ℕ) (mark : Bool) → slice_get pairs i ≡ Some pair →
     slice_get marks i ≡ Some mark → mark ≡ test pair
 
 -- ---- of the LANs of a want
 
--- the list of a LAN
+-- the records of a LAN's list
 abbrev pub list_of : List (List Record) → (lan : ℕ) → List Record
 list_of lists lan = unwrap_or (slice_get lists lan) []
 
--- the filter of at least one of the LANs admits the source
+-- whether the filter of at least one of the LANs admits the source
 abbrev pub is_admitted : List (List Record) → (lans : List ℕ) → (group : ℕ) → (source : ℕ) → Bool
 is_admitted lists lans group source = list_any (λ lan. wanted (list_of lists lan) group source) lans
 
--- The sources that the filter of none of the LANs admits, which all want the group from any source: of those
--- that the first one doesn't admit, those that no other one admits.
+-- The sources that the filter of none of the LANs admits, where all of these want the group from any source:
+-- of the sources that the first LAN doesn't admit, those that no other LAN admits.
 abbrev pub unadmitted_by : List (List Record) → (group : ℕ) → (lans : List ℕ) → List ℕ
 unadmitted_by lists group [] = []
 unadmitted_by lists group (lan ∷ lans) =
     filter (λ source. not (is_admitted lists lans group source))
     (seconds_of group (unadmitted_in (list_of lists lan) (group ∷ [])))
 
--- a want with the sources that the filter of none of its LANs admits; with none if it is of one source
+-- a want with the sources that the filter of none of its LANs admits; with no source if the want is of a
+-- single one
 abbrev pub with_unadmitted : List (List Record) → Want × List ℕ → Want × List ℕ
 with_unadmitted lists line =
     (line.0, (if line.0.1 == any_source then unadmitted_by lists line.0.0 line.1 else []))

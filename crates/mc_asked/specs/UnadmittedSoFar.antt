@@ -1,4 +1,5 @@
--- The sources that the filter of none of a want's LANs admits, LAN by LAN.
+-- The sources that the filter of none of a want's LANs admits (Unadmitted), worked out LAN by LAN: what is
+-- kept after the lists of some LANs.
 use Rattle.std.specs.Prelude.{◌≡◌, ℕ, ◌==◌, ◌&&◌, Bool, false, true, not, List, [], ◌∷◌, filter, map}
 use Rattle.std.specs.Prelude.{take, Some, if◌then◌else◌}
 use Rattle.mc_igmp.specs.declared.record.Record.{Record}
@@ -12,8 +13,8 @@ use Rattle.mc_asked.specs.PairParts.{with_parts}
 use Rattle.mc_asked.specs.Unadmitted.{with_unadmitted}
 use Rattle.mc_asked.specs.WantStates.{is_key}
 
--- a want, whether one of its LANs is among those so far, and the sources that the filter of none of these
--- admits
+-- A want, whether one of its LANs has been seen, and the sources that the filter of none of the LANs that
+-- have been seen admits.
 pub record WantSourcesValue : Type 0 where
   pub want : Want
   pub is_begun : Bool
@@ -23,13 +24,13 @@ pub record WantSourcesValue : Type 0 where
 abbrev pub without_sources : Want → WantSourcesValue
 without_sources want = record { want = want; is_begun = false; unadmitted = [] }
 
--- the want alone with these sources
+-- the want with these sources
 abbrev pub as_asked : WantSourcesValue → Want × List ℕ
 as_asked s = (s.want, s.unadmitted)
 
 -- ---- one LAN more
 
--- with the sources that one more LAN doesn't admit
+-- a want with one LAN more, which doesn't admit these sources of the group
 abbrev pub with_lan : (own : List ℕ) → WantSourcesValue → WantSourcesValue
 with_lan own s = record {
   want = s.want;
@@ -37,32 +38,33 @@ with_lan own s = record {
   unadmitted = if s.is_begun then filter (has s.unadmitted) own else own;
 }
 
--- the same if the want is of any source of a group
+-- a want with that LAN, if the want is of any source of this group; otherwise as it is
 abbrev pub with_lan_at : (group : ℕ) → (own : List ℕ) → WantSourcesValue → WantSourcesValue
 with_lan_at group own s = if is_key (group, any_source) s.want then with_lan own s else s
 
--- with one more LAN, if the want is of any source of one of these groups, by the sources that the LAN
--- doesn't admit, each behind its group
+-- a want with one LAN more, if it is of any source of one of these groups. The pairs are what the LAN doesn't
+-- admit, each a group and a source.
 abbrev pub with_unadmitted_of : (groups : List ℕ) → (unadmitted : List (ℕ × ℕ)) → WantSourcesValue
     → WantSourcesValue
 with_unadmitted_of groups unadmitted s =
     if (s.want.1 == any_source) && has groups s.want.0 then with_lan (seconds_of s.want.0 unadmitted) s else s
 
--- whether a want of a LAN is of any source and among others
+-- whether a want of a LAN is of any source, and one of these wants
 abbrev pub is_shared_any : (wants : List Want) → Want → Bool
 is_shared_any wants want = (want.1 == any_source) && is_listed (Some wants) want
 
--- the groups of these
+-- the groups of the LAN's wants of which that is so
 abbrev pub groups_from_any : (wants own : List Want) → List ℕ
 groups_from_any wants own = map (λ want. want.0) (filter (is_shared_any wants) own)
 
 -- ---- by the lists of all LANs
 
+-- whether the list is empty
 abbrev pub is_empty : List ℕ → Bool
 is_empty [] = true
 is_empty (lan ∷ lans) = false
 
--- what is kept of a want with some of its LANs
+-- what is kept of a want after some of its LANs
 abbrev pub sources_so_far : List (List Record) → Want × List ℕ → WantSourcesValue
 sources_so_far lists line = record {
   want = line.0;
@@ -70,11 +72,11 @@ sources_so_far lists line = record {
   unadmitted = (with_unadmitted lists line).1;
 }
 
--- the wants that are kept of the LANs below a number
+-- the wants that are kept of each LAN below a number
 abbrev pub wants_below : (all : Bool) → AnswersValue → List (List Record) → (lan : ℕ) → List (List Want)
 wants_below all a lists lan = take lan (wants_of_lans (lan_wants_from all a 0 lists))
 
--- this is what is kept of each of these wants with its LANs below a number
+-- This is what is kept of each of these wants after the LANs below a number.
 abbrev pub AreSourcesBelow : (all : Bool) → AnswersValue → List (List Record) → (lan : ℕ) → List Want
     → List WantSourcesValue → Type 0
 AreSourcesBelow all a lists lan wants sources =

@@ -1,4 +1,4 @@
--- What a router has for each of several wants, row by row.
+-- What a router has for each of several wants (Forwarding), worked out row by row.
 use Rattle.std.specs.Prelude.{ℕ, ◌==◌, Bool, List, [], ◌∷◌, map, if◌then◌else◌}
 use Rattle.std.specs.Coded.{Coded, coded_ℕ}
 use Rattle.std.specs.FinMap as fin
@@ -11,22 +11,23 @@ use Rattle.mc_asked.specs.declared.forwarding.RouterState.TheVariants.{Nothing}
 use Rattle.mc_asked.specs.Forwarding.{greater, router_state, row_of}
 use Rattle.mc_asked.specs.ListWants.{Want}
 
--- A want, the sources that the filter of none of its LANs admits, ascending, and what a router has for it.
+-- A want; the sources that the filter of none of its LANs admits, ascending; and what a router has for the
+-- want.
 pub record StatedWantValue : Type 0 where
   pub want : Want
   pub unadmitted : List ℕ
   pub state : RouterState
 
--- A router's vifs, and several wants with what it has for each by the rows so far.
+-- A router's vifs, and several wants with what the rows so far have for each.
 pub record WantStatesValue : Type 0 where
   pub vifs : FinMap nat_cmp VifValue
   pub wants : List StatedWantValue
 
--- Vifs are stored as their fields.
+-- A router's vifs are stored as a map.
 abbrev pub vifs_code : Coded (FinMap nat_cmp VifValue)
 vifs_code = fin.code coded_ℕ vif_code
 
--- What a router has for a want after one more resolved row.
+-- What a router has for a want after one resolved row more, of this source and group.
 abbrev pub state_with_row : FinMap nat_cmp VifValue → (key : ℕ × ℕ) → EntryValue → StatedWantValue
     → RouterState
 state_with_row vifs key entry w =
@@ -43,28 +44,28 @@ abbrev pub states_with_row : WantStatesValue → ℕ × ℕ → EntryValue → W
 states_with_row s key entry =
     record { vifs = s.vifs; wants = map (want_with_row s.vifs key entry) s.wants }
 
--- The two keys are one.
+-- Whether the two keys are the same.
 abbrev pub is_key : (key other : ℕ × ℕ) → Bool
 is_key key other = is_eq (key_cmp key other)
 
--- A want after a row that counts for this want alone.
+-- A want after a row that counts for one want alone.
 abbrev pub want_with_row_if_want : (want : Want) → FinMap nat_cmp VifValue → (key : ℕ × ℕ) → EntryValue
     → StatedWantValue → StatedWantValue
 want_with_row_if_want want vifs key entry w =
     if is_key want w.want then want_with_row vifs key entry w else w
 
--- Each want after that row.
+-- Each want after a row that counts for one want alone.
 abbrev pub states_with_row_if_want : (want : Want) → WantStatesValue → ℕ × ℕ → EntryValue → WantStatesValue
 states_with_row_if_want want s key entry =
     record { vifs = s.vifs; wants = map (want_with_row_if_want want s.vifs key entry) s.wants }
 
--- A want after a row that counts for the wants of this group alone.
+-- A want after a row that counts for the wants of one group alone.
 abbrev pub want_with_row_if_group : (group : ℕ) → FinMap nat_cmp VifValue → (key : ℕ × ℕ) → EntryValue
     → StatedWantValue → StatedWantValue
 want_with_row_if_group group vifs key entry w =
     if w.want.0 == group then want_with_row vifs key entry w else w
 
--- Each want after that row.
+-- Each want after a row that counts for the wants of one group alone.
 abbrev pub states_with_row_if_group : (group : ℕ) → WantStatesValue → ℕ × ℕ → EntryValue → WantStatesValue
 states_with_row_if_group group s key entry =
     record { vifs = s.vifs; wants = map (want_with_row_if_group group s.vifs key entry) s.wants }
@@ -77,11 +78,11 @@ unstated w = record { want = w.0; unadmitted = w.1; state = Nothing }
 abbrev pub states_start : FinMap nat_cmp VifValue → List (Want × List ℕ) → WantStatesValue
 states_start vifs wants = record { vifs = vifs; wants = map unstated wants }
 
--- A want with what the rows of a router have for it.
+-- A want with what these rows of a router have for it.
 abbrev pub want_by_rows : FinMap nat_cmp VifValue → List RowValue → Want × List ℕ → StatedWantValue
 want_by_rows vifs rows w =
     record { want = w.0; unadmitted = w.1; state = router_state vifs w.1 w.0 rows }
 
--- Each want with what the rows have for it.
+-- Each want with what these rows of a router have for it.
 abbrev pub states_by_rows : FinMap nat_cmp VifValue → List (Want × List ℕ) → List RowValue → WantStatesValue
 states_by_rows vifs wants rows = record { vifs = vifs; wants = map (want_by_rows vifs rows) wants }

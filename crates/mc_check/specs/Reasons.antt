@@ -1,4 +1,4 @@
--- The code's reasons as values of the theory.
+-- The checker's reasons as values of the theory (Reasons of mc_theory).
 use Rattle.std.specs.Prelude.{Option, Some, None}
 use Rattle.mc_theory.specs.Reasons.{Reason as ReasonValue}
 use Rattle.mc_check.specs.declared.verdict.Reason.{Reason}
@@ -6,6 +6,7 @@ use Rattle.mc_check.specs.declared.verdict.Reason.TheVariants.{TwoEntries, BadSo
 use Rattle.mc_check.specs.declared.verdict.Reason.TheVariants.{Stray, Extra, WrongRank, WrongNeed}
 use Rattle.mc_check.specs.declared.verdict.Reason.TheVariants.{Unfed, Missed, Low}
 
+-- a reason of the checker as one of the theory, about the same LAN, or the same router and vif
 abbrev pub reason_value : Reason → ReasonValue
 reason_value (TwoEntries lan) = ReasonValue.TwoEntries lan
 reason_value BadSource = ReasonValue.BadSource
@@ -18,7 +19,7 @@ reason_value (Unfed lan) = ReasonValue.Unfed lan
 reason_value (Missed lan) = ReasonValue.Missed lan
 reason_value (Low lan) = ReasonValue.Low lan
 
--- the reason, if there is one
+-- the reason as one of the theory, if there is one
 abbrev pub optional_reason_value : Option Reason → Option ReasonValue
 optional_reason_value None = None
 optional_reason_value (Some reason) = Some (reason_value reason)

@@ -1,4 +1,5 @@
--- The text of the wants that nothing answers.
+-- The lines of an audit about what hosts ask for and no flow answers: `asked`, `asked and <m> more` and
+-- `asked services` (docs/FORMATS.md, "What hosts ask for and no flow answers").
 use Rattle.std.specs.Prelude.{◌≡◌, ℕ, ◌-◌, ◌*◌, ◌^◌, ◌==◌, ◌&&◌, Bool, List, [], ◌∷◌, ◌++◌, codes}
 use Rattle.std.specs.Prelude.{decimal, filter, if◌then◌else◌, length, map, unwrap_or, flat_map, take}
 use Rattle.mc_text.specs.Addr.{dotted}
@@ -13,23 +14,25 @@ use Rattle.mc_asked.specs.Services.{service_name}
 use Rattle.mc_explain.specs.RowText.{address_text}
 use Rattle.mc_explain.specs.declared.asked.asked_text.AskedLine.{AskedLine}
 
--- ---- what is written
+-- ---- the parts of a line
 
--- addresses after a space each: the first 8, and how many more there are
+-- an address, with a space before it
 abbrev pub address_after_space : ℕ → List ℕ
 address_after_space address = codes " " ++ dotted address
 
+-- the first 8 of some addresses, and how many more there are
 abbrev pub addresses_text : List ℕ → List ℕ
 addresses_text addresses =
     flat_map address_after_space (take 8 addresses) ++ more_text (length addresses - 8)
 
--- some routers with words before them, or else other words
+-- these words and the names of the routers, or the other words if there are no routers
 abbrev pub routers_or : TopologyValue → List ℕ → (words : List ℕ) → (otherwise : List ℕ) → List ℕ
 routers_or t [] words otherwise = otherwise
 routers_or t (router ∷ routers) words otherwise = words ++ routers_text t (router ∷ routers)
 
--- who forwards it, or why nobody does: those with an entry that goes out to a LAN, or else those with an
--- entry, or else those with entries for every source alone; with routers excluded nobody knows theirs
+-- who forwards what is wanted, or why nobody is known to: the routers with an entry that goes out to a LAN,
+-- or else those with an entry that goes out to none, or else those with a (*,G) or (*,*) entry alone. What
+-- excluded routers have isn't known.
 abbrev pub forwarding_words : TopologyValue → (are_excluded : Bool) → (forwards none_out star : List ℕ)
     → List ℕ
 forwarding_words t are_excluded forwards none_out star =
@@ -39,65 +42,76 @@ forwarding_words t are_excluded forwards none_out star =
     (if are_excluded then codes "no router with known tables forwards it"
     else codes "no router forwards it")))
 
+-- who forwards what is wanted, or why nobody is known to, by what each router has for the want
 abbrev pub forwarding_text : TopologyValue → (are_excluded : Bool) → List RouterState → List ℕ
 forwarding_text t are_excluded states = forwarding_words t are_excluded (routers_in Forwards states)
     (routers_in NoneOut states) (routers_in EverySource states)
 
--- the sources of the flows, each a source and a group, that have the group
+-- the sources of the flows that have the group; each flow is given as its source and its group
 abbrev pub listed_sources : (flows : List (ℕ × ℕ)) → (group : ℕ) → List ℕ
 listed_sources flows group = map (λ f. f.0) (filter (λ f. f.1 == group) flows)
 
+-- the listed sources of the want's group; nothing if there are none
 abbrev pub listed_text : List ℕ → List ℕ
 listed_text [] = []
 listed_text (source ∷ sources) =
     codes "; listed for the group:" ++ addresses_text (source ∷ sources)
 
--- any source of a group in 232.0.0.0/8, which is for single sources (RFC 4607, section 1)
+-- whether the want is of any source of a group in 232.0.0.0/8: these groups are for source-specific multicast
+-- alone (RFC 4607, section 1), and routers ignore such a report (RFC 4604)
 abbrev pub is_ignored_by_routers : Want → Bool
 is_ignored_by_routers want = (want.1 == any_source) && has_group (232 * 2 ^ 24, 8) want.0
 
+-- that routers ignore the want, if they do
 abbrev pub ssm_text : Want → List ℕ
 ssm_text want = if is_ignored_by_routers want then codes "; SSM: routers ignore it" else []
 
--- what is said of a want behind its LANs: who forwards it, the sources of listed flows of its group, and
--- that routers ignore it
+-- what is written of a want after its LANs: who forwards it, the listed sources of its group, and whether
+-- routers ignore it
 abbrev pub what_in : (forwarding : List ℕ) → (listed : List ℕ) → Want → List ℕ
 what_in forwarding listed want = forwarding ++ (listed_text listed ++ ssm_text want)
 
--- the line of a want and its LANs
+-- the line of a want: its source and group, its LANs, and what is written after them
 abbrev pub asked_line_text : TopologyValue → Want × List ℕ → (what : List ℕ) → List ℕ
 asked_line_text t line what =
     codes "asked " ++ (address_text line.0.1 ++ (codes " " ++ (dotted line.0.0
     ++ (codes " lans " ++ (decimal (length line.1) ++ (codes ":" ++ (lans_text t line.1
     ++ (codes ": " ++ (what ++ codes "\n")))))))))
 
+-- what is written after the LANs of a line that the audit has made
 abbrev pub what_text : TopologyValue → AskedLine → List ℕ
 what_text t line = what_in (forwarding_words t line.are_excluded line.routers.now.forwards.items
     line.routers.now.none_out.items line.routers.now.every_source.items) line.listed.now line.want.now
 
+-- a line that the audit has made
 abbrev pub asked_text_of : TopologyValue → AskedLine → List ℕ
 asked_text_of t line = asked_line_text t (line.want.now, line.lans.now) (what_text t line)
 
+-- the line of a want and its LANs, by the listed flows and by what each router has for the want
 abbrev pub asked_text : TopologyValue → (are_excluded : Bool) → (flows : List (ℕ × ℕ)) → List RouterState
     → Want × List ℕ → List ℕ
 asked_text t are_excluded flows states line = asked_line_text t line
     (what_in (forwarding_text t are_excluded states) (listed_sources flows line.0.0) line.0)
 
--- how many more wants there are
+-- ---- the other lines
+
+-- how many more wants of LANs there are; nothing for none
 abbrev pub asked_more_text : ℕ → List ℕ
 asked_more_text more = if more == 0 then [] else codes "asked and " ++ (decimal more ++ codes " more\n")
 
--- a group of a service, and its name
+-- a group of a service, and the service's name
 abbrev pub service_text : ℕ → List ℕ
 service_text group = dotted group ++ (codes " " ++ unwrap_or (service_name group) [])
 
+-- the group and the name of the service of a line, with a space before them
 abbrev pub service_after_space : Want × List ℕ → List ℕ
 service_after_space line = codes " " ++ service_text line.0.0
 
+-- the first 8 services, and how many more there are
 abbrev pub some_services_text : List (Want × List ℕ) → List ℕ
 some_services_text lines = flat_map service_after_space (take 8 lines) ++ more_text (length lines - 8)
 
--- the line of the services, of which there may be none
+-- the line of the services; nothing if there are none
 abbrev pub services_text : List (Want × List ℕ) → List ℕ
 services_text [] = []
 services_text (line ∷ lines) =

@@ -1,4 +1,5 @@
--- What is behind a stray: what the run comes to that goes on past it. The answers are our own choice.
+-- What is behind a stray (docs/FORMATS.md, "What is behind a stray"): what the run meets that goes on past
+-- it. The answers are our own choice.
 use Rattle.std.specs.Prelude.{◌≡◌, ◌==◌, ◌&&◌, ℕ, Bool, true, false, not, List, [], ◌∷◌, ◌++◌, filter, fold}
 use Rattle.std.specs.Prelude.{if◌then◌else◌, length, map, reverse, Option, None, Some, is_none, option_map}
 use Rattle.std.specs.List.{list_any}
@@ -20,9 +21,9 @@ use Rattle.mc_explain.specs.declared.causes.behind.Behind.{Behind}
 
 -- ---- a second copy
 
--- Why these copies show the finding of copy c, the first double one, as for a finding of a travel, but
--- without a remedy: the senders of the LAN's first copy and of the second, or the path by which the second
--- came from the LAN itself, from its beginning.
+-- Why the carried copies show the finding of copy c, the first double one (the first that has an earlier one
+-- on its LAN), as for the finding of a travel, but without a remedy: the senders of the LAN's first copy and
+-- of c, or the path by which c came from the LAN itself, from its beginning.
 abbrev pub double_causes : Net → List Copy → Copy → FindingValue → List Cause
 double_causes n cs c (Duplicate lan) =
     sender_causes c.lan (sender_on cs c.lan) ++ sender_causes c.lan c.sender
@@ -31,64 +32,68 @@ double_causes n cs c Clean = []
 double_causes n cs c (Stray router vif) = []
 double_causes n cs c (Missed lan) = []
 
+-- why the carried copies show a second copy, if there is a first double one
 abbrev pub second_causes : Net → List Copy → Option Copy → List Cause
 second_causes n cs None = []
 second_causes n cs (Some c) = double_causes n cs c (finding_of_double n cs c)
 
--- The TTL from which on packets show it. None is said where the flow's own TTL is the greatest.
+-- The TTL from which on packets show the second copy. None is given where the flow's own TTL is 255, the
+-- greatest.
 abbrev pub second_shown_from : (greatest : Bool) → Net → List Copy → Option Copy → Option ℕ
 second_shown_from greatest n cs None = None
 second_shown_from greatest n cs (Some c) = if greatest then None else Some (need_of_two_copies n cs c.lan)
 
 -- ---- what leads out of the domain
 
--- whether the row isn't followed
+-- whether the row isn't followed: there is no (S,G) entry, but a (*,G) or (*,*) one
 abbrev pub is_open : Row → Bool
 is_open (Exact incoming pairs) = false
 is_open Open = true
 is_open NoRow = false
 
--- whether a copy that left by interface i was sent there, by another one than the finding's own
+-- whether the stray at interface i was sent by an entry, and is not the finding's own
 abbrev pub is_other_leak : Net → (own i : Interface) → Bool
 is_other_leak n own i = not (is_open (n.row i.0)) && not (is_sender (Some own) i)
 
--- a router after others, unless it is one of them
+-- these routers and then router r, unless it is one of them
 abbrev pub with_router : List ℕ → ℕ → List ℕ
 with_router routers r = if list_any (λ q. q == r) routers then routers else (routers ++ r ∷ [])
 
--- the routers whose rows aren't followed, of those by which copies left, each once
+-- these routers and then the stray's, if its row isn't followed
 abbrev pub with_open_router : Net → List ℕ → Interface → List ℕ
 with_open_router n routers i = if is_open (n.row i.0) then with_router routers i.0 else routers
 
+-- the routers whose rows aren't followed, of those at which copies left, each once
 abbrev pub open_routers : Net → List Interface → List ℕ
 open_routers n strays = fold (with_open_router n) [] strays
 
 -- ---- what is missed
 
--- the LANs that want the flow and carried none of these copies
+-- whether a LAN wants the flow and carried none of these copies
 abbrev pub is_missed : Net → List Copy → (lan : ℕ) → Bool
 is_missed n cs lan = n.wants lan && is_none (first_copy_on cs lan)
 
+-- the LANs that want the flow and carried none of these copies
 abbrev pub missed_lans : TopologyValue → Net → List Copy → List ℕ
 missed_lans t n cs = filter (is_missed n cs) (below (length t.lans))
 
--- No LAN is called missed where a router's row isn't followed, or a router is excluded: it may send a copy
--- there.
+-- The LANs that are called missed: none where a router's row isn't followed, or a router is excluded (the
+-- domain isn't whole), since that router may send them a copy.
 abbrev pub missed_unless_open : (whole : Bool) → (open_routers lans : List ℕ) → List ℕ
 missed_unless_open true [] lans = lans
 missed_unless_open true (r ∷ rs) lans = []
 missed_unless_open false open_routers lans = []
 
--- ---- all of it
+-- ---- the whole answer
 
--- nothing else is said where a LAN carried two copies
+-- the list, but nothing where a LAN carried two copies: then nothing else is shown
 abbrev pub unless_second : {A : Type 0} → Option Copy → List A → List A
 unless_second None xs = xs
 unless_second (Some c) xs = []
 
--- What the flight that a run past the stray ends with shows: `whole` where no router is excluded,
--- `greatest` where the flow's own TTL is 255, and `double` is the first copy that has an earlier one on its
--- LAN, if there is one.
+-- This is what flight g shows, with which the run past the stray ends: `whole` is true where no router is
+-- excluded, `greatest` where the flow's own TTL is 255, `own` is the interface of the stray, and `double` is
+-- the first double copy, if there is one.
 pub record IsBehindIn (whole greatest : Bool) (t : TopologyValue) (n : Net) (own : Interface) (g : Flight)
     (double : Option Copy) (b : Behind) : Type 0 where
   pub finding : optional_finding_value b.finding ≡ option_map (finding_of_double n g.carried) double
@@ -99,8 +104,7 @@ pub record IsBehindIn (whole greatest : Bool) (t : TopologyValue) (n : Net) (own
   pub missed : b.missed.items ≡ unless_second double
       (missed_unless_open whole (open_routers n g.strays) (missed_lans t n g.carried))
 
--- What is behind the stray at this interface of a packet of the flow with TTL 255: that run is one of the
--- flow.
+-- This is what is behind the stray at interface `own` of a packet of the flow with TTL 255.
 pub record IsBehind (whole : Bool) (d : DomainValue) (flow : ℕ) (own : Interface) (b : Behind) : Type 0 where
   pub flight : Flight
   pub run : EndsPastStrays (net_of d flow) (start (net_of d flow) 255) flight

@@ -1,4 +1,5 @@
--- What holds of what is said to be behind a stray.
+-- What is true of each answer about what is behind a stray (docs/FORMATS.md, "What is behind a stray"): one
+-- run of the flow's packets shows all of it.
 use Rattle.std.specs.Prelude.{◌≡◌, ℕ, ◌≤◌, true, List, [], ◌++◌, map, reverse, Some}
 use Rattle.mc_theory.specs.Lists.{In}
 use Rattle.mc_theory.specs.Nets.{Net, Interface}
@@ -16,7 +17,7 @@ use Rattle.mc_explain.specs.Explained.{circle_cause, sender_causes}
 use Rattle.mc_explain.specs.declared.causes.Cause.{Cause}
 use Rattle.mc_explain.specs.declared.causes.behind.Behind.{Behind}
 
--- The causes are the senders of the LAN's first copy and of its second.
+-- The causes are the senders of the LAN's first copy and of its second, the first double one.
 pub record HasSenders (cs : List Copy) (lan : ℕ) (causes : List Cause) : Type 0 where
   pub first : Copy
   pub second : Copy
@@ -25,7 +26,8 @@ pub record HasSenders (cs : List Copy) (lan : ℕ) (causes : List Cause) : Type 
   pub on : second.lan ≡ lan
   pub causes_are : causes ≡ sender_causes lan first.sender ++ sender_causes lan second.sender
 
--- The causes are the path by which the LAN's second copy came from the LAN itself, from its beginning.
+-- The causes are the path by which the LAN's second copy, the first double one, came from the LAN itself,
+-- from its beginning.
 pub record HasCircle (n : Net) (cs : List Copy) (lan : ℕ) (causes : List Cause) : Type 0 where
   pub second : Copy
   pub is_double : IsFirstDouble cs second
@@ -34,20 +36,26 @@ pub record HasCircle (n : Net) (cs : List Copy) (lan : ℕ) (causes : List Cause
   pub came_by_hops : CameFromLan n cs lan second circle
   pub causes_are : causes ≡ reverse (map circle_cause circle)
 
--- All of it is true of one run of the flow, that of a packet with TTL 255 which goes on past strays: it
--- shows the finding, by these causes, and so does each complete run of a packet with at least the TTL that
--- is said; its copies left by the interfaces and came to the routers; and it is complete and brought the
--- missed LANs no copy.
+-- All of the answer is true of one run of the flow's packets, that of a packet with TTL 255 which goes on
+-- past strays.
 pub record IsTrueBehind (d : DomainValue) (flow : ℕ) (b : Behind) : Type 0 where
   pub flight : Flight
+  -- This is the flight that the run ends with.
   pub run : EndsPastStrays (net_of d flow) (start (net_of d flow) 255) flight
+  -- It shows the finding, if there is one;
   pub shows : (x : Finding) → optional_finding_value b.finding ≡ Some x → Shows (net_of d flow) flight x
+  -- the causes of a duplicate are the senders of the two copies;
   pub duplicate : (lan : ℕ) → optional_finding_value b.finding ≡ Some (Duplicate lan)
       → HasSenders flight.carried lan b.causes.items
+  -- the causes of a loop are the path of the second copy;
   pub loop_back : (lan : ℕ) → optional_finding_value b.finding ≡ Some (Loop lan)
       → HasCircle (net_of d flow) flight.carried lan b.causes.items
+  -- and each complete run without loss of a packet with at least the TTL that is given has the finding's
+  -- fault.
   pub shown : (x : Finding) (k t : ℕ) → optional_finding_value b.finding ≡ Some x
       → b.shown_from ≡ Some k → k ≤ t → EachCompleteRunHasFault (net_of d flow) t x
+  -- Copies left by the interfaces that are named.
   pub strays : (i : Interface) → In i b.strays.items → In i flight.strays
+  -- Where a LAN is named as missed, no copy waits any more, and that LAN wants the flow and carried none.
   pub missed : (lan : ℕ) → In lan b.missed.items → (flight.waiting ≡ []) × ((net_of d flow).wants lan ≡ true)
       × (In lan (lans flight.carried) → ⊥)

@@ -1,4 +1,5 @@
--- Lists, leading runs and marks that are indexed by numbers.
+-- How items are kept by their numbers: in a list for each number, or as a mark at the place of each number.
+-- Only contracts within this crate use these definitions.
 use Rattle.std.specs.Prelude.{◌≡◌, ◌==◌, ℕ, ◌<◌, List, [], length, map, filter, slice_index_or}
 use Rattle.std.specs.Prelude.{zero, suc, if◌then◌else◌, ◌∷◌, Bool, false}
 use Rattle.mc_forward.specs.ListedTables.{DomainFacts}
@@ -6,32 +7,32 @@ use Rattle.mc_explain.specs.declared.searches.listed_interface.ListedInterface.{
 use Rattle.mc_explain.specs.TopologyLans.{interface_at, listed_interface_at}
 use Rattle.std.specs.List.{list_any}
 
--- ---- items in lists by a number
+-- ---- a list for each number
 
--- each list has f of the keys with its number, in order
+-- The list at each place b holds f of the keys whose number is b, in their order.
 abbrev pub AreBuckets : {A : Type 0} → (ℕ → A) → (ℕ → ℕ) → List (List A) → List ℕ → Type 0
 AreBuckets f number lists ks =
     (b : ℕ) → b < length lists → slice_index_or lists b []
     ≡ map f (filter (λ k. number k == b) ks)
 
--- each list has the interfaces on one LAN, among these interfaces by number
+-- The list of each LAN holds the interfaces that are on it, of those with these numbers, in their order.
 abbrev pub AreInterfacesByLan : DomainFacts → List (List ListedInterface) → (numbers : List ℕ) → Type 0
 AreInterfacesByLan d lists numbers =
     AreBuckets (listed_interface_at d) (λ k. (interface_at d.topology k).lan) lists numbers
 
 -- ---- adjacent interfaces of one router
 
--- how many interfaces at the front are the router's
+-- how many interfaces at the front of the list are the router's
 abbrev pub leading_of_router : ℕ → List ListedInterface → ℕ
 leading_of_router router [] = zero
 leading_of_router router (i ∷ is) = if i.router == router then suc (leading_of_router router is) else zero
 
 -- ---- marks by numbers
 
--- each mark is the result of the test for its number
+-- The mark at each place is set exactly if the place's number passes the test.
 abbrev pub AreMarksOf : (ℕ → Bool) → List Bool → Type 0
 AreMarksOf p marks = (n : ℕ) → n < length marks → slice_index_or marks n false ≡ p n
 
--- exactly the listed numbers are marked
+-- Of the marks exactly those at these numbers are set.
 abbrev pub AreMarksOfListed : List ℕ → List Bool → Type 0
 AreMarksOfListed numbers marks = AreMarksOf (λ n. list_any (λ m. m == n) numbers) marks

@@ -1,4 +1,6 @@
--- The text of a router's row for every source, from the summary of its cache.
+-- How an audit prints the entry that a router has for every source (docs/FORMATS.md, the section "The
+-- program"): the (*,G) entry of the flow's group, or else the (*,*) entry, as the summary of the router's
+-- cache has it (Summary of mc_tables).
 use Rattle.std.specs.Prelude.{ℕ, List, [], Option, Some, None, slice_get, option_and_then}
 use Rattle.mc_tables.specs.CacheTable.{EntryValue}
 use Rattle.mc_tables.specs.Summary.{SummaryValue, every_source_row}
@@ -6,19 +8,21 @@ use Rattle.mc_forward.specs.Domains.{oif_pairs}
 use Rattle.mc_forward.specs.ListedTables.{DomainFacts}
 use Rattle.mc_explain.specs.RowText.{entry_text}
 
--- A router's row for every source, with the row's group: this group, or else 0.0.0.0. The summaries are
--- in the topology's order of routers.
+-- A router's entry for every source of this group, with the group 0.0.0.0 if it is for every group too. The
+-- summaries are in the topology's order of routers.
 abbrev pub every_source_of : List SummaryValue → (group router : ℕ) → Option (ℕ × EntryValue)
 every_source_of summary group router =
     option_and_then (λ n. every_source_row n group) (slice_get summary router)
 
--- such as `entry (*,239.1.2.3) from eth0 to eth1 eth2:5 in cache-r1`, or `entry (*,*) ..`; nothing if the
--- summary has none
+-- such an entry, as `entry (*,239.1.2.3) from eth0 to eth1 eth2:5 in cache-r1` or `entry (*,*) ..`; nothing
+-- if the router has none
 abbrev pub every_source_row_text : DomainFacts → (router : ℕ) → Option (ℕ × EntryValue) → List ℕ
 every_source_row_text d router None = []
 every_source_row_text d router (Some row) =
     entry_text d router 0 row.0 row.1.iif (oif_pairs row.1.oifs)
 
+-- the entry that a router has for every source of this group, by the summaries of all routers; nothing if it
+-- has none
 abbrev pub every_source_text : DomainFacts → List SummaryValue → (group router : ℕ) → List ℕ
 every_source_text d summary group router =
     every_source_row_text d router (every_source_of summary group router)

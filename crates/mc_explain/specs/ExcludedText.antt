@@ -1,4 +1,5 @@
--- The text about the excluded routers.
+-- The lines of an audit about the routers that `--without` excludes (docs/FORMATS.md, the section "The
+-- program").
 use Rattle.std.specs.Prelude.{◌≡◌, ℕ, Bool, List, [], ◌∷◌, ◌++◌, length, codes, filter, flat_map}
 use Rattle.mc_topology.specs.Topology.{TopologyValue, router_name}
 use Rattle.mc_theory.specs.Lists.{below}
@@ -12,27 +13,31 @@ excluded_routers t marks = filter (is_excluded marks) (below (length t.routers))
 
 -- ---- a line for each
 
+-- the line of an excluded router
 abbrev pub excluded_line : TopologyValue → (router : ℕ) → List ℕ
 excluded_line t router = codes "excluded " ++ (router_name t router ++ codes "\n")
 
+-- the lines of all excluded routers
 abbrev pub excluded_lines : TopologyValue → List Bool → List ℕ
 excluded_lines t marks = flat_map (excluded_line t) (excluded_routers t marks)
 
--- the line begins with `excluded `
+-- The line begins with `excluded `.
 abbrev pub IsExcludedLine : List ℕ → Type 0
 IsExcludedLine line = (rest : List ℕ) × (line ≡ codes "excluded " ++ rest)
 
+-- The text is a sequence of such lines.
 abbrev pub AreExcludedLines : List ℕ → Type 0
 AreExcludedLines = AreLines IsExcludedLine
 
 -- ---- one line for all
 
--- why the verdict is no; nothing if no router is excluded
+-- why the verdict is no: these routers are excluded; nothing if there are none
 abbrev pub verdict_reason : TopologyValue → (routers : List ℕ) → List ℕ
 verdict_reason t [] = []
 verdict_reason t (r ∷ rs) =
     codes "  excluded:" ++ (routers_text t (r ∷ rs)
     ++ codes ": the verdict is no; a yes requires all routers\n")
 
+-- why the verdict is no, by a mark for each router; nothing if none is excluded
 abbrev pub excluded_text : TopologyValue → List Bool → List ℕ
 excluded_text t marks = verdict_reason t (excluded_routers t marks)

@@ -1,9 +1,10 @@
--- The lines of a search about routers that expect copies from a LAN.
+-- The lines of a search about routers that expect copies from a LAN, as the incoming vif of their entry is
+-- placed on it (docs/FORMATS.md, "The search": the line `expected from here by`).
 use Rattle.std.specs.Prelude.{◌==◌, ℕ, zero, suc, Bool, false, List, [], ◌∷◌, if◌then◌else◌}
 use Rattle.mc_explain.specs.declared.searches.search_line.SearchLine.{SearchLine}
 use Rattle.mc_explain.specs.declared.searches.search_line.SearchLine.TheVariants.{ExpectedFromHere}
 
--- the routers of these lines
+-- the routers that expect copies, by these lines
 abbrev pub expecting_routers : List SearchLine → List ℕ
 expecting_routers [] = []
 expecting_routers (ExpectedFromHere lan router ∷ lines) = router ∷ expecting_routers lines

@@ -1,4 +1,5 @@
--- Which causes explain a fault, by the rows of the flow's routers and the flight that shows it.
+-- Which causes explain the fault that an examination found (docs/FORMATS.md, "The explanation of a finding"),
+-- by the rows that the routers have for the flow and by the flight that shows the fault.
 use Rattle.std.specs.Prelude.{◌≡◌, ℕ, List, [], ◌∷◌, ◌++◌, map, reverse, Some, None, Option}
 use Rattle.mc_theory.specs.Nets.{Net, Row, Interface}
 use Rattle.mc_theory.specs.Nets.Row.{Exact, Open, NoRow}
@@ -22,8 +23,9 @@ abbrev pub sender_causes : (lan : ℕ) → Option Interface → List Cause
 sender_causes lan None = []
 sender_causes lan (Some i) = SentOnto lan i.0 i.1 ∷ []
 
--- The LAN's second copy, the flight's first duplicate, was sent by an interface that can be taken out: the
--- LAN's first copy came by a path with this need.
+-- The cause is the remedy of the LAN's second copy, which is the flight's first double copy (the first
+-- carried one that has an earlier one on its LAN): to take out the interface that sent it. The LAN's first
+-- copy came by a path, whose need the cause names too.
 pub record IsRemedy (n : Net) (f : Flight) (lan : ℕ) (second : Copy) (cause : Cause) : Type 0 where
   pub sender : Interface
   pub path : List Hop
@@ -31,7 +33,8 @@ pub record IsRemedy (n : Net) (f : Flight) (lan : ℕ) (second : Copy) (cause : 
   pub spare : IsSpareInterface n f second sender path
   pub cause_is : cause ≡ TakeOut lan sender.0 sender.1 (need path)
 
--- The senders of the first copy and of the second, and the remedy.
+-- The causes are the senders of the LAN's first copy and of its second, where a router sent them, and the
+-- remedy.
 pub record ExplainsDuplicate (n : Net) (f : Flight) (lan : ℕ) (causes : List Cause) : Type 0 where
   pub first : Copy
   pub second : Copy
@@ -40,10 +43,12 @@ pub record ExplainsDuplicate (n : Net) (f : Flight) (lan : ℕ) (causes : List C
   pub take_out : IsRemedy n f lan second remedy
   pub causes_are : causes ≡ sender_causes lan first.sender ++ (sender_causes lan second.sender ++ remedy ∷ [])
 
+-- the cause for a hop of a loop
 abbrev pub circle_cause : Hop → Cause
 circle_cause h = Circle h.from h.onto h.router h.vif
 
--- The path by which the second copy came from the first, from its beginning, and the remedy.
+-- The causes are the path by which the LAN's second copy came from the LAN's first, from its beginning, and
+-- the remedy.
 pub record ExplainsLoop (n : Net) (f : Flight) (lan : ℕ) (causes : List Cause) : Type 0 where
   pub second : Copy
   pub circle : List Hop
@@ -54,7 +59,8 @@ pub record ExplainsLoop (n : Net) (f : Flight) (lan : ℕ) (causes : List Cause)
 
 -- ---- a stray copy
 
--- The router's row sent a copy by the vif, or a copy came in by it and found only a row for every source.
+-- Why a copy left the known domain: the router's row sent it by the vif, or it came in by the vif and found
+-- an open row, of a router that has only an entry for every source.
 abbrev pub stray_causes : Row → (router vif : ℕ) → List Cause
 stray_causes (Exact incoming pairs) router vif = Unplaced router vif ∷ []
 stray_causes Open router vif = OnlyEverySource router vif ∷ []
@@ -62,8 +68,8 @@ stray_causes NoRow router vif = []
 
 -- ---- a LAN that is missed only with the flow's TTL
 
--- In the flight of a packet with TTL 255 the LAN's copy came by a path. Its need is the least TTL, and a
--- packet with the flow's TTL is stopped at one of its hops.
+-- In the flight of a packet with TTL 255 the LAN's copy came by a path. The causes are the path's need, which
+-- is the least TTL, and the hop of the path at which a packet with the flow's TTL is stopped.
 pub record ExplainsLeastTtl (n : Net) (f : Flight) (lan : ℕ) (causes : List Cause) : Type 0 where
   pub copy : Copy
   pub path : List Hop
@@ -77,7 +83,7 @@ pub record ExplainsLeastTtl (n : Net) (f : Flight) (lan : ℕ) (causes : List Ca
 
 -- ---- all findings
 
--- the causes of the finding that this flight shows
+-- the causes of the finding that this flight shows; those of a missed LAN are the lines of a search
 abbrev pub ExplainsFinding : Net → Flight → Finding → List Cause → Type 0
 ExplainsFinding n f Clean causes = causes ≡ []
 ExplainsFinding n f (Duplicate lan) causes = ExplainsDuplicate n f lan causes
@@ -85,13 +91,13 @@ ExplainsFinding n f (Loop lan) causes = ExplainsLoop n f lan causes
 ExplainsFinding n f (Stray router vif) causes = causes ≡ stray_causes (n.row router) router vif
 ExplainsFinding n f (Missed lan) causes = causes ≡ []
 
--- the same if the flight `greatest` of a packet with TTL 255 shows no fault: then with the flow's TTL the
--- only fault can be a missed LAN
+-- the causes of what flight `least`, of a packet with the flow's TTL, shows where flight `greatest`, of one
+-- with TTL 255, shows no fault: then the only fault can be a missed LAN
 abbrev pub ExplainsAtFlowTtl : Net → (greatest least : Flight) → Finding → List Cause → Type 0
 ExplainsAtFlowTtl n greatest least (Missed lan) causes = ExplainsLeastTtl n greatest lan causes
 ExplainsAtFlowTtl n greatest least finding causes = ExplainsFinding n least finding causes
 
--- the causes of an examined flow's fault; none if the flow is right
+-- the causes of what an examination found; none if the flow is right
 abbrev pub IsExplained : DomainValue → (flow : ℕ) → ExaminedFlights → List Cause → Type 0
 IsExplained d flow (Certified entries) causes = causes ≡ []
 IsExplained d flow (FoundAtTtl255 ended) causes =

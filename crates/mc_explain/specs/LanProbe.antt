@@ -1,4 +1,4 @@
--- What a search reads, and its value.
+-- A search (SearchLine), as the values that the code keeps for it, and the LANs that it has visited.
 use Rattle.std.specs.Prelude.{◌≡◌, ℕ, length}
 use Rattle.mc_forward.specs.ListedTables.{facts}
 use Rattle.mc_forward.specs.PerLan.{item_on_lan, HoldsFirstOfEachKey}
@@ -7,6 +7,7 @@ use Rattle.mc_explain.specs.TopologyLans.{interfaces_on_lans}
 use Rattle.mc_explain.specs.SearchLine.{Search}
 use Rattle.mc_explain.specs.declared.searches.visited_lans.VisitedLans.{VisitedLans}
 
+-- the search that these values are of
 abbrev pub search_in : LanProbe → Search
 search_in l = record {
   domain = facts l.view.now.domain;
@@ -16,12 +17,13 @@ search_in l = record {
   first_copy_on = item_on_lan l.first_copies.now.by_lan;
 }
 
+-- The interfaces that are kept are those that the topology has on each LAN.
 pub record IsLanProbe (l : LanProbe) : Type 0 where
   pub interfaces : l.interfaces.now ≡ interfaces_on_lans (facts l.view.now.domain)
 
 -- ---- the LANs that a search has visited
 
--- exactly the visited ones of these many LANs are marked
+-- Of so many LANs exactly the visited ones are marked.
 pub record IsVisitedLans (lans : ℕ) (m : VisitedLans) : Type 0 where
   pub count : length m.marks ≡ lans
   pub marked : HoldsFirstOfEachKey (λ lan. lan) m.marks m.lans.items

@@ -1,4 +1,6 @@
--- The flights that travels end with, and the paths of their copies.
+-- The flights that travels end with, and the paths of their copies (Paths and Hops of mc_theory), as far as
+-- an explanation needs them. The first double copy of a flight is the first carried copy that has an earlier
+-- one on its LAN.
 use Rattle.std.specs.Prelude.{◌≡◌, ℕ, ◌≤◌, false, List, [], length, Some}
 use Rattle.mc_theory.specs.Nets.{Net, Interface}
 use Rattle.mc_theory.specs.Flights.{Copy, run, start}
@@ -8,8 +10,8 @@ use Rattle.mc_theory.specs.Paths.{CameByHops, CameFromLan, PassesHops, need}
 use Rattle.mc_theory.specs.Hops.{hops_of_copy, hops_of_copy_until}
 use Rattle.mc_forward.specs.FlightsInDomain.{FlowOfDomain, FlightInDomain, net_in}
 
--- The flight is the last one of a travel of the flow's packet with this TTL, and the travel's finding is
--- x. The travel always handles the first waiting copy.
+-- The flight is the last one of the travel of the flow's packet with this TTL that always handles the first
+-- waiting copy, and x is what the travel finds.
 pub record EndsTravel (f : FlowOfDomain) (ttl : ℕ) (x : Finding) (j : FlightInDomain) : Type 0 where
   pub domain : j.domain ≡ f.domain
   pub low : 1 ≤ ttl
@@ -20,13 +22,14 @@ pub record EndsTravel (f : FlowOfDomain) (ttl : ℕ) (x : Finding) (j : FlightIn
       (start (net_in f) ttl) x
   pub ends : j.flight ≡ run (net_in f) (handles picks) (start (net_in f) ttl)
 
--- The LAN's first copy came by these hops, and packets with some TTL get through them.
+-- The LAN's first copy is `first`, which came by the hops that are followed back from it, and packets with
+-- some TTL get through these.
 pub record HasPath (n : Net) (cs : List Copy) (lan : ℕ) (first : Copy) : Type 0 where
   pub on : first_copy_on cs lan ≡ Some first
   pub came_by_hops : CameByHops n cs first (hops_of_copy n cs first)
   pub small : need (hops_of_copy n cs first) ≤ 255
 
--- The copy is the flight's first duplicate, an interface sent it, and its LAN's first copy has a path.
+-- The copy is the flight's first double copy, an interface sent it, and the first copy on its LAN has a path.
 pub record IsSecondCopy (n : Net) (cs : List Copy) (second : Copy) : Type 0 where
   pub is_double : IsFirstDouble cs second
   pub found : first_double [] cs ≡ Some second
@@ -35,20 +38,20 @@ pub record IsSecondCopy (n : Net) (cs : List Copy) (second : Copy) : Type 0 wher
   pub first : Copy
   pub path : HasPath n cs second.lan first
 
--- The flight's first duplicate is on this LAN.
+-- The flight's first double copy is on this LAN.
 pub record HasSecondCopy (n : Net) (cs : List Copy) (lan : ℕ) : Type 0 where
   pub second : Copy
   pub is : IsSecondCopy n cs second
   pub on : second.lan ≡ lan
 
--- The flight's first duplicate came from this LAN itself, by the hops that are followed back.
+-- The flight's first double copy came from its own LAN, by the hops that are followed back from it.
 pub record HasLoop (n : Net) (cs : List Copy) (lan : ℕ) : Type 0 where
   pub has : HasSecondCopy n cs lan
   pub came_by_hops :
       CameFromLan n cs lan has.second
       (hops_of_copy_until n cs lan has.second)
 
--- The LAN's first copy has a path, and packets with TTL t don't get through it.
+-- The LAN's first copy has a path that packets with TTL t don't get through.
 pub record IsOutOfReach (n : Net) (cs : List Copy) (t lan : ℕ) : Type 0 where
   pub first : Copy
   pub path : HasPath n cs lan first

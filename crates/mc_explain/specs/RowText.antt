@@ -1,4 +1,5 @@
--- The text of a router's devices and rows, with the names of the topology and of the vif tables.
+-- How an audit prints a router's devices and entries, with the names of the topology and of the vif tables
+-- (docs/FORMATS.md, the section "The program").
 use Rattle.std.specs.Prelude.{ℕ, ◌+◌, ◌/◌, ◌%◌, ◌==◌, ◌&&◌, not, nat_le, Bool, List, [], ◌∷◌, ◌++◌, Option}
 use Rattle.std.specs.Prelude.{Some, None, if◌then◌else◌, codes, decimal, flat_map}
 use Rattle.mc_text.specs.Addr.{dotted}
@@ -15,7 +16,7 @@ use Rattle.mc_forward.specs.ListedTables.{DomainFacts}
 abbrev pub hex_digit_of : ℕ → ℕ
 hex_digit_of d = if nat_le d 9 then 48 + d else 87 + d
 
--- a byte that is written unescaped: 0x21 to 0x7e, except the backslash
+-- whether a byte is written as it is: 0x21 to 0x7e, but not the backslash
 abbrev pub is_plain : ℕ → Bool
 is_plain b = (nat_le 0x21 b && nat_le b 0x7e) && not (b == 0x5c)
 
@@ -26,13 +27,15 @@ byte_text b =
     then b ∷ []
     else codes "\\x" ++ (hex_digit_of (b / 16) ∷ hex_digit_of (b % 16) ∷ [])
 
+-- the name of a device
 abbrev pub device_name_text : List ℕ → List ℕ
 device_name_text name = flat_map byte_text name
 
--- a vif by its number, if its table has no line for it or no device
+-- a vif by its number, such as `vif/3`
 abbrev pub vif_number_text : ℕ → List ℕ
 vif_number_text vif = codes "vif/" ++ decimal vif
 
+-- a vif by its device, or by its number if the vif table has no line for it or no device
 abbrev pub device_text_of : (vif : ℕ) → Option VifValue → List ℕ
 device_text_of vif None = vif_number_text vif
 device_text_of vif (Some v) =
@@ -44,21 +47,22 @@ device_text d router vif = device_text_of vif (d.vifs router vif)
 
 -- ---- rows
 
--- a row's outgoing vif with its threshold, if that isn't 1
+-- an outgoing vif of an entry, with its threshold if that isn't 1
 abbrev pub oif_text : DomainFacts → (router : ℕ) → ℕ × ℕ → List ℕ
 oif_text d router p =
     codes " " ++ (device_text d router p.0
     ++ (if p.1 == 1 then [] else codes ":" ++ decimal p.1))
 
+-- the outgoing vifs of an entry, or that there are none
 abbrev pub oifs_text : DomainFacts → (router : ℕ) → List (ℕ × ℕ) → List ℕ
 oifs_text d router [] = codes " none"
 oifs_text d router (p ∷ ps) = flat_map (oif_text d router) (p ∷ ps)
 
--- a row's source or group; 0.0.0.0 means every one
+-- an entry's source or group; `*`, every one, for 0.0.0.0
 abbrev pub address_text : ℕ → List ℕ
 address_text address = if address == 0 then codes "*" else dotted address
 
--- a row, such as `entry (10.0.0.5,239.1.2.3) from eth0 to eth1 eth2:5 in cache-r1`
+-- an entry, such as `entry (10.0.0.5,239.1.2.3) from eth0 to eth1 eth2:5 in cache-r1`
 abbrev pub entry_text : DomainFacts → (router source group incoming : ℕ) → List (ℕ × ℕ) → List ℕ
 entry_text d router source group incoming pairs =
     codes "entry (" ++ (address_text source ++ (codes "," ++ (address_text group
@@ -66,18 +70,18 @@ entry_text d router source group incoming pairs =
     ++ (codes " to" ++ (oifs_text d router pairs
     ++ (codes " in cache-" ++ router_name d.topology router))))))))
 
--- a router's row for a flow
+-- the (S,G) entry that is a router's row for a flow; nothing for another row
 abbrev pub row_text : DomainFacts → Flow → (router : ℕ) → Row → List ℕ
 row_text d f router (Exact incoming pairs) =
     entry_text d router f.source f.group incoming pairs
 row_text d f router Open = []
 row_text d f router NoRow = []
 
--- the same, for the flow with this number
+-- the (S,G) entry that is a router's row for the flow with this number; nothing for another row
 abbrev pub flow_row_text : DomainFacts → (flow router : ℕ) → List ℕ
 flow_row_text d flow router = row_text d (flow_at d.topology flow) router ((d.nets flow).row router)
 
--- the device of a row's incoming vif
+-- the device of a row's incoming vif; nothing for a row without one
 abbrev pub incoming_text : DomainFacts → (router : ℕ) → Row → List ℕ
 incoming_text d router (Exact incoming pairs) = device_text d router incoming
 incoming_text d router Open = []

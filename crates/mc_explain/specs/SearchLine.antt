@@ -1,5 +1,5 @@
--- The search for a LAN that a packet missed: the lines of a LAN, by the tables of the routers that have an
--- interface on it, and the LANs that are searched after it.
+-- The search for a LAN that a packet missed (docs/FORMATS.md, "The search"): the lines of each LAN, by the
+-- tables of the routers that have an interface on it, and the LANs to which these lines lead.
 use Rattle.std.specs.Prelude.{◌≡◌, ◌==◌, ◌&&◌, ◌||◌, ℕ, zero, suc, not, Bool, false, List, [], ◌∷◌}
 use Rattle.std.specs.Prelude.{◌++◌, length, flat_map, Option, Some, None, is_some, slice_get}
 use Rattle.std.specs.Prelude.{if◌then◌else◌, slice_index_or}
@@ -30,8 +30,8 @@ use Rattle.mc_explain.specs.TopologyLans.{interfaces_on_lan}
 
 -- ---- what a search reads
 
--- A flow of a domain, the summary of each router's cache, which routers are excluded, and the first copy
--- on each LAN.
+-- What a search reads: a domain and a flow of it, the summary of each router's cache, which routers are
+-- excluded, and the first copy on each LAN.
 pub record Search : Type 0 where
   pub domain : DomainFacts
   pub flow : ℕ
@@ -39,7 +39,7 @@ pub record Search : Type 0 where
   pub excluded : List Bool
   pub first_copy_on : ℕ → Option Copy
 
--- the search of the flow with this number in a domain
+-- the search of a domain's flow, by these summaries, marks of excluded routers, and carried copies
 abbrev pub search_of : DomainValue → (flow : ℕ) → List SummaryValue → (excluded : List Bool) → List Copy
     → Search
 search_of d flow summary excluded copies = record {
@@ -50,11 +50,12 @@ search_of d flow summary excluded copies = record {
   first_copy_on = first_copy_on copies;
 }
 
--- The search reads the tables of a valid domain.
+-- The search reads the tables of a domain that keeps the rules of every domain.
 pub record IsSearchIn (d : DomainValue) (s : Search) : Type 0 where
   pub domain : IsDomain d
   pub same : s.domain ≡ facts d
 
+-- the net of the flow
 abbrev pub net : Search → Net
 net s = s.domain.nets s.flow
 
@@ -62,7 +63,7 @@ net s = s.domain.nets s.flow
 abbrev pub is_excluded : List Bool → (router : ℕ) → Bool
 is_excluded marks router = slice_index_or marks router false
 
--- whether a LAN carried a copy
+-- whether a LAN carried a copy of the packet
 abbrev pub carried : Search → (lan : ℕ) → Bool
 carried s lan = is_some (s.first_copy_on lan)
 
@@ -70,36 +71,40 @@ carried s lan = is_some (s.first_copy_on lan)
 abbrev pub source_and_group : Search → ℕ × ℕ
 source_and_group s = flow_key (flow_at s.domain.topology s.flow)
 
--- whether a router has an unresolved row
+-- whether a summary has an unresolved entry for a source and a group
 abbrev pub unresolved_by : Option SummaryValue → ℕ × ℕ → Bool
 unresolved_by None k = false
 unresolved_by (Some summary) k = set.contains summary.unresolved k
 
+-- whether a router has an unresolved entry for the flow
 abbrev pub is_unresolved : Search → (router : ℕ) → Bool
 is_unresolved s router = unresolved_by (slice_get s.summary router) (source_and_group s)
 
--- a router's row for every source, with the row's group
+-- the entry that a router has for every source, of the flow's group or else of every group, with the group
+-- that it has
 abbrev pub row_for_every_source : Search → (router : ℕ) → Option (ℕ × EntryValue)
 row_for_every_source s router = every_source_of s.summary (source_and_group s).1 router
 
--- ---- a router's row
+-- ---- what a router's row for the flow comes to
 
--- whether a row sends by a vif; thresholds are 1 or more
+-- whether these pairs of a row send by a vif; thresholds are 1 or more
 abbrev pub sends_by : ℕ → List (ℕ × ℕ) → Bool
 sends_by vif pairs = not (threshold_of vif pairs == 0)
 
--- a row that sends onto the LAN by this vif, by the first copy on the LAN that it takes from
+-- the line of a row that sends onto the LAN by this vif: that the copy is stopped, where the LAN that the row
+-- takes from carried one, or else that the row waits for one
 abbrev pub stopped_or_waiting : Option Copy → (lan router vif from threshold : ℕ) → SearchLine
 stopped_or_waiting None lan router vif from threshold = WaitsFor lan router vif from
 stopped_or_waiting (Some copy) lan router vif from threshold = Stopped lan router vif threshold copy.ttl
 
--- a vif on the LAN, of a router whose row takes from another LAN
+-- the line of a vif on the LAN, of a router whose row takes from another LAN
 abbrev pub vif_line : Search → (lan router from : ℕ) → List (ℕ × ℕ) → (vif : ℕ) → SearchLine
 vif_line s lan router from pairs vif =
     if sends_by vif pairs
     then stopped_or_waiting (s.first_copy_on from) lan router vif from (threshold_of vif pairs)
     else DoesNotSend lan router vif from (carried s from)
 
+-- the line of an interface's vif, if it has one and that is placed on the LAN
 abbrev pub vif_lines : Search → (lan router from : ℕ) → List (ℕ × ℕ) → Option ℕ → List SearchLine
 vif_lines s lan router from pairs None = []
 vif_lines s lan router from pairs (Some vif) =
@@ -107,13 +112,15 @@ vif_lines s lan router from pairs (Some vif) =
     then vif_line s lan router from pairs vif ∷ []
     else []
 
--- a row that takes from no LAN, from the LAN itself, or from another LAN
+-- the lines of an exact row, by the LAN that it takes from: no LAN; this LAN itself, of which there are none;
+-- or another one, of which there is one for each vif on this LAN
 abbrev pub incoming_lines : Search → (lan router : ℕ) → List (ℕ × ℕ) → List ListedInterface
     → Option ℕ → List SearchLine
 incoming_lines s lan router pairs is None = FromUnplaced lan router ∷ []
 incoming_lines s lan router pairs is (Some from) =
     if from == lan then [] else flat_map (λ i. vif_lines s lan router from pairs i.vif) is
 
+-- the lines of a router's row
 abbrev pub row_lines : Search → (lan router : ℕ) → List ListedInterface → Row → List SearchLine
 row_lines s lan router is (Exact incoming pairs) =
     incoming_lines s lan router pairs is ((net s).placed router incoming)
@@ -121,14 +128,15 @@ row_lines s lan router is Open = EverySource lan router ∷ []
 row_lines s lan router is no_row =
     (if is_unresolved s router then Unresolved lan router else NoRow lan router) ∷ []
 
--- ---- a router's vifs
+-- ---- what a router's interfaces come to
 
--- a tunnel or a register vif
+-- whether a vif is a tunnel or a register vif
 abbrev pub is_virtual : Option VifValue → Bool
 is_virtual None = false
 is_virtual (Some vif) = vif.tunnel || vif.register
 
--- an interface that the topology has on the LAN, and its router's vif of the device
+-- the line of an interface that the topology has on the LAN, if its router has no vif of its device, or has
+-- one that is a tunnel or a register vif
 abbrev pub device_lines : Search → (lan : ℕ) → ListedInterface → Option ℕ → List SearchLine
 device_lines s lan i None = NoVif lan i.router i.interface ∷ []
 device_lines s lan i (Some vif) =
@@ -138,12 +146,14 @@ device_lines s lan i (Some vif) =
 
 -- ---- the routers of a LAN
 
--- one interface more, in the group of its router if that is the first
+-- these groups of interfaces, each of one router, with one more interface at the front: in the first group if
+-- that is its router's, and otherwise in a group of its own
 abbrev pub add_to_group : ListedInterface → List (ℕ × List ListedInterface)
     → List (ℕ × List ListedInterface)
 add_to_group i [] = (i.router, i ∷ []) ∷ []
 add_to_group i (g ∷ gs) = if g.0 == i.router then (i.router, i ∷ g.1) ∷ gs else (i.router, i ∷ []) ∷ g ∷ gs
 
+-- the interfaces in groups, each of adjacent ones of one router
 abbrev pub group_by_router : List ListedInterface → List (ℕ × List ListedInterface)
 group_by_router [] = []
 group_by_router (i ∷ is) = add_to_group i (group_by_router is)
@@ -152,48 +162,51 @@ group_by_router (i ∷ is) = add_to_group i (group_by_router is)
 abbrev pub router_of_group : ℕ × List ListedInterface → ℕ
 router_of_group g = g.0
 
--- the routers that have an interface on a LAN, each with its interfaces
+-- the routers that have an interface on a LAN, each with these interfaces
 abbrev pub routers_on : Search → (lan : ℕ) → List (ℕ × List ListedInterface)
 routers_on s lan = group_by_router (interfaces_on_lan s.domain lan)
 
--- a router by its tables: its row, and its devices
+-- the lines of a router whose tables are known: those of its row, and those of its interfaces
 abbrev pub table_lines : Search → (lan : ℕ) → ℕ × List ListedInterface → List SearchLine
 table_lines s lan g =
     row_lines s lan g.0 g.1 ((net s).row g.0) ++ flat_map (λ i. device_lines s lan i i.vif) g.1
 
--- a router; for an excluded one only that it is excluded
+-- the lines of a router; of an excluded one only that it is excluded
 abbrev pub router_lines : Search → (lan : ℕ) → ℕ × List ListedInterface → List SearchLine
 router_lines s lan g =
     if is_excluded s.excluded g.0 then Excluded lan g.0 ∷ [] else table_lines s lan g
 
--- a router that isn't excluded, and whose row takes from the LAN
+-- whether a router isn't excluded and its row takes from the LAN
 abbrev pub is_expecting : Search → (lan router : ℕ) → Bool
 is_expecting s lan router =
     not (is_excluded s.excluded router)
     && is_lan (taken_from (net s) router ((net s).row router)) lan
 
+-- that a router expects copies from the LAN, if it does
 abbrev pub expected_lines : Search → (lan : ℕ) → ℕ × List ListedInterface → List SearchLine
 expected_lines s lan g = if is_expecting s lan g.0 then ExpectedFromHere lan g.0 ∷ [] else []
 
--- a router whose row sends by a vif of a device that the topology has on the LAN
+-- whether these pairs of a row send by a vif, if the interface has one
 abbrev pub sends_by_known_vif : Option ℕ → List (ℕ × ℕ) → Bool
 sends_by_known_vif None pairs = false
 sends_by_known_vif (Some vif) pairs = sends_by vif pairs
 
+-- whether a router's row sends by a vif whose device the topology has on the LAN
 abbrev pub sends_here : Search → ℕ × List ListedInterface → Bool
 sends_here s g = list_any (λ i. sends_by_known_vif i.vif (row_pairs ((net s).row g.0))) g.1
 
--- a router that may send onto the LAN: its row does, or isn't known
+-- whether a router may send onto the LAN: its row does, or isn't known
 abbrev pub may_send_here : Search → ℕ × List ListedInterface → Bool
 may_send_here s g = is_excluded s.excluded g.0 || sends_here s g
 
--- the last line of a LAN, after these lines of its routers
+-- the last line of a LAN, after the lines of its routers: there are no routers, or none that may send onto it
 abbrev pub closing_lines : Search → (lan : ℕ) → List (ℕ × List ListedInterface) → List SearchLine
     → List SearchLine
 closing_lines s lan gs [] = NoRouter lan ∷ []
 closing_lines s lan gs (line ∷ lines) =
     if list_any (may_send_here s) gs then [] else NoSender lan ∷ []
 
+-- the lines of a LAN's routers, and then those about routers that expect copies from the LAN
 abbrev pub lines_of_routers : Search → (lan : ℕ) → List (ℕ × List ListedInterface) → List SearchLine
 lines_of_routers s lan gs = flat_map (router_lines s lan) gs ++ flat_map (expected_lines s lan) gs
 
@@ -210,22 +223,24 @@ abbrev pub if_missed : Search → Option ℕ → Option ℕ
 if_missed s None = None
 if_missed s (Some lan) = if carried s lan then None else Some lan
 
--- the LAN from which a row for every source takes
+-- the LAN from which a router's entry for every source takes
 abbrev pub every_source_from : Search → (router : ℕ) → Option (ℕ × EntryValue) → Option ℕ
 every_source_from s router None = None
 every_source_from s router (Some row) = (net s).placed router row.1.iif
 
--- the LAN that a line leads to
+-- the LAN that a line leads to: one that its router waits for, or that its entry for every source takes from,
+-- if that LAN carried no copy
 abbrev pub next_lan : Search → SearchLine → Option ℕ
 next_lan s (WaitsFor lan router vif from) = Some from
 next_lan s (EverySource lan router) =
     if_missed s (every_source_from s router (row_for_every_source s router))
 next_lan s _ = None
 
+-- the LANs that the lines of a LAN lead to
 abbrev pub next_lans : Search → (lan : ℕ) → List ℕ
 next_lans s lan = filter_map (next_lan s) (lines_of_lan s lan)
 
--- the first LANs, and then those of the others that are not among them, each once
+-- the visited LANs, and then those of the others that aren't among them, each once
 abbrev pub append_new : List ℕ → List ℕ → List ℕ
 append_new visited_lans [] = visited_lans
 append_new visited_lans (lan ∷ lans) =
@@ -236,7 +251,7 @@ abbrev pub visited_after : Search → List ℕ → Option ℕ → List ℕ
 visited_after s visited_lans None = visited_lans
 visited_after s visited_lans (Some lan) = append_new visited_lans (next_lans s lan)
 
--- the visited LANs, in order, after the first ones of them are searched, as many as there are steps
+-- the visited LANs, in order, after as many of them are searched as there are steps
 abbrev pub visited_lans : Search → (missed : ℕ) → (steps : ℕ) → List ℕ
 visited_lans s missed zero = missed ∷ []
 visited_lans s missed (suc k) =
@@ -244,7 +259,7 @@ visited_lans s missed (suc k) =
 
 -- ---- the search
 
--- the LANs of a search: no more are visited after as many steps as there are LANs
+-- all LANs of a search: after as many steps as there are LANs no more are visited
 abbrev pub lans_of_search : Search → (missed : ℕ) → List ℕ
 lans_of_search s missed = visited_lans s missed (length s.domain.topology.lans)
 

@@ -1,4 +1,4 @@
--- The LAN and the router that a line of a search is about.
+-- The LAN and the router that a line of a search is about (docs/FORMATS.md, "The search").
 use Rattle.std.specs.Prelude.{◌≡◌, ℕ, List, Option, Some, None}
 use Rattle.mc_theory.specs.Lists.{In}
 use Rattle.mc_explain.specs.declared.searches.search_line.SearchLine.{SearchLine}
@@ -26,7 +26,7 @@ lan_and_router_of (ExpectedFromHere lan router) = (lan, Some router)
 lan_and_router_of (NoRouter lan) = (lan, None)
 lan_and_router_of (NoSender lan) = (lan, None)
 
--- one of these lines is about the router on the LAN
+-- One of these lines is about this router on this LAN.
 abbrev pub NamesRouter : (lan router : ℕ) → List SearchLine → Type 0
 NamesRouter lan router lines =
     (line : SearchLine) × (In line lines × (lan_and_router_of line ≡ (lan, Some router)))

@@ -1,4 +1,5 @@
--- How far the packet came among the routers of a search.
+-- How far the packet came among the routers of a search, and the result of a search (docs/FORMATS.md, "The
+-- search": the lines `reaches`).
 use Rattle.std.specs.Prelude.{◌==◌, ◌&&◌, ℕ, not, Bool, true, false, List, [], map, filter}
 use Rattle.std.specs.Prelude.{flat_map, ◌≡◌}
 use Rattle.std.specs.List.{list_any}
@@ -10,47 +11,50 @@ use Rattle.mc_explain.specs.declared.searches.search_line.SearchLine.{SearchLine
 use Rattle.mc_explain.specs.declared.searches.search_line.SearchLine.TheVariants.{Excluded}
 use Rattle.mc_explain.specs.declared.searches.searching.LanSearch.{LanSearch}
 
--- whether an event sent the copy on, or else took none; a row for every source does neither
+-- whether an event sent copies on, where `sent` is true, or else took none by the router's row; an event at
+-- an open row did neither
 abbrev pub outcome_matches : (sent : Bool) → Outcome → Bool
 outcome_matches sent Open = false
 outcome_matches sent NoRow = not sent
 outcome_matches sent OtherVif = not sent
 outcome_matches sent (Sent copies strays) = sent
 
--- whether a router has such an event
+-- whether a router has an event that sent copies on, or one that took none
 abbrev pub has_event : (sent : Bool) → List Event → (router : ℕ) → Bool
 has_event sent events router =
     list_any (λ e. (e.router == router) && outcome_matches sent e.outcome) events
 
--- the routers that have an interface on one of the LANs of the search, in its order, each once
+-- the routers that have an interface on one of these LANs, LAN by LAN, each once
 abbrev pub routers_of_lans : Search → List ℕ → List ℕ
 routers_of_lans s lans = append_new [] (flat_map (λ lan. map router_of_group (routers_on s lan)) lans)
 
+-- the routers of the LANs of a search
 abbrev pub routers_of_search : Search → (missed : ℕ) → List ℕ
 routers_of_search s missed = routers_of_lans s (lans_of_search s missed)
 
--- those that sent copies on
+-- those of the routers that sent copies on
 abbrev pub sent_on : List Event → List ℕ → List ℕ
 sent_on events routers = filter (has_event true events) routers
 
--- the others that a copy came to and that didn't take it
+-- those of the others that a copy came to and that took none
 abbrev pub took_none : List Event → List ℕ → List ℕ
 took_none events routers = filter (λ r. has_event false events r && not (has_event true events r)) routers
 
 -- ---- excluded routers
 
--- whether the line says that a router is excluded
+-- whether a line says that a router is excluded
 abbrev pub is_of_excluded : SearchLine → Bool
 is_of_excluded (Excluded lan router) = true
 is_of_excluded _ = false
 
--- whether one of these lines does: what that router sends isn't known
+-- whether one of these lines says that a router is excluded: what that router sends isn't known
 abbrev pub name_excluded_router : List SearchLine → Bool
 name_excluded_router lines = list_any is_of_excluded lines
 
 -- ---- the result of a search
 
--- the lines and the reach of the search for a LAN that a packet missed, whose travel has these events
+-- The result of the search for a LAN that a packet missed, in whose travel there were these events: the
+-- lines, and how far the packet came.
 pub record IsLanSearch (s : Search) (events : List Event) (missed : ℕ) (found : LanSearch)
     : Type 0 where
   pub lines : found.lines.items ≡ search_lines s missed

@@ -1,4 +1,5 @@
--- From which TTL on packets show the finding of a travel, worked out from the copies that its flight carried.
+-- From which TTL on packets show the finding of a travel (docs/FORMATS.md, the line `shown by`), worked out
+-- from the copies that its flight carried. ShownFrom of mc_theory says what the number means.
 use Rattle.std.specs.Prelude.{ℕ, ◌+◌, max, List, [], length, Option, Some, None}
 use Rattle.mc_theory.specs.Nets.{Net, Row}
 use Rattle.mc_theory.specs.Nets.Row.{Exact, Open, NoRow}
@@ -11,42 +12,46 @@ use Rattle.mc_theory.specs.Paths.{Hop, need}
 use Rattle.mc_theory.specs.Hops.{hops_of_copy}
 use Rattle.mc_theory.specs.ShownFrom.{IsShownFrom}
 
--- the TTL from which on packets show the finding; none for a clean travel, and for a missed LAN
+-- The TTL is the one from which on packets show the finding; there is none for a clean travel and for a
+-- missed LAN.
 abbrev pub IsShownFromIfAny : Net → List Copy → Finding → Option ℕ → Type 0
 IsShownFromIfAny n cs x None = IsSecondCopyOrStray x → ⊥
 IsShownFromIfAny n cs x (Some k) = IsShownFrom n cs x k
 
--- ---- step by step
+-- ---- how the number is worked out
 
--- the hops by which a copy came, if there is one, and by which the first copy on a LAN came
+-- the hops by which a copy came, if there is a copy
 abbrev pub hops_of_copy_if_any : Net → List Copy → Option Copy → List Hop
 hops_of_copy_if_any n cs None = []
 hops_of_copy_if_any n cs (Some c) = hops_of_copy n cs c
 
+-- the hops by which a LAN's first copy came
 abbrev pub hops_to_lan : Net → List Copy → (lan : ℕ) → List Hop
 hops_to_lan n cs lan = hops_of_copy_if_any n cs (first_copy_on cs lan)
 
+-- the hops by which the LAN's first copy came, if there is a LAN
 abbrev pub hops_from_lan_if_any : Net → List Copy → Option ℕ → List Hop
 hops_from_lan_if_any n cs None = []
 hops_from_lan_if_any n cs (Some lan) = hops_to_lan n cs lan
 
--- the greater need of the LAN's first copy and of the first duplicate
+-- the greater of the needs of the LAN's first copy and of the first double copy
 abbrev pub need_of_two_copies : Net → List Copy → (lan : ℕ) → ℕ
 need_of_two_copies n cs lan =
     max (need (hops_to_lan n cs lan)) (need (hops_of_copy_if_any n cs (first_double [] cs)))
 
--- the need of hops and of a threshold behind them
+-- the need of a path and of a threshold at its end
 abbrev pub need_behind : List Hop → (threshold : ℕ) → ℕ
 need_behind hs threshold = max (need hs) (length hs + threshold + 1)
 
--- of the copy that the row sent by the vif, or that came in by it and found a row that isn't followed
+-- the need of a stray: of the copy that the row sent by the vif, or that came in by the vif and found an open
+-- row
 abbrev pub need_of_stray : Net → List Copy → Row → (router vif : ℕ) → ℕ
 need_of_stray n cs (Exact incoming pairs) router vif =
     need_behind (hops_from_lan_if_any n cs (n.placed router incoming)) (threshold_of vif pairs)
 need_of_stray n cs Open router vif = need (hops_from_lan_if_any n cs (n.placed router vif))
 need_of_stray n cs NoRow router vif = 1
 
--- of a finding that rests on a second copy or a stray
+-- the need of a finding that rests on a second copy or on a stray
 abbrev pub need_of_finding : Net → List Copy → Finding → Option ℕ
 need_of_finding n cs (Duplicate lan) = Some (need_of_two_copies n cs lan)
 need_of_finding n cs (Loop lan) = Some (need_of_two_copies n cs lan)

@@ -1,4 +1,5 @@
--- The interfaces that a topology has on each LAN, and the routers' vifs of their devices.
+-- The interfaces that a topology has on each LAN (docs/FORMATS.md, "Topology"), and the routers' vifs of
+-- their devices.
 use Rattle.std.specs.Prelude.{◌==◌, ℕ, Bool, false, List, [], length, map, filter, flat_map, find}
 use Rattle.std.specs.Prelude.{Option, Some, None, slice_get, unwrap_or}
 use Rattle.std.specs.Str.{bytes_eq}
@@ -9,32 +10,32 @@ use Rattle.mc_theory.specs.Lists.{below}
 use Rattle.mc_forward.specs.ListedTables.{DomainFacts}
 use Rattle.mc_explain.specs.declared.searches.listed_interface.ListedInterface.{ListedInterface}
 
--- the interface with this number, in the topology's order from 0
+-- the topology's interface with this number, from 0
 abbrev pub interface_at : TopologyValue → ℕ → InterfaceRow
 interface_at t k =
     unwrap_or (slice_get t.interfaces k) (record { router = 0; device = []; lan = 0 })
 
--- a router's interfaces among these
+-- the router's interfaces, of those with these numbers
 abbrev pub interfaces_of_router : TopologyValue → List ℕ → (router : ℕ) → List ℕ
 interfaces_of_router t ks router = filter (λ k. (interface_at t k).router == router) ks
 
--- all interfaces, by router and then in the topology's order
+-- the numbers of all interfaces, by router and then in the topology's order
 abbrev pub interfaces_by_router : TopologyValue → List ℕ
 interfaces_by_router t =
     flat_map (interfaces_of_router t (below (length t.interfaces))) (below (length t.routers))
 
 -- ---- vifs
 
--- whether the vif has this device
+-- whether there is a vif and it has this device
 abbrev pub vif_has_device : List ℕ → Option VifValue → Bool
 vif_has_device device None = false
 vif_has_device device (Some vif) = bytes_eq vif.device device
 
--- a router's vif of a device
+-- a router's vif of a device, if it has one
 abbrev pub vif_of_device : DomainFacts → (router : ℕ) → List ℕ → Option ℕ
 vif_of_device d router device = find (λ vif. vif_has_device device (d.vifs router vif)) (below 32)
 
--- an interface's number, its router, and the router's vif of its device
+-- an interface by its router, its number, and the router's vif of its device
 abbrev pub listed_interface_of : DomainFacts → ℕ → InterfaceRow → ListedInterface
 listed_interface_of d k i = record {
   router = i.router;
@@ -42,6 +43,7 @@ listed_interface_of d k i = record {
   vif = vif_of_device d i.router i.device;
 }
 
+-- the interface with this number, with its router and the router's vif of its device
 abbrev pub listed_interface_at : DomainFacts → ℕ → ListedInterface
 listed_interface_at d k = listed_interface_of d k (interface_at d.topology k)
 
@@ -53,6 +55,6 @@ interfaces_on_lan d lan =
     map (listed_interface_at d) (filter (λ k. (interface_at d.topology k).lan == lan)
     (interfaces_by_router d.topology))
 
--- those of each LAN
+-- the interfaces on each LAN
 abbrev pub interfaces_on_lans : DomainFacts → List (List ListedInterface)
 interfaces_on_lans d = map (interfaces_on_lan d) (below (length d.topology.lans))

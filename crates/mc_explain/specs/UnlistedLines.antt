@@ -1,4 +1,5 @@
--- Lines with a common beginning, and the lines of unlisted rows: none of these is the line of a flow.
+-- Texts that are sequences of lines with a common beginning, such as the lines `unlisted` of an audit
+-- (docs/FORMATS.md, the section "The program"), of which none is the line of a flow.
 use Rattle.std.specs.Prelude.{◌≡◌, ◌⊎◌, ℕ, List, ◌++◌, codes, flat_map}
 use Rattle.mc_theory.specs.Lists.{In}
 use Rattle.mc_explain.specs.Indented.{HasNoLineFeed}
@@ -7,18 +8,18 @@ use Rattle.mc_explain.specs.Indented.{HasNoLineFeed}
 abbrev pub with_line_feed : List ℕ → List ℕ
 with_line_feed line = line ++ codes "\n"
 
--- The text is a sequence of lines, each of which begins so, ends with a line feed and has none before
--- that.
+-- The text is a sequence of lines, each of which begins in this manner and ends with its only line feed.
 pub record AreLines (Begins : List ℕ → Type 0) (text : List ℕ) : Type 0 where
   pub lines : List (List ℕ)
   pub begins : (line : List ℕ) → In line lines → Begins line
   pub feedless : (line : List ℕ) → In line lines → HasNoLineFeed line
   pub spelled : text ≡ flat_map with_line_feed lines
 
--- the line begins with `unlisted ` or with two spaces
+-- The line begins with `unlisted ` or with two spaces.
 abbrev pub IsUnlistedLine : List ℕ → Type 0
 IsUnlistedLine line =
     (rest : List ℕ) × ((line ≡ codes "unlisted " ++ rest) ⊎ (line ≡ codes "  " ++ rest))
 
+-- The text is a sequence of such lines.
 abbrev pub AreUnlistedLines : List ℕ → Type 0
 AreUnlistedLines = AreLines IsUnlistedLine

@@ -1,4 +1,5 @@
--- The lines of the LANs that want a flow, and of those that its packet also missed.
+-- The lines `wanted` and `also missed` of a flow: the LANs that want it, and those that its packet also
+-- missed (docs/FORMATS.md, the section "The program").
 use Rattle.std.specs.Prelude.{◌≡◌, ℕ, ◌==◌, ◌&&◌, not, Bool, false, List, [], ◌∷◌, ◌++◌, length}
 use Rattle.std.specs.Prelude.{is_some, codes, decimal, filter, slice_index_or}
 use Rattle.mc_topology.specs.Topology.{TopologyValue}
@@ -13,10 +14,11 @@ use Rattle.mc_explain.specs.ShownNames.{lans_text}
 
 -- ---- the LANs that want a flow
 
--- in the topology's order
+-- the LANs that want a flow, in the topology's order
 abbrev pub lans_wanting : DomainFacts → (flow : ℕ) → List ℕ
 lans_wanting d flow = filter (d.nets flow).wants (below (length d.topology.lans))
 
+-- the line of the LANs that want a flow
 abbrev pub wanted_text : TopologyValue → (lans : List ℕ) → List ℕ
 wanted_text t [] = codes "  wanted 0: no report asks for it\n"
 wanted_text t (lan ∷ lans) =
@@ -25,7 +27,7 @@ wanted_text t (lan ∷ lans) =
 
 -- ---- the LANs that were missed besides
 
--- exactly the LANs of these copies are marked
+-- Exactly the LANs of these copies are marked.
 abbrev pub AreMarksOfCopies : List Bool → List Copy → Type 0
 AreMarksOfCopies marks copies =
     (lan : ℕ) → slice_index_or marks lan false ≡ is_some (first_copy_on copies lan)
@@ -40,7 +42,7 @@ abbrev pub also_missed : DomainFacts → (flow : ℕ) → List Copy → (missed 
 also_missed d flow copies missed =
     filter (is_also_missed d flow copies missed) (below (length d.topology.lans))
 
--- the same, by the finding of the packet
+-- the LANs that the packet also missed, by what is found of it; none where the finding isn't a missed LAN
 abbrev pub missed_besides : DomainFacts → (flow : ℕ) → List Copy → Finding → List ℕ
 missed_besides d flow copies (Missed lan) = also_missed d flow copies lan
 missed_besides d flow copies Clean = []
@@ -48,7 +50,7 @@ missed_besides d flow copies (Duplicate lan) = []
 missed_besides d flow copies (Loop lan) = []
 missed_besides d flow copies (Stray router vif) = []
 
--- nothing if there are none
+-- the line of the LANs that were also missed; nothing if there are none
 abbrev pub also_missed_text : TopologyValue → (lans : List ℕ) → List ℕ
 also_missed_text t [] = []
 also_missed_text t (lan ∷ lans) =

@@ -1,4 +1,5 @@
--- What hosts ask for and no flow answers, by the lists and the caches in a folder's files.
+-- What hosts ask for and no flow answers (docs/FORMATS.md, "What hosts ask for and no flow answers"), by the
+-- lists of reports and the caches in a folder's files.
 use Rattle.std.specs.Prelude.{◌≡◌, ℕ, Bool, List, map}
 use Rattle.mc_files.specs.Files.{FileText}
 use Rattle.mc_forward.specs.Domains.{DomainValue}
@@ -10,18 +11,22 @@ use Rattle.mc_asked.specs.declared.forwarding.RouterState.{RouterState}
 use Rattle.mc_input.specs.ListsOfFiles.{AreWantsOf}
 use Rattle.mc_input.specs.StatesOfFiles.{AreStatesOf}
 
--- The wants that are shown, each with its LANs; how many wants of LANs no flow answers, and how many of them
--- are in none of these lines; the services for which hosts ask, each with its LANs; and by router, in the
--- topology's order, what it has for the want of each line.
+-- What hosts ask for and no flow answers, as an audit shows it.
 pub record UnansweredWantsValue : Type 0 where
+  -- the shown wants, each with its LANs
   pub lines : List (Want × List ℕ)
+  -- how many wants of LANs no flow answers
   pub count : ℕ
+  -- how many of these the shown wants leave out
   pub further : ℕ
+  -- the groups of services that hosts ask for, each with its LANs
   pub services : List (Want × List ℕ)
+  -- for each router, in the topology's order, what it has for each shown want
   pub states : List (List RouterState)
 
--- With `all` each want is shown, else the lowest. Wants of these ranges of groups are left aside. What a
--- router has for a want of any source is by entries for sources that the filter of a LAN of its line admits.
+-- This is what the files' hosts ask for and no flow answers. With `all` each want is shown, and otherwise the
+-- lowest; wants of the `ignored` ranges of groups are left out. What a router has for a want of any source is
+-- by entries for sources that the filter of at least one of the want's LANs admits.
 pub record IsAskedOf (all : Bool) (ignored : List (ℕ × ℕ)) (files : List FileText) (d : DomainValue)
     (a : UnansweredWantsValue) : Type 0 where
   pub wants : List LanWantsValue

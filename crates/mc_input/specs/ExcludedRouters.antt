@@ -1,5 +1,5 @@
--- Routers that are excluded from a domain: their files are read as those of kernels that show no vif and
--- no row, whatever the folder has.
+-- Routers that `--without` excludes from a domain (docs/FORMATS.md, the section "The program"): their files
+-- are read as those of a kernel that shows no vif and no row, whatever the folder has.
 use Rattle.std.specs.Prelude.{◌≡◌, ℕ, ◌+◌, min, Bool, true, false, IsTrue, List, [], ◌∷◌, ◌++◌, codes}
 use Rattle.std.specs.Prelude.{Contains, flat_map, map, option_map, Option, None, Some, Result, Ok, Err}
 use Rattle.std.specs.Prelude.{if◌then◌else◌, slice_get}
@@ -28,12 +28,12 @@ use Rattle.mc_input.specs.declared.exclusion_fault.ExclusionFault.TheVariants.{S
 
 -- ---- the files
 
--- the header lines of a kernel's two tables (ipmr_vif_seq_show and ipmr_mfc_seq_show in
--- net/ipv4/ipmr.c), each with its line feed
+-- the header line of a kernel's vif table (ipmr_vif_seq_show in net/ipv4/ipmr.c), with its line feed
 abbrev pub vif_header : List ℕ
 vif_header =
     codes "Interface      BytesIn  PktsIn  BytesOut PktsOut Flags Local    Remote" ++ 10 ∷ []
 
+-- the header line of a kernel's cache (ipmr_mfc_seq_show in net/ipv4/ipmr.c), with its line feed
 abbrev pub cache_header : List ℕ
 cache_header = codes "Group    Origin   Iif     Pkts    Bytes    Wrong Oifs" ++ 10 ∷ []
 
@@ -43,17 +43,19 @@ header_only_files router =
     (record { name = file_name (vif_slot router); bytes = vif_header })
     ∷ (record { name = file_name (cache_slot router); bytes = cache_header }) ∷ []
 
--- the header of a router's table, of vifs or of its cache, if the router has one of these names
+-- the header of a router's table, of vifs where `vifs` is true and otherwise of its cache, if the router's
+-- name is one of `names`
 abbrev pub header_of_excluded : (names : List (List ℕ)) → (router : List ℕ) → (vifs : Bool) → Option (List ℕ)
 header_of_excluded names router vifs =
     if list_any (λ name. bytes_eq name router) names
     then Some (if vifs then vif_header else cache_header) else None
 
--- borrowed names as names
+-- the names that are borrowed
 abbrev pub names_of : List (Bor (List ℕ)) → List (List ℕ)
 names_of names = map (λ name. name.now) names
 
--- The files of the routers with these names, and then the folder's: of two with one name the first is read.
+-- The files of the routers with these names, each with its header alone, and then the folder's: of two files
+-- with one name the first is read.
 abbrev pub files_with_exclusions : (names : List (List ℕ)) → List FileText → List FileText
 files_with_exclusions names files = flat_map header_only_files names ++ files
 
@@ -61,25 +63,25 @@ files_with_exclusions names files = flat_map header_only_files names ++ files
 abbrev pub files_without : (names : List (Bor (List ℕ))) → List FileText → List FileText
 files_without names files = files_with_exclusions (names_of names) files
 
--- the tables that are read of header-only files: those without a vif and without a row
+-- the tables that are read from files with a header alone: no vif and no row
 abbrev pub empty_tables : TablesValue
 empty_tables = record { vifs = map_of.from_entries []; cache = table_of [] }
 
--- ---- the names
+-- ---- the names of excluded routers
 
--- each of the names is that of a router
+-- Each of the names is that of a router.
 abbrev pub AreRouterNames : TopologyValue → (names : List (List ℕ)) → Type 0
 AreRouterNames t names = AllByRecursion (λ name. IsTrue (has_router name t.routers)) names
 
--- The first of the names that no router has is refused by its place: the first of these has the place n.
--- A place past the greatest u32 is reported as that.
+-- The first of the names that no router has is refused by its place, where the first name has place n. A
+-- place past the greatest u32 is reported as that.
 abbrev pub check_router_names : TopologyValue → (n : ℕ) → List (List ℕ) → Result (Unit {0}) ExclusionFault
 check_router_names t n [] = Ok tt
 check_router_names t n (name ∷ names) =
     if has_router name t.routers then check_router_names t (n + 1) names
     else Err (NoSuchRouter (min n 4294967295))
 
--- whether there is a router, and it has one of the names
+-- whether there is a router and it has one of the names
 abbrev pub has_name_among : (names : List (List ℕ)) → Option RouterRow → Bool
 has_name_among names None = false
 has_name_among names (Some r) = list_any (λ name. bytes_eq name r.name) names
@@ -88,13 +90,13 @@ has_name_among names (Some r) = list_any (λ name. bytes_eq name r.name) names
 abbrev pub is_excluded : TopologyValue → (names : List (List ℕ)) → (router : ℕ) → Bool
 is_excluded t names router = has_name_among names (slice_get t.routers router)
 
--- the router with this number has one of the names
+-- The router with this number has one of the names.
 abbrev pub HasExcludedName : (names : List (List ℕ)) → TopologyValue → (router : ℕ) → Type 0
 HasExcludedName names t router =
     (name : List ℕ) × Contains names name
     × (option_map (λ r. r.name) (slice_get t.routers router) ≡ Some name)
 
--- ---- the whole
+-- ---- the input without the excluded routers
 
 -- the input of this topology and of the other files, with the routers of these names excluded
 abbrev pub input_of_other_files : TopologyValue → (names : List (List ℕ)) → List FileText
@@ -110,30 +112,30 @@ input_of_files_without names files =
     >>= λ t. check_router_names t 1 names
     >>= λ _. map_fault Source (input_of_files (files_with_exclusions names files))
 
--- that the source failed or memory ran out says nothing of the files
+-- The source failed or memory ran out, which says nothing about the files.
 abbrev pub IsReadOrMemoryWithout : ExclusionFault → Type 0
 IsReadOrMemoryWithout (Source fault) = IsReadOrMemory fault
 IsReadOrMemoryWithout (NoSuchRouter n) = ⊥
 
--- the fault of a source that failed, which it counts
+-- whether the fault is that the source failed, which the source counts
 abbrev pub is_read_without : ExclusionFault → Bool
 is_read_without (Source fault) = is_read fault
 is_read_without (NoSuchRouter n) = false
 
--- a folder's files can have this fault when routers are excluded
+-- whether a folder's files can have this fault when routers are excluded
 abbrev pub is_possible_for_files_without : ExclusionFault → Bool
 is_possible_for_files_without (Source fault) = is_possible_for_files fault
 is_possible_for_files_without (NoSuchRouter n) = true
 
 -- ---- what is known of an excluded router
 
--- The router has no vif, so none is placed on a LAN, and no row for any flow.
+-- The router has no vif, so that none is placed on a LAN, and no row for any flow.
 pub record HasNoVifOrRow (d : DomainValue) (router : ℕ) : Type 0 where
   pub vifs : (vif : ℕ) → vif_of d.vifs router vif ≡ None
   pub placed : (vif : ℕ) → placed_of d router vif ≡ None
   pub rows : (flow : ℕ) → row_of d flow router ≡ NoRow
 
--- In each flow the one domain is the other without the routers of these names.
+-- For each flow the domain `part` is the domain `whole` without the routers of these names.
 abbrev pub ExcludesRoutersPerFlow : (names : List (List ℕ)) → (part whole : DomainValue) → Type 0
 ExcludesRoutersPerFlow names part whole =
     (flow : ℕ) → ExcludesRouters (is_excluded whole.topology names) (net_of part flow) (net_of whole flow)

@@ -1,4 +1,4 @@
--- The input that the files of a folder denote.
+-- The input that the files of a folder denote (docs/FORMATS.md, "The files of a folder").
 use Rattle.std.specs.Prelude.{◌≤◌, false, List, length, None}
 use Rattle.std.specs.List.{AllByRecursion}
 use Rattle.mc_text.specs.Bundle.{PartText, max_part}
@@ -7,8 +7,8 @@ use Rattle.mc_files.specs.Layout.{slots}
 use Rattle.mc_files.specs.Packing.{ArePacked}
 use Rattle.mc_input.specs.Input.{InputValue, PartsDenoteInput}
 
--- The parts that are packed of the files without a certificate denote the input, and none is past the
--- limit of a part.
+-- The parts that are packed from the files, without a certificate, denote the input, and none is larger than
+-- a part may be.
 pub record FilesDenoteInput (files : List FileText) (input : InputValue) : Type 0 where
   pub parts : List PartText
   pub packed : ArePacked files (slots false input.topology) parts

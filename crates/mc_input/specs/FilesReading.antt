@@ -1,5 +1,5 @@
--- The input that a folder's files are read as, or the first fault. Each file is parsed before the next one
--- is opened, in the order of the slots.
+-- The input that a folder's files are read as, or the first fault (docs/FORMATS.md, "The files of a folder").
+-- Each file is read and judged before the next one is opened, in the order of the slots.
 use Rattle.std.specs.Prelude.{ℕ, List, Result, Ok}
 use Rattle.mc_text.specs.Steps.{map_fault}
 use Rattle.mc_text.specs.Bundle.{PartText}
@@ -13,11 +13,11 @@ use Rattle.mc_input.specs.declared.fault.InputFault.{InputFault}
 use Rattle.mc_input.specs.declared.source_fault.SourceFault.{SourceFault}
 use Rattle.mc_input.specs.declared.source_fault.SourceFault.TheVariants.{Input}
 
--- the part that is made of a slot's file
+-- the part that a slot's file makes, whatever the slot's number
 abbrev pub part_from_file : List FileText → ℕ → Slot → Result PartText SourceFault
 part_from_file files n slot = map_fault from_file_fault (file_part files slot)
 
--- the result of reading the file of a slot, which has a number
+-- the result of reading the file of the slot with number n
 abbrev pub read_file : {X : Type 0} → ℕ → Slot → (PartText → Result X InputFault) → List FileText
     → Result X SourceFault
 read_file n slot read files = read_part Input (part_from_file files n slot) read

@@ -1,5 +1,5 @@
--- The input that a bundle denotes: a topology, the tables of each router, and the reports of each LAN; and
--- the text of its certificate, if it has one.
+-- The input that a bundle denotes (docs/FORMATS.md, "The parts of a domain"): a topology, the tables of each
+-- router, the reports of each LAN, and the text of a certificate, if the bundle has one.
 use Rattle.std.specs.Prelude.{◌≡◌, ℕ, List, [], ◌∷◌, ◌++◌, Option, Some, None}
 use Rattle.mc_text.specs.Bundle.{PartText, IsBundle}
 use Rattle.mc_tables.specs.VifTable.{DenotesVifs}
@@ -13,8 +13,8 @@ use Rattle.mc_files.specs.Layout.{part_name, topology_slot, vif_slot, cache_slot
 use Rattle.mc_files.specs.Layout.{certificate_slot}
 use Rattle.mc_forward.specs.Domains.{TablesValue}
 
--- the topology, the tables of each router in the topology's order, and the records of the reports
--- of each LAN in the topology's order
+-- A topology, the tables of each router and the records of each LAN's reports. Routers and LANs come in the
+-- topology's order.
 pub record InputValue : Type 0 where
   pub topology : TopologyValue
   pub tables : List TablesValue
@@ -33,28 +33,30 @@ pub record DenotesReports (lan : List ℕ) (part : PartText) (records : List Rec
   pub named : part.name ≡ part_name (reports_slot lan)
   pub denotes : IsReportList part.bytes records
 
--- the parts are two for each router in order, which denote its tables, followed by `rest`
+-- The parts begin with two for each router, in order, which denote its tables; `rest` are the parts after
+-- these.
 abbrev pub PartsDenoteTables : List RouterRow → List PartText → List TablesValue → List PartText → Type 0
 PartsDenoteTables [] parts [] rest = parts ≡ rest
 PartsDenoteTables (r ∷ rs) (vif ∷ cache ∷ parts) (t ∷ ts) rest =
     DenotesTables r vif cache t × PartsDenoteTables rs parts ts rest
 PartsDenoteTables _ _ _ _ = ⊥
 
--- the parts are one for each LAN in order, which denotes its reports, followed by `rest`
+-- The parts begin with one for each LAN, in order, which denotes its reports; `rest` are the parts after
+-- these.
 abbrev pub PartsDenoteReports : List (List ℕ) → List PartText → List (List Record) → List PartText → Type 0
 PartsDenoteReports [] parts [] rest = parts ≡ rest
 PartsDenoteReports (lan ∷ lans) (part ∷ parts) (records ∷ others) rest =
     DenotesReports lan part records × PartsDenoteReports lans parts others rest
 PartsDenoteReports _ _ _ _ = ⊥
 
--- the parts are `certificate` alone with this text, or none
+-- The parts are `certificate` alone, with this text, or none where there is no certificate.
 abbrev pub PartsDenoteCertificate : List PartText → Option (List ℕ) → Type 0
 PartsDenoteCertificate parts None = parts ≡ []
 PartsDenoteCertificate parts (Some text) =
     parts ≡ (record { name = part_name certificate_slot; bytes = text }) ∷ []
 
--- The parts denote the input and the certificate: `topology`, those of the routers, those of the LANs, and
--- that of the certificate.
+-- The parts denote the input and the certificate: `topology`, the parts of the routers, those of the LANs,
+-- and that of the certificate, in this order.
 pub record PartsDenoteInput (parts : List PartText) (input : InputValue)
     (certificate : Option (List ℕ)) : Type 0 where
   pub topology : List ℕ
@@ -67,14 +69,14 @@ pub record PartsDenoteInput (parts : List PartText) (input : InputValue)
   pub reports : PartsDenoteReports input.topology.lans of_lans input.reports last
   pub certificate_denoted : PartsDenoteCertificate last certificate
 
--- the text is a bundle of parts that denote the input and the certificate
+-- The text is a bundle of parts that denote the input and the certificate.
 pub record DenotesInput (text : List ℕ) (input : InputValue) (certificate : Option (List ℕ)) : Type 0
   where
     pub parts : List PartText
     pub bundle : IsBundle text parts
     pub parts_denote : PartsDenoteInput parts input certificate
 
--- the parts, and one more with this text of a certificate
+-- the parts, and after them one with this text of a certificate
 abbrev pub with_certificate : List PartText → List ℕ → List PartText
 with_certificate parts text =
     parts ++ (record { name = part_name certificate_slot; bytes = text }) ∷ []

@@ -1,4 +1,5 @@
--- The lists of reports in a folder's files, and what is kept of what they ask for.
+-- The lists of reports in a folder's files, and what is kept of what they ask for and no flow answers
+-- (docs/FORMATS.md, "What hosts ask for and no flow answers").
 use Rattle.std.specs.Prelude.{◌≡◌, ℕ, Bool, List, length, Ok}
 use Rattle.mc_text.specs.Bundle.{PartText}
 use Rattle.mc_igmp.specs.ReadingList.{read_list}
@@ -13,24 +14,24 @@ use Rattle.mc_asked.specs.Answers.{AnswersValue, source_pairs}
 use Rattle.mc_asked.specs.AskedLines.{lan_wants_from}
 use Rattle.mc_asked.specs.LanWants.{LanWantsValue}
 
--- The records of the list in the LAN's file `igmp-<lan>`.
+-- These are the records of the list in the LAN's file `igmp-<lan>`.
 pub record IsListOf (files : List FileText) (lan : List ℕ) (records : List Record) : Type 0 where
   pub part : PartText
   pub made : file_part files (reports_slot lan) ≡ Ok part
   pub read : read_list part.bytes ≡ Ok records
 
--- One list for each LAN, in the topology's order.
+-- There is one such list for each LAN, in the topology's order.
 pub record AreListsOf (files : List FileText) (t : TopologyValue) (lists : List (List Record)) : Type 0 where
   pub count : length lists ≡ length t.lans
   pub each : RelatedAtEachIndex (IsListOf files) t.lans lists
 
--- What answers wants: the topology's flows and sources. Wants of these ranges of groups are left aside.
+-- What answers wants: the topology's flows and sources. Wants of the `ignored` ranges of groups are left out.
 abbrev pub answers_of : TopologyValue → (ignored : List (ℕ × ℕ)) → AnswersValue
 answers_of t ignored =
     record { flows = flow_pairs t.flows; sources = source_pairs t.sources; ignored = ignored }
 
--- What is kept, LAN by LAN, of what the lists ask for: with `all` each want that nothing answers, else of
--- each LAN the lowest ones.
+-- This is kept, LAN by LAN, of what the lists ask for: with `all` each want that no flow answers, and
+-- otherwise the lowest ones of each LAN.
 pub record AreWantsOf (all : Bool) (ignored : List (ℕ × ℕ)) (files : List FileText) (t : TopologyValue)
     (wants : List LanWantsValue) : Type 0 where
   pub lists : List (List Record)

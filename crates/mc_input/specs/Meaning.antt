@@ -1,4 +1,5 @@
--- The domain that a bundle or a folder's files mean.
+-- The domain that a bundle or a folder's files mean: they denote an input (Input, FilesInput), from which the
+-- domain is assembled (Assembling of mc_forward).
 use Rattle.std.specs.Prelude.{ℕ, List, Option, None}
 use Rattle.mc_files.specs.Files.{FileText}
 use Rattle.mc_forward.specs.Assembling.{IsAssembled}
@@ -6,7 +7,7 @@ use Rattle.mc_forward.specs.Domains.{DomainValue, IsDomain}
 use Rattle.mc_input.specs.FilesInput.{FilesDenoteInput}
 use Rattle.mc_input.specs.Input.{InputValue, DenotesInput}
 
--- It denotes an input, and the domain is assembled of that; `rules` is what holds of every domain.
+-- x denotes an input, and the domain is assembled from that. It keeps the rules of every domain.
 pub record Means {X : Type 0} (Denotes : X → InputValue → Type 0) (x : X) (d : DomainValue) : Type 0
   where
     pub input : InputValue
@@ -14,19 +15,19 @@ pub record Means {X : Type 0} (Denotes : X → InputValue → Type 0) (x : X) (d
     pub assembled : IsAssembled input.topology input.tables input.reports d
     pub rules : IsDomain d
 
--- the bundle means the domain, and has this text of a certificate or none
+-- The bundle means the domain, and has this text of a certificate, or none.
 abbrev pub MeansDomain : List ℕ → (certificate : Option (List ℕ)) → DomainValue → Type 0
 MeansDomain text certificate d = Means (λ t input. DenotesInput t input certificate) text d
 
--- the bundle means the domain, and has no certificate
+-- The bundle means the domain, and has no certificate.
 abbrev pub MeansUncertifiedDomain : List ℕ → DomainValue → Type 0
 MeansUncertifiedDomain text d = MeansDomain text None d
 
--- the files mean the domain
+-- The files mean the domain.
 abbrev pub FilesMeanDomain : List FileText → DomainValue → Type 0
 FilesMeanDomain = Means FilesDenoteInput
 
--- It means a domain for which the property holds.
+-- x means a domain of which the property holds.
 pub record MeansDomainWhere {X D : Type 0} (Means : X → D → Type 0) (Holds : D → Type 0) (x : X) : Type 0
   where
     pub domain : D

@@ -1,13 +1,12 @@
--- The result of reading a bundle's parts one by one, in the order of the slots: of each the name is checked
--- and the text is parsed.
+-- The result of reading a bundle's parts one by one, in the order of the slots (docs/FORMATS.md, "The parts
+-- of a domain"): the name of each is checked, and then its text is read.
 use Rattle.std.specs.Prelude.{◌≡◌, ℕ, ◌+◌, Bool, List, [], ◌∷◌, drop, length}
-use Rattle.std.specs.Prelude.{slice_get, Option, Some, Result, Ok, Err, if◌then◌else◌, ◌≤◌}
+use Rattle.std.specs.Prelude.{slice_get, Option, Some, Result, Ok, Err}
 use Rattle.std.specs.Str.{bytes_eq}
-use Rattle.mc_text.specs.Bundle.{PartText, max_part}
+use Rattle.mc_text.specs.Bundle.{PartText}
 use Rattle.mc_text.specs.PartsReading.{PartsState}
 use Rattle.mc_text.specs.RestOfBundle.{rest_of_bundle}
 use Rattle.mc_text.specs.Steps.{◌>>=◌, map_fault}
-use Rattle.mc_text.specs.declared.bundle.stage.Stage.TheVariants as stages
 use Rattle.mc_topology.specs.Topology.{TopologyValue}
 use Rattle.mc_files.specs.Layout.{Slot, part_name, slots, topology_slot}
 use Rattle.mc_forward.specs.Domains.{DomainValue}
@@ -23,7 +22,8 @@ use Rattle.mc_input.specs.declared.source_fault.SourceFault.TheVariants.{Input}
 
 -- ---- the parts from one slot on
 
--- the parts have the names of these slots, of which the first has a number, and are no more than they
+-- the check that the parts have the names of these slots, of which the first has number n, and that there are
+-- as many
 abbrev pub check_names_from : ℕ → List Slot → List PartText → Result (Unit {0}) InputFault
 check_names_from n [] [] = Ok tt
 check_names_from n [] (part ∷ parts) = Err (Parts (n + 1))
@@ -32,19 +32,19 @@ check_names_from n (slot ∷ others) (part ∷ parts) =
     if bytes_eq part.name (part_name slot) then check_names_from (n + 1) others parts
     else Err (Parts (n + 1))
 
--- the names of the parts from a slot on are checked, and then they are read
+-- the result of reading the parts from the slot with number n on, after their names are checked
 abbrev pub check_names_then : {X : Type 0} → Bool → TopologyValue → ℕ → (List PartText → Result X InputFault)
     → List PartText → Result X InputFault
 check_names_then certified t n read parts =
     check_names_from n (drop n (slots certified t)) parts >>= λ _. read parts
 
--- ---- the whole
+-- ---- all parts
 
--- an input, and the text of the certificate, if it has one
+-- an input, and the text of the certificate, if there is one
 abbrev pub InputAndCertificate : Type 0
 InputAndCertificate = InputValue × Option (List ℕ)
 
--- the number of the certificate's slot: behind those of the LANs
+-- the number of the certificate's slot, which comes after those of the LANs
 abbrev pub certificate_number : TopologyValue → ℕ
 certificate_number t = first_lan_number t + length t.lans
 
@@ -57,27 +57,27 @@ abbrev pub read_all_parts : (certified : Bool) → List PartText → Result Inpu
 read_all_parts certified parts =
     input_of_parts certified parts >>= λ v. Ok (v, certificate_in certified parts v.topology)
 
--- ---- the state of the reading
+-- ---- from a state of the reading on
 
--- the result of reading the parts after the current one, whose text is still to be read
+-- the result of reading the parts after the current one, where this text of the bundle is still to be read
 abbrev pub read_rest : {X : Type 0} → PartsState → List ℕ → (List PartText → Result X InputFault)
     → Result X InputFault
 read_rest state text read = map_fault Bundle (rest_of_bundle state text) >>= read
 
--- the rest of the bundle is refused with this fault, unless the input failed or memory ran out
+-- The rest of the bundle is refused with this fault, unless the input failed or memory ran out.
 abbrev pub IsFaultOf : {X : Type 0} → PartsState → (List PartText → Result X InputFault)
     → SourceFault → Type 0
 IsFaultOf state read fault =
     (text : List ℕ) → state.remaining ≡ Some text → ¬ IsReadOrMemory fault →
     map_fault Input (read_rest state text read) ≡ Err fault
 
--- the part has the name of the slot with this number
+-- The name is that of the slot with number n.
 abbrev pub HasNameOfSlot : (certified : Bool) → TopologyValue → ℕ → List ℕ → Type 0
 HasNameOfSlot certified t n name =
     (slot : Slot) × (slice_get (slots certified t) n ≡ Some slot) × (name ≡ part_name slot)
 
--- The result holds what is kept of the part's value, or the part's fault. That memory ran out says nothing
--- of the part.
+-- The result is what is kept of the part's value, or the part's fault. If memory ran out, nothing is known of
+-- the part.
 abbrev pub IsPartResult : {X Y : Type 0} → (X → Y → Type 0) → Result X InputFault
     → Result Y InputFault → Type 0
 IsPartResult Keeps (Ok kept) (Ok whole) = Keeps kept whole
@@ -85,7 +85,7 @@ IsPartResult Keeps (Ok kept) (Err fault) = ⊥
 IsPartResult Keeps (Err Memory) read = Unit {0}
 IsPartResult Keeps (Err fault) read = read ≡ Err fault
 
--- All parts were read: the domain is what is kept of the input, and the certificate has this text.
+-- All parts were read: the domain consists of what is kept of the input, and the certificate has this text.
 abbrev pub ReadsDomain : PartsState → List ℕ → (certified : Bool) → DomainValue → Option (List ℕ)
     → Type 0
 ReadsDomain state text certified d certificate =

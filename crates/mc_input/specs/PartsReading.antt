@@ -1,5 +1,6 @@
--- The input that the parts of a domain are read as, whatever their source, or the first fault: of the
--- topology, of which parts there are, and then of the parts' contents in the order of the slots.
+-- The input that the parts of a domain are read as, from a bundle or a folder, or the first fault
+-- (docs/FORMATS.md, "The parts of a domain"): of the topology, of which parts there are, and then of the
+-- parts' contents in the order of the slots.
 use Rattle.std.specs.Prelude.{Bool, ℕ, ◌+◌, ◌*◌, List, [], ◌∷◌, length, Result, Ok}
 use Rattle.std.specs.FinMap.{FinMap}
 use Rattle.std.specs.Ordering.{nat_cmp}
@@ -25,33 +26,34 @@ use Rattle.mc_input.specs.declared.fault.InputFault.TheVariants.{Topology, Vif, 
 
 -- ---- one part
 
--- the topology in a part
+-- the topology that a part has
 abbrev pub topology_of : PartText → Result TopologyValue InputFault
 topology_of part = map_fault Topology (parse_topology part.bytes)
 
--- the vifs of a router in a part
+-- the vifs of a router that a part has
 abbrev pub vifs_of : PartText → Result (FinMap nat_cmp VifValue) InputFault
 vifs_of part = map_fault (Vif part.name) (vifs_in part.bytes)
 
--- the forwarding cache of a router in a part
+-- the forwarding cache of a router that a part has
 abbrev pub cache_of : Order → PartText → Result CacheValue InputFault
 cache_of order part = map_fault (Cache part.name) (cache_in order part.bytes)
 
--- the entries of these sources and groups in a part, and the summary of all rows beside them
+-- the entries of these sources and groups that a part has, and the summary of all its rows
 abbrev pub summary_of_part : (all : Bool) → Order → List (ℕ × ℕ) → PartText
     → Result SummarizedCache InputFault
 summary_of_part all order pairs part = map_fault (Cache part.name) (summary_in all order pairs part.bytes)
 
--- the records of a LAN's reports in a part
+-- the records of a LAN's reports that a part has
 abbrev pub reports_of : PartText → Result (List Record) InputFault
 reports_of part = map_fault (Reports part.name) (read_list part.bytes)
 
--- the result of reading a part that may have failed to come, with the fault as the caller's
+-- the result of reading a part, if it could be given; the part's fault is made one of the caller's by
+-- `as_ours`
 abbrev pub read_part : {X F : Type 0} → (InputFault → F) → Result PartText F
     → (PartText → Result X InputFault) → Result X F
 read_part as_ours given read = given >>= λ part. map_fault as_ours (read part)
 
--- ---- all parts, each given by a source for its slot and the slot's number
+-- ---- all parts: `source` gives the part of a slot, by the slot and its number
 
 -- the tables of a router with this name and byte order, whose slots have the numbers n and n + 1
 unfoldable pub router_tables : {F : Type 0} → (InputFault → F) → (ℕ → Slot → Result PartText F)
@@ -61,7 +63,7 @@ router_tables as_ours source n name order =
     >>= λ vifs. read_part as_ours (source (n + 1) (cache_slot name)) (cache_of order)
     >>= λ entries. Ok (record { vifs = vifs; cache = entries })
 
--- the tables of routers, whose slots have the numbers from n on
+-- the tables of these routers, whose slots have the numbers from n on
 unfoldable pub all_tables : {F : Type 0} → (InputFault → F) → (ℕ → Slot → Result PartText F)
     → ℕ → List RouterRow → Result (List TablesValue) F
 all_tables as_ours source n [] = Ok []
@@ -70,7 +72,7 @@ all_tables as_ours source n (r ∷ rs) =
     >>= λ tables. all_tables as_ours source (n + 2) rs
     >>= λ others. Ok (tables ∷ others)
 
--- the records of the reports of LANs, whose slots have the numbers from n on
+-- the records of the reports of these LANs, whose slots have the numbers from n on
 unfoldable pub all_reports : {F : Type 0} → (InputFault → F) → (ℕ → Slot → Result PartText F)
     → ℕ → List (List ℕ) → Result (List (List Record)) F
 all_reports as_ours source n [] = Ok []
@@ -79,11 +81,11 @@ all_reports as_ours source n (lan ∷ lans) =
     >>= λ records. all_reports as_ours source (n + 1) lans
     >>= λ others. Ok (records ∷ others)
 
--- the number of the first LAN's slot: behind the topology's and two for each router
+-- the number of the first LAN's slot, which comes after the topology's and two for each router
 abbrev pub first_lan_number : TopologyValue → ℕ
 first_lan_number t = 1 + 2 * length t.routers
 
--- the input of this topology, with the tables and reports from the source
+-- the input of this topology, with the tables and the reports that the source gives
 unfoldable pub read_tables_and_reports : {F : Type 0} → (InputFault → F) → (ℕ → Slot → Result PartText F)
     → TopologyValue → Result InputValue F
 read_tables_and_reports as_ours source t =
@@ -91,8 +93,8 @@ read_tables_and_reports as_ours source t =
     >>= λ tables. all_reports as_ours source (first_lan_number t) t.lans
     >>= λ reports. Ok (record { topology = t; tables = tables; reports = reports })
 
--- The input, where `source` gives the part of a slot, `judge` checks with the topology which parts there
--- are, and `as_ours` makes a part's fault the caller's.
+-- The input, where `source` gives the part of a slot, `judge` checks with the topology which parts there are,
+-- and `as_ours` makes a part's fault one of the caller's.
 unfoldable pub read_input : {F : Type 0} → (InputFault → F) → (ℕ → Slot → Result PartText F)
     → (TopologyValue → Result (Unit {0}) F) → Result InputValue F
 read_input as_ours source judge =

@@ -1,4 +1,4 @@
--- Texts that mean a domain, and that reading them gives it.
+-- That a bundle, or a folder's files, which mean a domain (Meaning) are read as that domain.
 use Rattle.std.specs.Prelude.{◌≡◌, ℕ, Bool, is_some, List, MatchResult, Option, Result, Some}
 use Rattle.mc_files.specs.Files.{FileText}
 use Rattle.mc_forward.specs.Domains.{DomainValue}
@@ -8,12 +8,12 @@ use Rattle.mc_input.specs.SourceFault.{IsReadOrMemory}
 use Rattle.mc_input.specs.declared.source_fault.SourceFault.{SourceFault}
 use Rattle.mc_input.specs.declared.exclusion_fault.ExclusionFault.{ExclusionFault}
 
--- the files mean the domain with the routers of these names excluded
+-- The files mean the domain, with the routers of these names excluded.
 abbrev pub FilesMeanDomainWithout : (names : List (List ℕ)) → List FileText → DomainValue → Type 0
 FilesMeanDomainWithout names files d = FilesMeanDomain (files_with_exclusions names files) d
 
--- A bundle that means a domain with this text of a certificate or none, as it is asked for, is read as
--- that domain and that text, unless the input fails or memory runs out.
+-- A bundle that means a domain, with a text of a certificate where `certified` asks for one and otherwise
+-- without, is read as that domain and that text, unless the input failed or memory ran out.
 abbrev pub IsBundleReadAsMeant : {X : Type 0} → (remaining : Option (List ℕ)) → (certified : Bool)
     → (X → DomainValue) → (X → Option (List ℕ)) → Result X SourceFault → Type 0
 IsBundleReadAsMeant remaining certified domain_of certificate_of result =
@@ -22,8 +22,8 @@ IsBundleReadAsMeant remaining certified domain_of certificate_of result =
     MeansDomain text certificate domain → MatchResult result
     (λ read. (domain_of read ≡ domain) × (certificate_of read ≡ certificate)) IsReadOrMemory
 
--- Files that mean a domain with the routers of these names excluded, each of them one of its topology, are
--- read as that domain, unless the source fails or memory runs out.
+-- Files that mean a domain with the routers of these names excluded, each of which is a router of its
+-- topology, are read as that domain, unless the source failed or memory ran out.
 abbrev pub AreFilesReadAsMeant : {X : Type 0} → (contents : Option (List FileText))
     → (names : List (List ℕ)) → (X → DomainValue) → Result X ExclusionFault → Type 0
 AreFilesReadAsMeant contents names domain_of result =

@@ -1,4 +1,5 @@
--- Which files of a folder are refused, each checked by itself.
+-- Which files of a folder are refused, each judged by itself (docs/FORMATS.md, the section "The program": the
+-- lines after `refused` of an audit).
 use Rattle.std.specs.Prelude.{◌≡◌, ℕ, ◌+◌, max, min, Bool, false, List, [], ◌∷◌, ◌++◌, filter, flat_map, map}
 use Rattle.std.specs.Prelude.{◌≢◌, is_some, Option, Some, None, Result, Ok, Err, ◌⊎◌, ⊤}
 use Rattle.std.specs.Prelude.{if◌then◌else◌, string_bytes}
@@ -22,7 +23,7 @@ use Rattle.mc_input.specs.declared.fault.InputFault.TheVariants.{Memory}
 use Rattle.mc_input.specs.declared.source_fault.SourceFault.{SourceFault}
 use Rattle.mc_input.specs.declared.source_fault.SourceFault.TheVariants.{Input, Read}
 
--- a file by its name, and its first fault, where it has one: `Read` where there is no such file
+-- A file by its name, and its first fault, if it has one: `Read` where there is no such file.
 pub record JudgedFile : Type 0 where
   pub name : List ℕ
   pub fault : Option SourceFault
@@ -39,7 +40,7 @@ abbrev pub judged_file : {X : Type 0} → List FileText → Slot → (PartText �
     → JudgedFile
 judged_file files slot read = record { name = file_name slot; fault = file_fault files slot read }
 
--- the files of a router's two tables, or none if the router is excluded
+-- the files of a router's two tables; none if the router is excluded
 abbrev pub judged_tables : (names : List (List ℕ)) → List FileText → RouterRow → List JudgedFile
 judged_tables names files r =
     if list_any (λ name. bytes_eq name r.name) names then []
@@ -50,7 +51,7 @@ judged_tables names files r =
 abbrev pub judged_reports : List FileText → (lan : List ℕ) → JudgedFile
 judged_reports files lan = judged_file files (reports_slot lan) reports_of
 
--- the files of all routers' tables but the excluded ones'
+-- the files of the tables of all routers that aren't excluded
 abbrev pub judged_routers : (names : List (List ℕ)) → TopologyValue → List FileText → List JudgedFile
 judged_routers names t files = flat_map (judged_tables names files) t.routers
 
@@ -58,7 +59,7 @@ judged_routers names t files = flat_map (judged_tables names files) t.routers
 abbrev pub judged_lans : TopologyValue → List FileText → List JudgedFile
 judged_lans t files = map (judged_reports files) t.lans
 
--- all files that a topology names, or the topology's alone if that is refused
+-- all files that a topology names, or the topology's own alone if that is refused
 abbrev pub judged_with_topology : (names : List (List ℕ)) → List FileText → Result TopologyValue SourceFault
     → List JudgedFile
 judged_with_topology names files (Err fault) =
@@ -85,48 +86,48 @@ refused_files_of names files = files_with_fault (judged_files names files)
 
 -- ---- the faults with a source that may fail
 
--- the fault with a source is the file's own, or that the source failed
+-- The fault that was given is the file's own, or that the source failed.
 abbrev pub IsOwnFaultOrRead : (given own : Option SourceFault) → Type 0
 IsOwnFaultOrRead (Some Read) own = ⊤
 IsOwnFaultOrRead (Some (Input fault)) own = own ≡ Some (Input fault)
 IsOwnFaultOrRead None own = own ≡ None
 
--- the same, unless memory ran out
+-- Unless memory ran out, the fault that was given is the file's own, or that the source failed.
 abbrev pub IsOwnFaultUnlessMemory : (given own : Option SourceFault) → Type 0
 IsOwnFaultUnlessMemory given own = given ≢ Some (Input Memory) → IsOwnFaultOrRead given own
 
--- a file with a source has its own fault, or the source failed at it
+-- The file that was given has its own fault, or the source failed at it.
 pub record IsSameFileOrUnread (own given : JudgedFile) : Type 0 where
   pub name : given.name ≡ own.name
   pub fault : IsOwnFaultOrRead given.fault own.fault
 
--- the topology's file, at which the source failed
+-- the topology's file, where the source failed at it
 abbrev pub unread_topology : JudgedFile
 unread_topology = record { name = file_name topology_slot; fault = Some Read }
 
--- Each file with a source has its own fault, or the source failed at it. If it failed at the topology, that
+-- Each file that was given has its own fault, or the source failed at it. If it failed at the topology, that
 -- is the only file.
 abbrev pub AreSameFilesOrUnread : (names : List (List ℕ)) → List FileText → (given : List JudgedFile) → Type 0
 AreSameFilesOrUnread names files given =
     (given ≡ unread_topology ∷ []) ⊎ Pairwise IsSameFileOrUnread (judged_files names files) given
 
--- the list holds exactly the files that have a fault with a source
+-- The list holds exactly the files that have a fault as they were given.
 abbrev pub AreRefusedFiles : (names : List (List ℕ)) → List FileText → (listed : List JudgedFile) → Type 0
 AreRefusedFiles names files listed =
     (given : List JudgedFile) × AreSameFilesOrUnread names files given × (listed ≡ files_with_fault given)
 
--- the files that are listed as unread don't exist
+-- The files that are listed as unread don't exist.
 abbrev pub AreUnreadFilesMissing : List FileText → (listed : List JudgedFile) → Type 0
 AreUnreadFilesMissing files listed =
     AllByRecursion (λ file. file.fault ≡ Some Read → file_named files file.name ≡ None) listed
 
--- if the files that are listed as unread don't exist, the list holds exactly the refused files
+-- If the files that are listed as unread don't exist, the list holds exactly the refused files.
 abbrev pub AreExactlyRefusedFiles : (names : List (List ℕ)) → List FileText → (listed : List JudgedFile)
     → Type 0
 AreExactlyRefusedFiles names files listed =
     AreUnreadFilesMissing files listed → listed ≡ refused_files_of names files
 
--- ---- the list
+-- ---- the list that the code makes
 
 -- the fault for which a file is refused
 abbrev pub fault_of_refusal : Refusal → SourceFault
@@ -142,11 +143,11 @@ abbrev pub is_unread : Option SourceFault → Bool
 is_unread None = false
 is_unread (Some fault) = is_read fault
 
--- the count of a source's failures after some more of them, which ends at the greatest u64
+-- the number of a source's failures after some more of them, which stops at the greatest u64
 abbrev pub saturating_failures : (more before : ℕ) → ℕ
 saturating_failures more before = max before (min (before + more) 18446744073709551615)
 
--- how often a source failed at a file with this fault: once or never
+-- how often the source failed at a file with this fault: once or never
 abbrev pub failure_count : Option SourceFault → ℕ
 failure_count fault = if is_unread fault then 1 else 0
 
@@ -155,8 +156,8 @@ abbrev pub unread_count : List JudgedFile → ℕ
 unread_count [] = 0
 unread_count (file ∷ files) = failure_count file.fault + unread_count files
 
--- The files were checked with a source: the list has grown by those that have a fault, and the source's
--- count of failures by those at which it failed.
+-- The files were judged as a source gave them: the list has grown by those that have a fault, and the
+-- source's number of failures by those at which it failed.
 pub record JudgesFiles (contents : Option (List FileText)) (files : List FileText → List JudgedFile)
     (old new : List JudgedFile) (before after : ℕ) : Type 0 where
   pub given : List JudgedFile
@@ -164,7 +165,8 @@ pub record JudgesFiles (contents : Option (List FileText)) (files : List FileTex
   pub failures : after ≡ saturating_failures (unread_count given) before
   pub each : (known : List FileText) → contents ≡ Some known → Pairwise IsSameFileOrUnread (files known) given
 
--- the same for a list of refused files
+-- The files were judged as a source gave them, where the list holds for each refused file the reason why it
+-- is refused.
 abbrev pub ListsRefused : (contents : Option (List FileText)) → (List FileText → List JudgedFile)
     → (old new : List RefusedFile) → (before after : ℕ) → Type 0
 ListsRefused contents files old new before after =

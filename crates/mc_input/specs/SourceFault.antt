@@ -1,5 +1,5 @@
--- Faults of reading a domain from a bundle or a folder: those of lower readers as these, and which ones say
--- nothing of the texts.
+-- The faults of reading a domain from a bundle or a folder (docs/FORMATS.md, "The parts of a domain"): those
+-- of lower readers as these, and the two that say nothing about the texts.
 use Rattle.std.specs.Prelude.{◌≡◌, ◌⊎◌, Bool, true, false, List, Option, Result}
 use Rattle.mc_text.specs.Steps as Steps
 use Rattle.mc_text.specs.declared.bundle.bundle_fault.BundleFault.{BundleFault}
@@ -12,7 +12,7 @@ use Rattle.mc_input.specs.declared.fault.InputFault.TheVariants.{Bundle, Memory,
 use Rattle.mc_input.specs.declared.source_fault.SourceFault.{SourceFault}
 use Rattle.mc_input.specs.declared.source_fault.SourceFault.TheVariants.{Input, Read}
 
--- the fault of a source of files, where a too large file counts as a too large bundle
+-- the fault of a source of files; a file that is too large counts as a bundle that is too large
 abbrev pub from_file_fault : FileFault → SourceFault
 from_file_fault file.Failed = Read
 from_file_fault file.TooLarge = Input (Bundle bundle.TooLarge)
@@ -24,26 +24,27 @@ from_bundle_fault bundle.Read = Read
 from_bundle_fault bundle.Memory = Input Memory
 from_bundle_fault fault = Input (Bundle fault)
 
--- the source failed or memory ran out, which says nothing of the texts
+-- The source failed or memory ran out, which says nothing about the texts.
 abbrev pub IsReadOrMemory : SourceFault → Type 0
 IsReadOrMemory fault = (fault ≡ Read) ⊎ (fault ≡ Input Memory)
 
--- the answer of a call, seen through a view, is this one, unless the source fails or memory runs out
+-- What a call answers, seen through a view, is this, unless the source failed or memory ran out.
 abbrev pub Gives : {X Y : Type 0} → (X → Y) → Result X SourceFault → Result Y SourceFault → Type 0
 Gives = Steps.Gives IsReadOrMemory
 
--- the same for the answer of the source's contents, if those are known
+-- What a call answers is what is answered on the source's contents, if those are known, unless the source
+-- failed or memory ran out.
 abbrev pub GivesFromContents : {X Y : Type 0} → Option (List FileText) → (X → Y) → Result X SourceFault
     → (List FileText → Result Y SourceFault) → Type 0
 GivesFromContents = Files.GivesFromContents IsReadOrMemory
 
--- the fault of a source that failed, which it counts
+-- whether the fault is that the source failed, which the source counts
 abbrev pub is_read : SourceFault → Bool
 is_read Read = true
 is_read fault = false
 
--- A folder's files can have this fault: it is no fault of a bundle's framing but `TooLarge`, and no fault
--- of the parts' names.
+-- Whether a folder's files can have this fault: it is no fault of a bundle's framing but `TooLarge`, and no
+-- fault of the parts' names.
 abbrev pub is_possible_for_files : SourceFault → Bool
 is_possible_for_files (Input (Bundle bundle.TooLarge)) = true
 is_possible_for_files (Input (Bundle fault)) = false

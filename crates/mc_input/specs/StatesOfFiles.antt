@@ -1,4 +1,5 @@
--- What routers have for wants that no flow answers, by the caches in a folder's files.
+-- What routers have for the wants that no flow answers (docs/FORMATS.md, "What hosts ask for and no flow
+-- answers"), by the caches in a folder's files.
 use Rattle.std.specs.Prelude.{◌≡◌, ℕ, List, length, map, slice_get, Ok, Some}
 use Rattle.std.specs.FinMap.{FinMap}
 use Rattle.std.specs.Ordering.{nat_cmp}
@@ -15,8 +16,8 @@ use Rattle.mc_asked.specs.Forwarding.{router_state}
 use Rattle.mc_asked.specs.ListWants.{Want}
 use Rattle.mc_asked.specs.declared.forwarding.RouterState.{RouterState}
 
--- What a router with these vifs has for each want, with its unadmitted sources, by the rows in its file
--- `cache-<router>`.
+-- This is what a router with these vifs has for each want, which comes with its unadmitted sources (those
+-- that the filter of none of its LANs admits), by the rows in the router's file `cache-<router>`.
 pub record AreStatesOfRouter (files : List FileText) (wants : List (Want × List ℕ))
     (vifs : FinMap nat_cmp VifValue) (r : RouterRow) (states : List RouterState) : Type 0 where
   pub part : PartText
@@ -25,7 +26,7 @@ pub record AreStatesOfRouter (files : List FileText) (wants : List (Want × List
   pub read : cache_rows_in r.order part.bytes ≡ Ok rows
   pub stated : states ≡ map (λ w. router_state vifs w.1 w.0 rows) wants
 
--- the same of each router of a domain, in the topology's order
+-- This is what each router of a domain has for these wants, in the topology's order.
 pub record AreStatesOf (files : List FileText) (wants : List (Want × List ℕ)) (d : DomainValue)
     (states : List (List RouterState)) : Type 0 where
   pub count : length states ≡ length d.topology.routers

@@ -1,4 +1,5 @@
--- The summaries of the caches in a folder's files.
+-- The summaries of the caches in a folder's files: what an audit keeps of each cache beside its listed rows
+-- (Summary of mc_tables).
 use Rattle.std.specs.Prelude.{◌≡◌, ℕ, Bool, List, length, Ok}
 use Rattle.mc_text.specs.Bundle.{PartText}
 use Rattle.mc_tables.specs.CacheReading.{cache_rows_in}
@@ -14,8 +15,8 @@ use Rattle.mc_forward.specs.Assembling.{RelatedAtEachIndex}
 use Rattle.mc_forward.specs.ListedTables.{flow_pairs}
 use Rattle.mc_input.specs.Stream.{RouterRead}
 
--- The summary, for these flows, of the rows in the router's file `cache-<router>`, whose addresses are in
--- the router's byte order. With `all` it holds all pairs that no flow has, else the lowest ones.
+-- This is the summary of the rows in the router's file `cache-<router>`, whose addresses are in the router's
+-- byte order. With `all` it has all pairs that belong to no flow, and otherwise the lowest ones.
 pub record IsSummaryOf (all : Bool) (files : List FileText) (flows : List Flow) (r : RouterRow)
     (summary : SummaryValue) : Type 0 where
   pub part : PartText
@@ -24,13 +25,13 @@ pub record IsSummaryOf (all : Bool) (files : List FileText) (flows : List Flow) 
   pub read : cache_rows_in r.order part.bytes ≡ Ok rows
   pub summarized : summary ≡ summary_of all (flow_pairs flows) rows
 
--- The summary, for these pairs, of the rows in the text of a router's cache.
+-- This is the summary of the rows in the text of a router's cache, where these pairs are the flows'.
 abbrev pub IsSummaryOfRead : (all : Bool) → (pairs : List (ℕ × ℕ)) → RouterRead → SummaryValue → Type 0
 IsSummaryOfRead all pairs read summary =
     (rows : List RowValue) × (cache_rows_in read.order read.cache_text ≡ Ok rows)
     × (summary ≡ summary_of all pairs rows)
 
--- One summary for each router, in the topology's order.
+-- There is one such summary for each router, in the topology's order.
 pub record AreSummariesOf (all : Bool) (files : List FileText) (t : TopologyValue)
     (summary : List SummaryValue) : Type 0 where
   pub count : length summary ≡ length t.routers

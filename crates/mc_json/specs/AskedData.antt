@@ -1,4 +1,5 @@
--- The wants that nothing answers in JSON.
+-- What hosts ask for and no flow answers, in JSON: the lines `asked`, `asked_more` and `asked_services`
+-- (docs/FORMATS.md, "What `audit --json` writes").
 use Rattle.std.specs.Prelude.{ℕ, ◌==◌, List, [], ◌∷◌, codes, if◌then◌else◌, map, unwrap_or}
 use Rattle.mc_text.specs.Addr.{dotted}
 use Rattle.mc_topology.specs.Topology.{TopologyValue}
@@ -13,18 +14,21 @@ use Rattle.serde_json.specs.Data.{Data, string, null}
 use Rattle.mc_json.specs.EndData.{list_line, routers_data, single_member}
 use Rattle.mc_json.specs.RowData.{count_data, lan_data, line_of, list_data, object_data}
 
+-- a list of LANs by their names
 abbrev pub lans_data : TopologyValue → List ℕ → Data
 lans_data t lans = list_data (map (lan_data t) lans)
 
+-- an address as a dotted text
 abbrev pub address_data : ℕ → Data
 address_data address = string (dotted address)
 
--- the source, or null for any
+-- the source of a want, or null for any
 abbrev pub source_data : ℕ → Data
 source_data source = if source == any_source then null else address_data source
 
--- a want, its LANs, the sources of the flows that have its group, and the routers by what they have for it:
--- entries that go out to no LAN, entries that do, or entries for every source alone
+-- a want and its LANs, the listed sources of its group, and the routers by what they have for it: an entry
+-- that goes out to no LAN (`none_out`), one that goes out to a LAN (`forwards`), or a (*,G) or (*,*) entry
+-- alone (`star`)
 abbrev pub asked_object : TopologyValue → Want × List ℕ → (listed none_out forwards star : List ℕ) → Data
 asked_object t line listed none_out forwards star = single_member (codes "asked") (object_data (
     (codes "group", address_data line.0.0)
@@ -35,10 +39,12 @@ asked_object t line listed none_out forwards star = single_member (codes "asked"
     ∷ (codes "source", source_data line.0.1)
     ∷ (codes "star", routers_data t star) ∷ []))
 
+-- the object of a line that the audit has made
 abbrev pub asked_data_of : TopologyValue → AskedLine → Data
 asked_data_of t line = asked_object t (line.want.now, line.lans.now) line.listed.now
     line.routers.now.none_out.items line.routers.now.forwards.items line.routers.now.every_source.items
 
+-- the object of a want and its LANs, by the listed flows and by what each router has for the want
 abbrev pub asked_data : TopologyValue → (flows : List (ℕ × ℕ)) → List RouterState → Want × List ℕ → Data
 asked_data t flows states line = asked_object t line (listed_sources flows line.0.0)
     (routers_in NoneOut states) (routers_in Forwards states) (routers_in EverySource states)
@@ -47,20 +53,21 @@ asked_data t flows states line = asked_object t line (listed_sources flows line.
 abbrev pub asked_more_data : ℕ → Data
 asked_more_data more = single_member (codes "asked_more") (single_member (codes "wants") (count_data more))
 
--- as a line, nothing if there are none
+-- the line that counts the further wants; nothing if there are none
 abbrev pub asked_more_line : ℕ → List ℕ
 asked_more_line more = if more == 0 then [] else line_of (asked_more_data more)
 
--- a service and the LANs whose hosts ask for its group
+-- a group of a service, its name, and the LANs that ask for it
 abbrev pub service_object : TopologyValue → (group : ℕ) → (lans : List ℕ) → Data
 service_object t group lans = object_data (
     (codes "group", address_data group)
     ∷ (codes "lans", lans_data t lans)
     ∷ (codes "name", string (unwrap_or (service_name group) [])) ∷ [])
 
+-- the object of a service, given as a want of its group with the LANs that ask for it
 abbrev pub service_data : TopologyValue → Want × List ℕ → Data
 service_data t line = service_object t line.0.0 line.1
 
--- all services as a line, nothing if there are none
+-- the line of all services; nothing if there are none
 abbrev pub asked_services_line : TopologyValue → List (Want × List ℕ) → List ℕ
 asked_services_line t lines = list_line (codes "asked_services") (map (service_data t) lines)

@@ -1,4 +1,5 @@
--- What is behind a stray, in JSON.
+-- What is behind a stray, in JSON: the member `behind` of a flow's line (docs/FORMATS.md, "What
+-- `audit --json` writes").
 use Rattle.std.specs.Prelude.{ℕ, List, [], ◌∷◌, map, Option, Some, None, codes}
 use Rattle.mc_tables.specs.Summary.{SummaryValue}
 use Rattle.mc_topology.specs.Topology.{TopologyValue}
@@ -12,7 +13,7 @@ use Rattle.mc_json.specs.FlowData.{optional_finding_data, shown_from_data}
 use Rattle.mc_json.specs.RowData.{count_data, lan_data, list_data, object_data, router_data}
 use Rattle.mc_json.specs.WhyData.{causes_data}
 
--- an interface by which copies leave the known domain
+-- a vif of a router by which copies leave the known domain
 abbrev pub stray_data : TopologyValue → Interface → Data
 stray_data t i = object_data ((codes "router", router_data t i.0) ∷ (codes "vif", count_data i.1) ∷ [])
 
@@ -26,12 +27,13 @@ found_behind_data t b why = object_data (
     ∷ (codes "strays", list_data (map (stray_data t) b.strays.items))
     ∷ (codes "why", list_data why) ∷ [])
 
--- of the flow with this number, by the summaries of the routers' caches; null where the finding is no stray
+-- what is behind a stray of the flow with this number, by the summaries of the routers' caches; null where
+-- the finding is no stray
 abbrev pub behind_data : DomainFacts → List SummaryValue → (flow : ℕ) → Option Behind → Data
 behind_data d summary flow None = null
 behind_data d summary flow (Some b) =
     found_behind_data d.topology b (causes_data d summary flow b.causes.items)
 
--- the same, in the context of a flow
+-- what is behind a stray, in the context in which the code writes lines; null where the finding is no stray
 abbrev pub behind_data_in : LineContext → Option Behind → Data
 behind_data_in c behind = behind_data (facts c.view.now.domain) c.summary.now c.view.now.flow behind

@@ -1,4 +1,5 @@
--- The facts of a line as JSON values, with the names of the topology and of the vif tables.
+-- The facts of a line of an explanation as JSON values (docs/FORMATS.md, the member `why`), with the names of
+-- the topology and of the vif tables.
 use Rattle.serde_json.specs.Data.{Data, boolean, string}
 use Rattle.mc_lines.specs.FactText.{interface_text}
 use Rattle.mc_lines.specs.FlowContext.{FlowContext, flow_of, row_of}
@@ -10,6 +11,7 @@ use Rattle.mc_json.specs.RowData.{lan_data, router_data}
 use Rattle.mc_json.specs.RowData.{count_data, device_data, every_source_data, flow_row_data}
 use Rattle.mc_json.specs.RowData.{incoming_device, incoming_vif}
 
+-- the value of a fact, in a line about a flow
 abbrev pub fact_data : FlowContext → FactValue → Data
 fact_data c (Lan lan) = lan_data c.domain.topology lan
 fact_data c (Router router) = router_data c.domain.topology router

@@ -1,5 +1,5 @@
--- The lines of `audit --json` of a flow, and of the tree of a right one (docs/FORMATS.md, the section "What
--- `audit --json` writes"). Members are in ascending order of keys.
+-- The lines in JSON of a flow, and of the tree of a right one (docs/FORMATS.md, "What `audit --json`
+-- writes"). Members are in ascending order of their keys, and flows are numbered from 0 here, from 1 in JSON.
 use Rattle.std.specs.Prelude.{ℕ, ◌+◌, Bool, true, false, List, [], ◌∷◌, ◌++◌, map, Option, Some, None}
 use Rattle.std.specs.Prelude.{flat_map, if◌then◌else◌, nat_lt, codes}
 use Rattle.mc_text.specs.Addr.{dotted}
@@ -23,7 +23,7 @@ use Rattle.mc_json.specs.TreeKey.{taking_interface}
 
 -- ---- any flow
 
--- the flow with this number, which counts from 0
+-- the members that every flow has
 abbrev pub flow_members : (number : ℕ) → Flow → List (List ℕ × Data)
 flow_members number f =
     (codes "flow", count_data (number + 1))
@@ -33,17 +33,18 @@ flow_members number f =
 
 -- ---- trees
 
--- the router and the vif of an interface, null for none
+-- the router of an interface; null for no interface
 abbrev pub interface_router : TopologyValue → Option Interface → Data
 interface_router t None = null
 interface_router t (Some i) = router_data t i.0
 
+-- the vif of an interface; null for no interface
 abbrev pub interface_vif : Option Interface → Data
 interface_vif None = null
 interface_vif (Some i) = count_data i.1
 
--- an entry, by the interface that sends onto its LAN, none for the source's own, and by the vif at which
--- the sending router takes the packets
+-- a certificate entry: the LAN, its need and rank, the router and vif that send onto it, and the vif at which
+-- that router takes the packets; these three are null for the source's LAN
 abbrev pub reached_data : TopologyValue → Net → Entry → Data
 reached_data t n e = object_data (
     (codes "from_vif", interface_vif (taking_interface n e.forwarder))
@@ -61,13 +62,12 @@ tree_data t n es tree = object_data (
 
 -- ---- a right flow
 
--- that it is right, if the whole domain is known, or else null
+-- that the flow is right, or null where a router is excluded (the domain isn't whole): then no fault is known
 abbrev pub right_mark : (whole : Bool) → Data
 right_mark true = boolean true
 right_mark false = null
 
--- the flow with this number, from 0: how many LANs carry a copy of its packet, the number of its tree,
--- and which LANs want it
+-- a right flow: how many LANs carry a copy of its packet, the number of its tree, and the LANs that want it
 abbrev pub right_data : (whole : Bool) → (number : ℕ) → Flow → (copies tree : ℕ)
     → (wanted : List Data) → Data
 right_data whole number f copies tree wanted = object_data (
@@ -80,12 +80,14 @@ right_data whole number f copies tree wanted = object_data (
     ∷ (codes "ttl", count_data f.ttl)
     ∷ (codes "wanted", list_data wanted) ∷ [])
 
--- ---- one that isn't right
+-- ---- a flow that isn't right
 
+-- a finding that is about a LAN
 abbrev pub finding_at_lan : TopologyValue → (kind : List ℕ) → (lan : ℕ) → Data
 finding_at_lan t kind lan = object_data (
     (codes "kind", string kind) ∷ (codes "lan", lan_data t lan) ∷ [])
 
+-- a finding
 abbrev pub finding_data : TopologyValue → Finding → Data
 finding_data t Clean = object_data ((codes "kind", string (codes "Clean")) ∷ [])
 finding_data t (Duplicate lan) = finding_at_lan t (codes "Duplicate") lan
@@ -96,7 +98,7 @@ finding_data t (Stray router vif) = object_data (
     ∷ (codes "vif", count_data vif) ∷ [])
 finding_data t (Missed lan) = finding_at_lan t (codes "Missed") lan
 
--- an outgoing vif with its threshold, if a copy that came with this TTL passes that
+-- an outgoing vif, if a copy that came with this TTL passes its threshold
 abbrev pub passed_vif : (ttl : ℕ) → ℕ × ℕ → List ℕ
 passed_vif ttl p = if nat_lt p.1 ttl then p.0 ∷ [] else []
 
@@ -107,14 +109,15 @@ passed_vifs ttl (Exact incoming pairs) = flat_map (passed_vif ttl) pairs
 passed_vifs ttl open_row = []
 passed_vifs ttl no_row = []
 
--- those by which copies went in an event that sent some
+-- the vifs by which copies went in an event that sent some
 abbrev pub sent_vifs : Net → Event → List ℕ
 sent_vifs n e = passed_vifs e.ttl (n.row e.router)
 
+-- vifs by their numbers
 abbrev pub vifs_data : List ℕ → Data
 vifs_data vifs = list_data (map count_data vifs)
 
--- an event that sent no copies
+-- an event that sent no copies, with this outcome
 abbrev pub event_without_copies_data : TopologyValue → Event → (outcome : List ℕ) → Data
 event_without_copies_data t e outcome = object_data (
     (codes "onto", vifs_data [])
@@ -123,7 +126,7 @@ event_without_copies_data t e outcome = object_data (
     ∷ (codes "ttl", count_data e.ttl)
     ∷ (codes "vif", count_data e.vif) ∷ [])
 
--- an event that sent copies by these vifs
+-- an event that sent copies and strays by these vifs
 abbrev pub event_with_copies_data : TopologyValue → Event → (copies strays : ℕ) → (vifs : List ℕ) → Data
 event_with_copies_data t e copies strays vifs = object_data (
     (codes "copies", count_data copies)
@@ -134,32 +137,33 @@ event_with_copies_data t e copies strays vifs = object_data (
     ∷ (codes "ttl", count_data e.ttl)
     ∷ (codes "vif", count_data e.vif) ∷ [])
 
+-- an event with this outcome
 abbrev pub outcome_data : TopologyValue → Net → Event → Outcome → Data
 outcome_data t n e Open = event_without_copies_data t e (codes "open")
 outcome_data t n e NoRow = event_without_copies_data t e (codes "no row")
 outcome_data t n e OtherVif = event_without_copies_data t e (codes "other vif")
 outcome_data t n e (Sent copies strays) = event_with_copies_data t e copies strays (sent_vifs n e)
 
+-- an event
 abbrev pub event_data : TopologyValue → Net → Event → Data
 event_data t n e = outcome_data t n e e.outcome
 
--- that it isn't right, if that is known, or else null
+-- that the flow isn't right, or null where that isn't known
 abbrev pub wrong_mark : (known : Bool) → Data
 wrong_mark true = boolean false
 wrong_mark false = null
 
--- the TTL from which on packets show a finding, null where none is said
+-- the TTL from which on packets show a finding; null where none is given
 abbrev pub shown_from_data : Option ℕ → Data
 shown_from_data None = null
 shown_from_data (Some ttl) = count_data ttl
 
--- a finding, null where there is none
+-- a finding; null where there is none
 abbrev pub optional_finding_data : TopologyValue → Option Finding → Data
 optional_finding_data t None = null
 optional_finding_data t (Some finding) = finding_data t finding
 
--- the members that `certainty`, the finding's TTL, the flow, its wanting LANs and the causes give to a flow
--- with a finding
+-- the members of a flow with a finding from `flow` on, in the order of keys
 abbrev pub each_wrong_members : (number : ℕ) → Flow → Certainty → (found_ttl : ℕ) → (wanted why : List Data)
     → List (List ℕ × Data)
 each_wrong_members number f certainty found_ttl wanted why =
@@ -173,7 +177,7 @@ each_wrong_members number f certainty found_ttl wanted why =
     ∷ (codes "wanted", list_data wanted)
     ∷ (codes "why", list_data why) ∷ []
 
--- a flow with a finding
+-- What is written of a flow with a finding, beside its number, addresses and TTL.
 pub record WrongFlow : Type 0 where
   -- how certain the finding is
   pub certainty : Certainty
@@ -194,10 +198,12 @@ pub record WrongFlow : Type 0 where
   -- the causes
   pub why : List Data
 
+-- the member `events`, if the travel's events are asked for
 abbrev pub events_member : Option (List Data) → List (List ℕ × Data)
 events_member None = []
 events_member (Some events) = (codes "events", list_data events) ∷ []
 
+-- all members of a flow with a finding
 abbrev pub wrong_members : (number : ℕ) → Flow → WrongFlow → List (List ℕ × Data)
 wrong_members number f w =
     (codes "also", list_data w.also)
@@ -206,6 +212,7 @@ wrong_members number f w =
     ∷ (events_member w.events
     ++ ((codes "finding", w.finding) ∷ each_wrong_members number f w.certainty w.found_ttl w.wanted w.why))
 
+-- a flow with a finding
 abbrev pub wrong_data : (number : ℕ) → Flow → WrongFlow → Data
 wrong_data number f w = object_data (wrong_members number f w)
 
@@ -213,7 +220,7 @@ wrong_data number f w = object_data (wrong_members number f w)
 abbrev pub events_if_asked : TopologyValue → Net → (events_asked : Bool) → List Event → Option (List Data)
 events_if_asked t n events_asked es = if events_asked then Some (map (event_data t n) es) else None
 
--- the flow with this number, by a travel's finding, its events and the LANs that it also missed
+-- what is written of the flow with this number, from what is found of it and what explains that
 abbrev pub wrong_flow_of : DomainFacts → (flow : ℕ) → Certainty → (found_ttl : ℕ) → Finding → List Event
     → (also : List ℕ) → (behind : Data) → (why : List Data) → (events_asked : Bool) → WrongFlow
 wrong_flow_of d flow certainty found_ttl finding events also behind why events_asked = record {
@@ -228,7 +235,7 @@ wrong_flow_of d flow certainty found_ttl finding events also behind why events_a
   why = why;
 }
 
--- the line of that flow
+-- the line of such a flow
 abbrev pub wrong_line : DomainFacts → (flow : ℕ) → Flow → Certainty → (found_ttl : ℕ) → Finding → List Event
     → (also : List ℕ) → (behind : Data) → (why : List Data) → (events_asked : Bool) → List ℕ
 wrong_line d flow f certainty found_ttl finding events also behind why events_asked =

@@ -1,4 +1,5 @@
--- A line as a JSON object: its kind, its facts by their keys, and its sentences as `text`.
+-- A line of an explanation as a JSON object (docs/FORMATS.md, the member `why`): its kind, its facts by their
+-- keys, and its sentences as `text`.
 use Rattle.std.specs.Prelude.{ℕ, List, [], ◌∷◌, codes}
 use Rattle.serde_json.specs.Data.{Data, Members, no_members, object, put, string}
 use Rattle.mc_lines.specs.Filled.{joined_sentences}
@@ -6,14 +7,16 @@ use Rattle.mc_lines.specs.FlowContext.{FlowContext}
 use Rattle.mc_lines.specs.Lines.{FactValue, Line}
 use Rattle.mc_json.specs.FactData.{fact_data}
 
--- the members with one more for each fact
+-- the members with one more for each fact, by its key
 abbrev pub with_facts : FlowContext → List (List ℕ × FactValue) → Members → Members
 with_facts c [] ms = ms
 with_facts c (f ∷ fs) ms = with_facts c fs (put f.0 (fact_data c f.1) ms)
 
+-- the object of a line
 abbrev pub line_data : FlowContext → Line → Data
 line_data c l = object (put (codes "text") (string (joined_sentences c l.facts l.sentences))
     (with_facts c l.facts (put (codes "kind") (string l.kind) no_members)))
 
+-- the object of a line, as a list of one
 abbrev pub line_values : FlowContext → Line → List Data
 line_values c l = line_data c l ∷ []

@@ -1,4 +1,5 @@
--- Builders of JSON objects, and lines that are JSON objects, none of which is the verdict.
+-- JSON objects that are built member by member, and texts that are sequences of lines with an object each,
+-- none of which is the line of the verdict (docs/FORMATS.md, "What `audit --json` writes").
 use Rattle.std.specs.Prelude.{◌≡◌, ◌≢◌, ℕ, List, ◌++◌, codes, flat_map, IfOk}
 use Rattle.serde_json.specs.Data.{Members}
 use Rattle.serde_json.specs.View.{members_view}
@@ -7,20 +8,20 @@ use Rattle.mc_explain.specs.Indented.{HasNoLineFeed}
 use Rattle.mc_explain.specs.UnlistedLines.{with_line_feed}
 use Rattle.mc_json.specs.declared.fields.Fields.{Fields}
 
--- the builder has these members, unless an allocation failed
+-- The fields that were built have these members, unless an allocation failed.
 abbrev pub HasMembers : Fields → Members → Type 0
 HasMembers fields ms = IfOk fields.built (λ map. members_view map.entries ≡ ms)
 
--- the line begins with a brace and a quote
+-- The line begins with a brace and a quote.
 abbrev pub BeginsObject : List ℕ → Type 0
 BeginsObject line = (rest : List ℕ) × (line ≡ codes "{\"" ++ rest)
 
--- the line doesn't begin as the verdict's does
+-- The line doesn't begin as the verdict's line does.
 abbrev pub IsNotVerdict : List ℕ → Type 0
 IsNotVerdict line = (rest : List ℕ) → line ≢ codes "{\"verdict\"" ++ rest
 
--- The text is a sequence of lines, each of which begins an object other than the verdict, ends with a
--- line feed and has none before that.
+-- The text is a sequence of lines, each of which begins an object that isn't the verdict's, and ends with its
+-- only line feed.
 pub record AreObjectLines (text : List ℕ) : Type 0 where
   pub lines : List (List ℕ)
   pub begins : (line : List ℕ) → In line lines → BeginsObject line

@@ -1,5 +1,5 @@
--- JSON values and lines, and the devices and rows of routers, with the names of the topology and of the
--- vif tables.
+-- JSON values and lines, and in JSON the devices and entries of routers (docs/FORMATS.md, "What
+-- `audit --json` writes"), with the names of the topology and of the vif tables.
 use Rattle.std.specs.Prelude.{ℕ, List, [], ◌∷◌, ◌++◌, map, Option, Some, None, codes}
 use Rattle.mc_tables.specs.CacheTable.{EntryValue}
 use Rattle.mc_tables.specs.Summary.{SummaryValue}
@@ -19,58 +19,64 @@ use Rattle.serde_json.specs.Written.{compact_text}
 
 -- ---- values
 
+-- a number from 0 on
 abbrev pub count_data : ℕ → Data
 count_data n = number (unsigned n)
 
+-- a list of values
 abbrev pub list_data : List Data → Data
 list_data items = array (items_of items)
 
--- an object's members, in ascending order of keys
+-- the members of an object, which are given in ascending order of their keys
 abbrev pub members : List (List ℕ × Data) → Members
 members [] = no_members
 members (m ∷ ms) = member m.0 m.1 (members ms)
 
+-- the object with these members
 abbrev pub object_data : List (List ℕ × Data) → Data
 object_data ms = object (members ms)
 
--- a value as a line
+-- a value as a line of text
 abbrev pub line_of : Data → List ℕ
 line_of d = compact_text d ++ codes "\n"
 
 -- ---- names
 
+-- a LAN by its name
 abbrev pub lan_data : TopologyValue → (lan : ℕ) → Data
 lan_data t lan = string (lan_name t lan)
 
+-- a router by its name
 abbrev pub router_data : TopologyValue → (router : ℕ) → Data
 router_data t router = string (router_name t router)
 
 -- ---- devices
 
--- the name of a vif's device, null if the vif table has no line for it
+-- the device of a vif; null if the vif table has no line for it
 abbrev pub device_data_of : Option VifValue → Data
 device_data_of None = null
 device_data_of (Some v) = string (device_name_text v.device)
 
+-- the device of a router's vif
 abbrev pub device_data : DomainFacts → (router vif : ℕ) → Data
 device_data d router vif = device_data_of (d.vifs router vif)
 
 -- ---- rows
 
--- a row's outgoing vif with its threshold
+-- an outgoing vif of an entry, with its threshold
 abbrev pub oif_data : DomainFacts → (router : ℕ) → ℕ × ℕ → Data
 oif_data d router p = object_data (
     (codes "device", device_data d router p.0)
     ∷ (codes "threshold", count_data p.1)
     ∷ (codes "vif", count_data p.0) ∷ [])
 
--- the incoming vif of a row
+-- the incoming vif of an entry
 abbrev pub incoming_data : DomainFacts → (router incoming : ℕ) → Data
 incoming_data d router incoming = object_data (
     (codes "device", device_data d router incoming)
     ∷ (codes "vif", count_data incoming) ∷ [])
 
--- a row; the source or group 0.0.0.0 means every one, and is written `*`
+-- an entry; its source or group is `*`, every one, for 0.0.0.0
 abbrev pub entry_data : DomainFacts → (router source group incoming : ℕ) → List (ℕ × ℕ) → Data
 entry_data d router source group incoming pairs = object_data (
     (codes "from", incoming_data d router incoming)
@@ -79,34 +85,38 @@ entry_data d router source group incoming pairs = object_data (
     ∷ (codes "source", string (address_text source))
     ∷ (codes "to", list_data (map (oif_data d router) pairs)) ∷ [])
 
--- a router's row for a flow
+-- the (S,G) entry that is a router's row for a flow; null for another row
 abbrev pub row_data : DomainFacts → Flow → (router : ℕ) → Row → Data
 row_data d f router (Exact incoming pairs) =
     entry_data d router f.source f.group incoming pairs
 row_data d f router Open = null
 row_data d f router NoRow = null
 
--- the same, for the flow with this number
+-- the (S,G) entry that is a router's row for the flow with this number; null for another row
 abbrev pub flow_row_data : DomainFacts → (flow router : ℕ) → Data
 flow_row_data d flow router = row_data d (flow_at d.topology flow) router ((d.nets flow).row router)
 
--- a router's row for every source, as the summary of its cache has it
+-- an entry that a router has for every source; null if there is none
 abbrev pub every_source_row_data : DomainFacts → (router : ℕ) → Option (ℕ × EntryValue) → Data
 every_source_row_data d router None = null
 every_source_row_data d router (Some row) =
     entry_data d router 0 row.0 row.1.iif (oif_pairs row.1.oifs)
 
+-- the entry that a router has for every source of this group, by the summaries of all routers' caches; null
+-- if it has none
 abbrev pub every_source_data : DomainFacts → List SummaryValue → (group router : ℕ) → Data
 every_source_data d summary group router =
     every_source_row_data d router (every_source_of summary group router)
 
 -- ---- the incoming vif of a row
 
+-- the device of a row's incoming vif; null for a row without one
 abbrev pub incoming_device : DomainFacts → (router : ℕ) → Row → Data
 incoming_device d router (Exact incoming pairs) = device_data d router incoming
 incoming_device d router Open = null
 incoming_device d router NoRow = null
 
+-- the number of a row's incoming vif; null for a row without one
 abbrev pub incoming_vif : Row → Data
 incoming_vif (Exact incoming pairs) = count_data incoming
 incoming_vif Open = null

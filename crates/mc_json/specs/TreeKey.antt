@@ -1,21 +1,21 @@
--- Which trees are one tree in JSON.
+-- Which trees are written as one tree in JSON (docs/FORMATS.md, "What `audit --json` writes").
 use Rattle.std.specs.Prelude.{ℕ, List, ◌++◌, map, Option, Some, None}
 use Rattle.mc_theory.specs.Certificates.{Entry}
 use Rattle.mc_theory.specs.Nets.{Interface, Net, Row}
 use Rattle.mc_theory.specs.Nets.Row.{Exact, Open, NoRow}
 
--- the interface at which a router takes the packets, by its row
+-- the interface at which a router takes the packets, by its row; none for a row without an incoming vif
 abbrev pub incoming_interface : (router : ℕ) → Row → Option Interface
 incoming_interface router (Exact incoming pairs) = Some (router, incoming)
 incoming_interface router Open = None
 incoming_interface router NoRow = None
 
--- the interface at which the router of a sending interface takes them, none for the source
+-- the interface at which the router of a sending interface takes the packets; none for the source
 abbrev pub taking_interface : Net → Option Interface → Option Interface
 taking_interface n None = None
 taking_interface n (Some i) = incoming_interface i.0 (n.row i.0)
 
--- an entry with that interface in place of the sending one
+-- an entry with that interface in place of the one that sends
 abbrev pub taking_entry : Net → Entry → Entry
 taking_entry n e = record {
   lan = e.lan;
@@ -24,6 +24,7 @@ taking_entry n e = record {
   forwarder = taking_interface n e.forwarder;
 }
 
--- Trees are one if they have the same entries, and their routers take the packets at the same interfaces.
+-- what is the same of trees that are one: their entries, and the interfaces at which their routers take the
+-- packets
 abbrev pub tree_key : Net → List Entry → List Entry
 tree_key n es = es ++ map (taking_entry n) es

@@ -1,4 +1,5 @@
--- Why a flow isn't right, in JSON: the causes, and the search for a LAN that was missed.
+-- Why a flow isn't right, in JSON (docs/FORMATS.md, the member `why`): the causes, and the search for a LAN
+-- that was missed.
 use Rattle.std.specs.Prelude.{ℕ, List, [], ◌++◌, Option, Some, None}
 use Rattle.mc_tables.specs.Summary.{SummaryValue}
 use Rattle.mc_forward.specs.ListedTables.{DomainFacts, facts}
@@ -12,18 +13,18 @@ use Rattle.mc_lines.specs.SearchLines.{reach_items, search_items}
 use Rattle.mc_lines.specs.declared.context.LineContext.{LineContext}
 use Rattle.mc_json.specs.LineData.{line_values}
 
--- the values of causes, for the flow with this number, by the summaries of the routers' caches
+-- the values of the causes, for the flow with this number, by the summaries of the routers' caches
 abbrev pub causes_data : DomainFacts → List SummaryValue → (flow : ℕ) → List Cause → List Data
 causes_data d summary flow causes = causes_items line_values (context_of d summary flow) causes
 
--- how far the packet came, and the lines of the search
+-- the values of a search: how far the packet came, and the lines
 abbrev pub search_data : DomainFacts → List SummaryValue → (flow : ℕ) → List SearchLine
     → (sent_on took_none : List ℕ) → List Data
 search_data d summary flow lines sent_on took_none =
     reach_items line_values (context_of d summary flow) sent_on took_none
     ++ search_items line_values (context_of d summary flow) lines
 
--- nothing if there was no search
+-- the values of the search, if there was one
 abbrev pub search_data_if_any : DomainFacts → List SummaryValue → (flow : ℕ) → Option LanSearch
     → List Data
 search_data_if_any d summary flow None = []
@@ -31,12 +32,13 @@ search_data_if_any d summary flow (Some found) =
     search_data d summary flow found.lines.items found.reach.sent_on.items
     found.reach.took_none.items
 
+-- the values of the causes, and then those of the search
 abbrev pub why_data : DomainFacts → List SummaryValue → (flow : ℕ) → List Cause
     → Option LanSearch → List Data
 why_data d summary flow causes search =
     causes_data d summary flow causes ++ search_data_if_any d summary flow search
 
--- the same, in the context of a flow
+-- the values of the causes and of the search, in the context in which the code writes lines
 abbrev pub why_data_in : LineContext → List Cause → Option LanSearch → List Data
 why_data_in c causes search =
     why_data (facts c.view.now.domain) c.summary.now c.view.now.flow causes search

@@ -1,4 +1,5 @@
--- The line of a flow that isn't right, in JSON, by what explains it.
+-- The line of a flow that isn't right, in JSON (docs/FORMATS.md, "What `audit --json` writes"), by the
+-- explanation of its finding.
 use Rattle.std.specs.Prelude.{ℕ, Bool, List}
 use Rattle.mc_tables.specs.Summary.{SummaryValue}
 use Rattle.mc_topology.specs.Topology.{flow_at}
@@ -10,7 +11,8 @@ use Rattle.mc_json.specs.FlowData.{wrong_line}
 use Rattle.mc_json.specs.BehindData.{behind_data}
 use Rattle.mc_json.specs.WhyData.{why_data}
 
--- the flow with this number, by the travel that shows its fault, and what explains that
+-- the line of the flow with this number, by the travel that shows its fault, the TTL of the travel's packet,
+-- and the explanation
 abbrev pub explained_line : DomainValue → List SummaryValue → (flow : ℕ) → Travel → (found_ttl : ℕ)
     → Explanation → (events_asked : Bool) → List ℕ
 explained_line d summary flow travel found_ttl x events_asked =

@@ -1,4 +1,5 @@
--- The lines of a fault's causes.
+-- The lines of each cause of a fault (docs/FORMATS.md, "The explanation of a finding"). In a sentence `{key}`
+-- refers to the line's fact with that key; kinds and keys are those of an object of `why` in JSON.
 use Rattle.std.specs.Prelude.{ℕ, nat_le, Bool, true, false, List, [], ◌∷◌, ◌++◌, codes, flat_map}
 use Rattle.mc_forward.specs.UnplacedReasons.{unplaced_reason}
 use Rattle.mc_forward.specs.declared.unplaced.UnplacedReason.{UnplacedReason}
@@ -12,9 +13,10 @@ use Rattle.mc_lines.specs.Lines.{Line, line}
 use Rattle.mc_lines.specs.Lines.FactValue.{Lan, Router, Device, IncomingDevice, IncomingVif, Row}
 use Rattle.mc_lines.specs.Lines.FactValue.{EverySourceRow, Number}
 
--- ---- the sentences of variants
+-- ---- sentences that depend on what is the case
 
--- what a remedy costs packets of the flow: nothing, if they reach the LAN without the vif
+-- the sentence of a remedy. `reached` is true where the flow's TTL is at least the least one with which the
+-- LAN is reached without the vif: then the remedy costs packets of the flow nothing.
 abbrev pub remedy_sentence : (reached : Bool) → List ℕ
 remedy_sentence true =
     codes "fix: remove {device} from this entry of {router}; every LAN reached now is still reached"
@@ -22,7 +24,7 @@ remedy_sentence false =
     codes "fix: remove {device} from this entry of {router}; packets sent with less than ttl {least} "
     ++ codes "may then not reach {lan} and LANs behind it, and this flow is listed with ttl {ttl}"
 
--- the vif to remove from its router's row, for packets with this TTL
+-- the line of a remedy: the vif to remove from its router's entry, of a flow with this TTL
 abbrev pub take_out_line : (reached : Bool) → (lan router vif least ttl : ℕ) → Line
 take_out_line reached lan router vif least ttl = line (codes "take_out")
     (remedy_sentence reached ∷ codes "then audit again" ∷ [])
@@ -33,7 +35,7 @@ take_out_line reached lan router vif least ttl = line (codes "take_out")
     ∷ (codes "ttl", Number ttl)
     ∷ (codes "vif", Number vif) ∷ [])
 
--- why a vif is placed on no LAN: the kind and the sentence
+-- why a vif is placed on no LAN: the kind and the sentence of the line
 abbrev pub unplaced_words : UnplacedReason → List ℕ × List ℕ
 unplaced_words NoVifLine =
     (codes "no_vif_line", codes "{device} of {router} has no line in vif-{router}")
@@ -47,7 +49,7 @@ unplaced_words Tunnel = (codes "tunnel", codes "{device} of {router} is a DVMRP 
 unplaced_words NoDevice = (codes "no_device", codes "{device} of {router} has lost its device")
 unplaced_words OnNoLan = (codes "on_no_lan", codes "{device} of {router} is on no listed LAN")
 
--- a vif that is placed on no LAN
+-- the line of a vif that is placed on no LAN
 abbrev pub unplaced_line : UnplacedReason → (router vif : ℕ) → Line
 unplaced_line reason router vif = line (unplaced_words reason).0 ((unplaced_words reason).1 ∷ [])
     ((codes "device", Device router vif)
@@ -56,6 +58,7 @@ unplaced_line reason router vif = line (unplaced_words reason).0 ((unplaced_word
 
 -- ---- the lines of one cause
 
+-- the lines of a cause of a flow's fault
 abbrev pub cause_lines : FlowContext → Cause → List Line
 cause_lines c (SentOnto lan router vif) = line (codes "sent_onto")
     (codes "forwarded onto {lan} by {router} {device}: {row}" ∷ [])
@@ -101,10 +104,12 @@ cause_lines c (StoppedAt router vif threshold ttl) = line (codes "stopped_at")
     ∷ (codes "ttl", Number ttl)
     ∷ (codes "vif", Number vif) ∷ []) ∷ []
 
--- ---- what causes come to, where each line comes to these items
+-- ---- what is made of causes, as text or JSON: `items_of` says what is made of a line
 
+-- what is made of the lines of one cause
 abbrev pub cause_items : {A : Type 0} → (FlowContext → Line → List A) → FlowContext → Cause → List A
 cause_items items_of c cause = flat_map (items_of c) (cause_lines c cause)
 
+-- what is made of the lines of these causes, in order
 abbrev pub causes_items : {A : Type 0} → (FlowContext → Line → List A) → FlowContext → List Cause → List A
 causes_items items_of c causes = flat_map (cause_items items_of c) causes

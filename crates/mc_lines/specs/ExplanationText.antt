@@ -1,4 +1,5 @@
--- The text of an explanation: the lines of causes, and of the search for a missed LAN.
+-- The text of an explanation (docs/FORMATS.md, "The explanation of a finding"): the lines of causes, and of
+-- the search for a missed LAN.
 use Rattle.std.specs.Prelude.{ℕ, ◌-◌, ◌==◌, List, [], ◌++◌, length, if◌then◌else◌, codes, decimal, flat_map}
 use Rattle.std.specs.Prelude.{take}
 use Rattle.mc_tables.specs.Summary.{SummaryValue}
@@ -20,26 +21,27 @@ context_of d summary flow = record { domain = d; summary = summary; flow = flow 
 
 -- ---- causes
 
+-- the text of the causes of a flow's fault, each line after two spaces
 abbrev pub causes_text : DomainFacts → List SummaryValue → (flow : ℕ) → List Cause → List ℕ
 causes_text d summary flow causes = causes_items line_text (context_of d summary flow) causes
 
--- the same, after four spaces
+-- the text of the causes, each line after four spaces: they explain a line that is itself indented
 abbrev pub deeper_causes_text : DomainFacts → List SummaryValue → (flow : ℕ) → List Cause → List ℕ
 deeper_causes_text d summary flow causes = causes_items deeper_line_text (context_of d summary flow) causes
 
 -- ---- a search
 
--- the line that counts further lines
+-- the line that counts the further lines of a search; nothing if there are none
 abbrev pub more_lines_text : ℕ → List ℕ
 more_lines_text more =
     if more == 0 then [] else codes "  and " ++ (decimal more ++ codes " more lines\n")
 
--- the first 40 lines, and how many more there are
+-- the first 40 shown lines of a search, and how many more there are
 abbrev pub first_lines_text : FlowContext → List ShownLine → List ℕ
 first_lines_text c lines =
     flat_map (shown_items line_text c) (take 40 lines) ++ more_lines_text (length lines - 40)
 
--- how far the packet came, and the lines
+-- the text of a search: how far the packet came, and the lines
 abbrev pub search_text : DomainFacts → List SummaryValue → (flow : ℕ) → List SearchLine
     → (sent_on took_none : List ℕ) → List ℕ
 search_text d summary flow lines sent_on took_none =
@@ -51,7 +53,7 @@ abbrev pub lan_search_text : DomainFacts → List SummaryValue → (flow : ℕ) 
 lan_search_text d summary flow found =
     search_text d summary flow found.lines.items found.reach.sent_on.items found.reach.took_none.items
 
--- in a domain with these names each search is text of lines that begin with two spaces
+-- In this domain the text of each search is a sequence of lines that begin with two spaces.
 abbrev pub IsEachSearchIndented : DomainFacts → Type 0
 IsEachSearchIndented d =
     (summary : List SummaryValue) (flow : ℕ) (lines : List SearchLine)

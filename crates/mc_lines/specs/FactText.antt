@@ -1,4 +1,4 @@
--- The text of a fact, with the names of the topology and of the vif tables.
+-- The text of a line's fact (Lines), with the names of the topology and of the vif tables.
 use Rattle.std.specs.Prelude.{ℕ, Bool, true, false, List, [], codes, decimal}
 use Rattle.mc_theory.specs.Nets.{Row as NetRow}
 use Rattle.mc_theory.specs.Nets.Row.{Exact, Open, NoRow}
@@ -16,16 +16,18 @@ use Rattle.mc_lines.specs.Lines.FactValue.{EverySourceRow, Flag, Number, Routers
 abbrev pub interface_text : TopologyValue → (interface : ℕ) → List ℕ
 interface_text t interface = device_name_text (interface_at t interface).device
 
--- the number of the incoming vif of a row
+-- the number of a row's incoming vif; nothing for a row without one
 abbrev pub incoming_number_text : NetRow → List ℕ
 incoming_number_text (Exact incoming pairs) = decimal incoming
 incoming_number_text Open = []
 incoming_number_text NoRow = []
 
+-- whether something holds, as `true` or `false`
 abbrev pub flag_text : Bool → List ℕ
 flag_text true = codes "true"
 flag_text false = codes "false"
 
+-- the text of a fact, in a line about a flow
 abbrev pub fact_text : FlowContext → FactValue → List ℕ
 fact_text c (Lan lan) = lan_name c.domain.topology lan
 fact_text c (Router router) = router_name c.domain.topology router

@@ -1,4 +1,4 @@
--- The text of a line: its sentences, filled with its facts.
+-- The text of a line (Lines): its sentences, each with the texts of the line's facts in place of their keys.
 use Rattle.std.specs.Prelude.{ℕ, ◌==◌, ◌&&◌, not, Bool, true, false, List, [], ◌∷◌, ◌++◌, codes, flat_map}
 use Rattle.std.specs.Prelude.{if◌then◌else◌}
 use Rattle.std.specs.List.{list_all}
@@ -9,23 +9,24 @@ use Rattle.mc_lines.specs.Lines.{FactValue, Line}
 
 -- ---- a sentence
 
--- the text of the fact with this key, nothing if there is none
+-- the text of the fact with this key; nothing if there is none
 abbrev pub text_of_key : FlowContext → List (List ℕ × FactValue) → (key : List ℕ) → List ℕ
 text_of_key c [] key = []
 text_of_key c (f ∷ fs) key = if bytes_eq f.0 key then fact_text c f.1 else text_of_key c fs key
 
--- each `{key}` is replaced by the text of its key
+-- a sentence in which each `{key}` is replaced by the text of the key
 abbrev mutual
   pub filled : (List ℕ → List ℕ) → (sentence : List ℕ) → List ℕ
   filled text_of [] = []
   filled text_of (b ∷ bs) = if b == 123 then filled_from_key text_of [] bs else (b ∷ filled text_of bs)
 
-  -- after the opening brace, with the bytes of the key so far
+  -- the text from within a key on, of which these bytes came before
   pub filled_from_key : (List ℕ → List ℕ) → (key sentence : List ℕ) → List ℕ
   filled_from_key text_of key [] = []
   filled_from_key text_of key (b ∷ bs) =
       if b == 125 then (text_of key ++ filled text_of bs) else filled_from_key text_of (key ++ b ∷ []) bs
 
+-- a sentence with the texts of these facts in place of their keys
 abbrev pub sentence_text : FlowContext → List (List ℕ × FactValue) → (sentence : List ℕ) → List ℕ
 sentence_text c facts sentence = filled (text_of_key c facts) sentence
 
@@ -35,18 +36,21 @@ sentence_text c facts sentence = filled (text_of_key c facts) sentence
 abbrev pub indented_sentence : FlowContext → List (List ℕ × FactValue) → (sentence : List ℕ) → List ℕ
 indented_sentence c facts sentence = codes "  " ++ (sentence_text c facts sentence ++ codes "\n")
 
+-- the sentences of a line as lines of text
 abbrev pub line_text : FlowContext → Line → List ℕ
 line_text c l = flat_map (indented_sentence c l.facts) l.sentences
 
--- the same behind a line that is indented itself: after four spaces
+-- a sentence as a line of text, after four spaces: it explains a line that is itself indented
 abbrev pub deeper_sentence : FlowContext → List (List ℕ × FactValue) → (sentence : List ℕ) → List ℕ
 deeper_sentence c facts sentence = codes "  " ++ indented_sentence c facts sentence
 
+-- the sentences of a line as such lines of text
 abbrev pub deeper_line_text : FlowContext → Line → List ℕ
 deeper_line_text c l = flat_map (deeper_sentence c l.facts) l.sentences
 
 -- ---- a line as one text, without the spaces
 
+-- a sentence, with a line feed before it
 abbrev pub sentence_after_feed : FlowContext → List (List ℕ × FactValue) → (sentence : List ℕ) → List ℕ
 sentence_after_feed c facts sentence = codes "\n" ++ sentence_text c facts sentence
 
@@ -57,23 +61,26 @@ joined_sentences c facts (s ∷ ss) = sentence_text c facts s ++ flat_map (sente
 
 -- ---- sentences that are well formed
 
+-- whether one of the facts has this key
 abbrev pub has_key : List (List ℕ × FactValue) → (key : List ℕ) → Bool
 has_key [] key = false
 has_key (f ∷ fs) key = if bytes_eq f.0 key then true else has_key fs key
 
--- a sentence without a line feed, in which each brace is closed and each key is that of a fact
+-- whether a sentence has no line feed outside of keys, each opening brace in it is closed, and each key is
+-- that of a fact
 abbrev mutual
   pub is_well_formed : List (List ℕ × FactValue) → (sentence : List ℕ) → Bool
   is_well_formed facts [] = true
   is_well_formed facts (b ∷ bs) =
       if b == 123 then names_fact facts [] bs else (not (b == 10) && is_well_formed facts bs)
 
-  -- after the opening brace, with the bytes of the key so far
+  -- whether a sentence is so from within a key on, of which these bytes came before
   pub names_fact : List (List ℕ × FactValue) → (key sentence : List ℕ) → Bool
   names_fact facts key [] = false
   names_fact facts key (b ∷ bs) =
       if b == 125 then (has_key facts key && is_well_formed facts bs)
       else names_fact facts (key ++ b ∷ []) bs
 
+-- whether each sentence of a line is well formed
 abbrev pub has_well_formed_sentences : Line → Bool
 has_well_formed_sentences l = list_all (is_well_formed l.facts) l.sentences

@@ -1,4 +1,4 @@
--- What the lines of a flow are made from.
+-- What the facts of a line about a flow are read from (Lines).
 use Rattle.std.specs.Prelude.{ℕ, List}
 use Rattle.mc_tables.specs.Summary.{SummaryValue}
 use Rattle.mc_theory.specs.Nets.{Row}
@@ -13,6 +13,7 @@ pub record FlowContext : Type 0 where
   pub summary : List SummaryValue
   pub flow : ℕ
 
+-- the context, as the code keeps it
 abbrev pub flow_context : LineContext → FlowContext
 flow_context c = record {
   domain = facts c.view.now.domain;

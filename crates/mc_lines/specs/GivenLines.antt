@@ -1,4 +1,4 @@
--- Lines as they are given to what takes them.
+-- Lines (Lines) as the code gives them to whatever takes lines (`LineSink`).
 use Rattle.std.specs.Prelude.{ℕ, List, map}
 use Rattle.std.specs.Borrow.{Bor}
 use Rattle.mc_lines.specs.declared.facts.fact.Fact.{Fact}
@@ -13,6 +13,7 @@ use Rattle.mc_lines.specs.Lines.{FactValue, Line, line}
 use Rattle.mc_lines.specs.Lines.FactValue.{Lan, Router, Device, Interface, IncomingDevice, IncomingVif, Row}
 use Rattle.mc_lines.specs.Lines.FactValue.{EverySourceRow, Flag, Number, Routers}
 
+-- a fact of the code as one of the definitions
 abbrev pub fact_value : Fact → FactValue
 fact_value (lan_fact lan) = Lan lan
 fact_value (router_fact router) = Router router
@@ -26,11 +27,14 @@ fact_value (flag_fact flag) = Flag flag
 fact_value (number_fact n) = Number n
 fact_value (routers_fact routers) = Routers routers.now
 
+-- a text as it is given
 abbrev pub given_text : Bor (List ℕ) → List ℕ
 given_text text = text.now
 
+-- a fact with its key
 abbrev pub named_fact : Bor (List ℕ) × Fact → List ℕ × FactValue
 named_fact f = (f.0.now, fact_value f.1)
 
+-- the line that is given with this kind, these sentences and these facts
 abbrev pub given_line : (kind : List ℕ) → List (Bor (List ℕ)) → List (Bor (List ℕ) × Fact) → Line
 given_line kind sentences facts = line kind (map given_text sentences) (map named_fact facts)

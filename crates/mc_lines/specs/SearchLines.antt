@@ -1,4 +1,5 @@
--- The lines of the search for a missed LAN.
+-- The lines of the search for a missed LAN (docs/FORMATS.md, "The search"). In a sentence `{key}` refers to
+-- the line's fact with that key; kinds and keys are those of an object of `why` in JSON.
 use Rattle.std.specs.Prelude.{ℕ, Bool, true, false, List, [], ◌∷◌, ◌++◌, codes, flat_map}
 use Rattle.mc_theory.specs.Nets.{Row as NetRow}
 use Rattle.mc_theory.specs.Nets.Row.{Exact, Open, NoRow as no_row}
@@ -23,22 +24,25 @@ use Rattle.mc_lines.specs.Lines.{Line, line}
 use Rattle.mc_lines.specs.Lines.FactValue.{Lan, Router, Device, Interface, IncomingDevice, IncomingVif, Row}
 use Rattle.mc_lines.specs.Lines.FactValue.{EverySourceRow, Flag, Number, Routers}
 
--- ---- lines about a LAN, a router on it, and an interface of that
+-- ---- lines of one sentence, by what they are about
 
+-- a line about a LAN
 abbrev pub lan_line : (kind sentence : List ℕ) → (lan : ℕ) → Line
 lan_line kind sentence lan = line kind (sentence ∷ []) ((codes "lan", Lan lan) ∷ [])
 
+-- a line about a router that has an interface on a LAN
 abbrev pub router_line : (kind sentence : List ℕ) → (lan router : ℕ) → Line
 router_line kind sentence lan router =
     line kind (sentence ∷ []) ((codes "lan", Lan lan) ∷ (codes "router", Router router) ∷ [])
 
+-- a line about an interface that the topology has on a LAN, and its router
 abbrev pub interface_line : (kind sentence : List ℕ) → (lan router interface : ℕ) → Line
 interface_line kind sentence lan router interface = line kind (sentence ∷ [])
     ((codes "device", Interface interface)
     ∷ (codes "lan", Lan lan)
     ∷ (codes "router", Router router) ∷ [])
 
--- ---- the sentences of variants
+-- ---- sentences that depend on what is the case
 
 -- why the incoming vif of a router's row is placed on no LAN
 abbrev pub incoming_reason : DomainFacts → (router : ℕ) → NetRow → UnplacedReason
@@ -46,7 +50,7 @@ incoming_reason d router (Exact incoming pairs) = unplaced_reason (d.vifs router
 incoming_reason d router Open = OnNoLan
 incoming_reason d router no_row = OnNoLan
 
--- the kind and the sentence for it
+-- the kind and the sentence of the line for this reason
 abbrev pub incoming_words : UnplacedReason → List ℕ × List ℕ
 incoming_words NoVifLine = (
   codes "from_no_vif_line",
@@ -69,7 +73,7 @@ incoming_words OnNoLan = (
   codes "{lan}: {router} expects it from {from_device}, which is on no listed LAN: {row}",
 )
 
--- a row whose incoming vif is placed on no LAN
+-- the line of a row whose incoming vif is placed on no LAN
 abbrev pub from_unplaced_line : UnplacedReason → (lan router : ℕ) → Line
 from_unplaced_line reason lan router = line (incoming_words reason).0 ((incoming_words reason).1 ∷ [])
     ((codes "from_device", IncomingDevice router)
@@ -78,7 +82,7 @@ from_unplaced_line reason lan router = line (incoming_words reason).0 ((incoming
     ∷ (codes "router", Router router)
     ∷ (codes "row", Row router) ∷ [])
 
--- a row that doesn't send by a vif, by whether the LAN that it takes from carried a copy
+-- the sentence of a row that doesn't send onto the LAN, by whether the LAN that it takes from carried a copy
 abbrev pub missing_sentence : (carried : Bool) → List ℕ
 missing_sentence true =
     codes "{lan}: {router} receives it from {from_lan} and does not forward it to {device}: {row}"
@@ -86,14 +90,15 @@ missing_sentence false =
     codes "{lan}: {router} expects it from {from_lan}, which by the known tables does not carry it "
     ++ codes "either, and does not forward it to {device}: {row}"
 
--- ---- a line
+-- ---- the line of each case
 
--- the routers that expect copies from a LAN
+-- the line of the routers that expect copies from a LAN
 abbrev pub expected_line : (lan : ℕ) → (routers : List ℕ) → Line
 expected_line lan routers = line (codes "expected_from_here")
     (codes "{lan}: expected from here by{routers}" ∷ [])
     ((codes "lan", Lan lan) ∷ (codes "routers", Routers routers) ∷ [])
 
+-- the line of a search, with its sentence and its facts
 abbrev pub search_line : FlowContext → SearchLine → Line
 search_line c (Excluded lan router) = router_line (codes "left_out")
     (codes "{lan}: {router} is excluded: its tables are unknown") lan router
@@ -146,40 +151,47 @@ search_line c (NoRouter lan) =
 search_line c (NoSender lan) =
     lan_line (codes "no_sender") (codes "{lan}: no entry for this flow forwards onto it") lan
 
+-- a line of a search as it is shown, with its sentence and its facts
 abbrev pub shown_line : FlowContext → ShownLine → Line
 shown_line c (One line) = search_line c line
 shown_line c (Expected lan routers) = expected_line lan routers
 
 -- ---- how far the packet came
 
--- the routers that sent copies on
+-- the sentence about the routers that sent copies on; none if there are none
 abbrev pub sent_on_sentences : (sent_on : List ℕ) → List (List ℕ)
 sent_on_sentences [] = []
 sent_on_sentences (r ∷ rs) = codes "reaches:{routers}" ∷ []
 
--- the routers that took none, or that there are none of either
+-- the sentence about the routers that took none; if there are none of these, and none that sent copies on,
+-- the one that no router receives the packet
 abbrev pub took_none_sentences : (sent_on took_none : List ℕ) → List (List ℕ)
 took_none_sentences sent_on (r ∷ rs) = codes "reaches, and is taken by no entry of:{routers}" ∷ []
 took_none_sentences [] [] = codes "by the known tables no router of this search receives it" ∷ []
 took_none_sentences (s ∷ ss) [] = []
 
+-- a line about routers
 abbrev pub routers_line : (kind : List ℕ) → (sentences : List (List ℕ)) → (routers : List ℕ) → Line
 routers_line kind sentences routers = line kind sentences ((codes "routers", Routers routers) ∷ [])
 
+-- the two lines that say how far the packet came
 abbrev pub reach_lines : (sent_on took_none : List ℕ) → List Line
 reach_lines sent_on took_none =
     routers_line (codes "gets_as_far_as") (sent_on_sentences sent_on) sent_on
     ∷ routers_line (codes "not_taken") (took_none_sentences sent_on took_none) took_none ∷ []
 
--- ---- what a search comes to, where each line comes to these items
+-- ---- what is made of a search, as text or JSON: `items_of` says what is made of a line
 
+-- what is made of a shown line
 abbrev pub shown_items : {A : Type 0} → (FlowContext → Line → List A) → FlowContext → ShownLine → List A
 shown_items items_of c l = items_of c (shown_line c l)
 
+-- what is made of all lines of a search, as they are shown
 abbrev pub search_items : {A : Type 0} → (FlowContext → Line → List A) → FlowContext → List SearchLine
     → List A
 search_items items_of c lines = flat_map (shown_items items_of c) (shown_lines lines)
 
+-- what is made of the lines that say how far the packet came
 abbrev pub reach_items : {A : Type 0} → (FlowContext → Line → List A) → FlowContext
     → (sent_on took_none : List ℕ) → List A
 reach_items items_of c sent_on took_none = flat_map (items_of c) (reach_lines sent_on took_none)

@@ -1,4 +1,5 @@
--- The entry of each LAN, by the LAN's number.
+-- Certificate entries that are kept by the numbers of their LANs, and the entry of a carried copy that is
+-- made with them, as CertificateOfCopies of mc_theory makes it from a list.
 use Rattle.std.specs.Prelude.{ℕ, ◌-◌, Bool, not, ◌||◌, nat_le, List, [], ◌∷◌, Option}
 use Rattle.std.specs.Prelude.{Some, None}
 use Rattle.mc_theory.specs.Nets.{Net, Interface}
@@ -8,11 +9,12 @@ use Rattle.mc_theory.specs.Findings.{from_lan}
 use Rattle.mc_theory.specs.CertificateOfCopies.{need_over, row_pairs, threshold_of}
 use Rattle.mc_forward.specs.PerLan.{item_on_lan, HoldsFirstOfEachKey}
 
--- each place holds the first entry of the LAN with the place's number
+-- Each place of `by_lan` holds the first of these entries for the LAN with the place's number, if there is
+-- one.
 abbrev pub AreEntriesByLan : List (Option Entry) → List Entry → Type 0
 AreEntriesByLan by_lan es = HoldsFirstOfEachKey (λ (e : Entry). e.lan) by_lan es
 
--- the entry of a LAN, if there is a LAN and it has one
+-- the entry that is held for a LAN; none for no LAN
 abbrev pub held_entry_at : List (Option Entry) → Option ℕ → Option Entry
 held_entry_at by_lan None = None
 held_entry_at by_lan (Some lan) = item_on_lan by_lan lan
@@ -23,13 +25,14 @@ held_entries [] = []
 held_entries (None ∷ places) = held_entries places
 held_entries (Some e ∷ places) = e ∷ held_entries places
 
--- the need of a copy with this sender, by the held entries
+-- the need of a copy that this interface sent, by the held entry of the LAN that it took it from; 1 for the
+-- source's copy
 abbrev pub need_by_held_entries : Net → List (Option Entry) → Option Interface → ℕ
 need_by_held_entries n by_lan None = 1
 need_by_held_entries n by_lan (Some i) = need_over (threshold_of i.1 (row_pairs (n.row i.0)))
     (held_entry_at by_lan (from_lan n (Some i)))
 
--- a copy's entry, by the held entries
+-- a copy's entry, by the held entries: its rank is 255 less its TTL
 abbrev pub entry_by_held_entries : Net → List (Option Entry) → Copy → Entry
 entry_by_held_entries n by_lan c = record {
   lan = c.lan;
@@ -38,6 +41,6 @@ entry_by_held_entries n by_lan c = record {
   forwarder = c.sender;
 }
 
--- the flow's TTL meets the entry's need, or its LAN doesn't want the flow
+-- whether the flow's TTL meets the entry's need, or the entry's LAN doesn't want the flow
 abbrev pub serves : Net → Entry → Bool
 serves n e = nat_le e.need n.ttl || not (n.wants e.lan)

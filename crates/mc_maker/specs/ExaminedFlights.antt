@@ -1,4 +1,5 @@
--- What the result of examining a flow means, with the flights of its travels.
+-- The result of examining a flow (Examined), together with the flights that its travels ended with, from
+-- which an audit explains a fault.
 use Rattle.std.specs.Prelude.{◌≡◌, ℕ, ⊤}
 use Rattle.mc_forward.specs.Domains.{DomainValue, ttl_of}
 use Rattle.mc_replay.specs.Travels.{IsRunTo, replay_of}
@@ -11,21 +12,20 @@ use Rattle.mc_maker.specs.declared.examined_flights.ExaminedFlights.TheVariants.
 use Rattle.mc_maker.specs.declared.examined_flights.ExaminedFlights.TheVariants.{FoundAtTtl255}
 use Rattle.mc_maker.specs.declared.examined_flights.ExaminedFlights.TheVariants.{FoundAtFlowTtl}
 
--- Without the flights, this is the result of examining the flow. `greatest` is the travel at TTL 255, and
--- `least` the one at the flow's TTL.
+-- The result without its flights. `greatest` is the travel at TTL 255, and `least` the one at the flow's TTL.
 abbrev pub without_flights : DomainValue → (flow : ℕ) → ExaminedFlights → Examined
 without_flights d flow (Certified entries) = examined.Certified entries
 without_flights d flow (FoundAtTtl255 ended) = examined.Found 255 ended.travel
 without_flights d flow (FoundAtFlowTtl greatest least) = examined.Found (ttl_of d flow) least.travel
 
--- The travel of a packet of the flow with this TTL in which the first waiting copy is handled each
+-- This is the travel of a packet of the flow with this TTL in which the first waiting copy is handled each
 -- time, and the flight that it ends with.
 pub record IsFinishedTravelOf (d : DomainValue) (flow ttl : ℕ) (ended : FinishedTravel) : Type 0 where
   pub domain : ended.flight.domain ≡ d
   pub flow_of_flight : ended.flight.flow ≡ flow
   pub run : IsRunTo (replay_of d flow ttl first_choices) ended.travel ended.flight.flight
 
--- The travels are those at TTL 255 and, where that one finds nothing, at the flow's TTL.
+-- The travels of the result are the one at TTL 255 and, where that finds nothing, the one at the flow's TTL.
 abbrev pub HasExaminedFlights : DomainValue → (flow : ℕ) → ExaminedFlights → Type 0
 HasExaminedFlights d flow (Certified entries) = ⊤
 HasExaminedFlights d flow (FoundAtTtl255 ended) = IsFinishedTravelOf d flow 255 ended

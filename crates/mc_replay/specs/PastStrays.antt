@@ -1,6 +1,6 @@
--- The run of a packet that goes on past strays: the first waiting copy is handled each time, up to the first
--- flight in which a LAN carried two copies or none waits. Strays are only collected. All of it is our own
--- choice.
+-- The run of a packet that goes on past strays (docs/FORMATS.md, "What is behind a stray"): the first waiting
+-- copy is handled each time, up to the first flight in which a LAN carried two copies or no copy waits.
+-- Strays are only collected. All of it is our own choice.
 use Rattle.std.specs.Prelude.{◌≡◌, ℕ, Bool, true, false, not, ◌&&◌, nat_lt, if◌then◌else◌, List, [], ◌∷◌}
 use Rattle.std.specs.Prelude.{length, Option, is_some, option_map}
 use Rattle.mc_theory.specs.Nets.{Net}
@@ -21,22 +21,23 @@ abbrev pub IsRunPastStrays : Net → List ℕ → Flight → Type 0
 IsRunPastStrays n [] f = goes_on f ≡ false
 IsRunPastStrays n (i ∷ is) f = (goes_on f ≡ true) × (i ≡ 0) × IsRunPastStrays n is (step n i f)
 
--- They lead from flight f to flight g.
+-- The run past strays leads from flight f to flight g.
 pub record EndsPastStrays (n : Net) (f g : Flight) : Type 0 where
   pub picks : List ℕ
   pub stops : IsRunPastStrays n picks f
   pub ends : g ≡ run n (handles picks) f
 
--- the finding of a LAN's second copy, whatever strays there are
+-- what a LAN's second copy shows, whatever strays there are: a loop if it descends from the LAN's own first
+-- copy, or else a duplicate
 abbrev pub finding_of_double : Net → List Copy → Copy → Finding
 finding_of_double n cs c =
     if walk_visits n cs c.lan (length cs) c.sender then Loop c.lan else Duplicate c.lan
 
--- what the carried copies show: a loop or a duplicate, if a LAN carried two
+-- what the carried copies show, if a LAN carried two: a loop or a duplicate
 abbrev pub second_copy_finding : Net → List Copy → Option Finding
 second_copy_finding n cs = option_map (finding_of_double n cs) (first_double [] cs)
 
--- The flight that the run past strays of a packet of the flow with this TTL ends with, and what its carried
+-- The flight with which the run past strays ends, of a packet of the flow with this TTL, and what its carried
 -- copies show.
 pub record IsFlightPastStrays (d : DomainValue) (flow ttl : ℕ) (past : FlightPastStrays) : Type 0 where
   pub domain : past.flight.domain ≡ d

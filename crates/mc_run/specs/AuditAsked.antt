@@ -1,4 +1,5 @@
--- The lines of what hosts ask for and no flow answers, in the text and in the JSON of `mcaudit audit`.
+-- The lines of an audit, as text or in JSON, about what hosts ask for and no flow answers (docs/FORMATS.md,
+-- "What hosts ask for and no flow answers"). Lines are numbered from 0, in their order.
 use Rattle.std.specs.Prelude.{ℕ, Bool, true, false, List, [], ◌++◌, Option, Some, None, flat_map, length}
 use Rattle.std.specs.Prelude.{map, slice_get, unwrap_or}
 use Rattle.mc_topology.specs.Topology.{TopologyValue}
@@ -13,21 +14,22 @@ use Rattle.mc_input.specs.AskedOfFiles.{UnansweredWantsValue}
 use Rattle.mc_json.specs.AskedData.{asked_data, asked_data_of, asked_more_line, asked_services_line}
 use Rattle.mc_json.specs.RowData.{line_of}
 
--- what a router has for the want of the line with a number, by what it has for each
+-- what a router has for the want of the line with this number, by what it has for the want of each line;
+-- nothing where that isn't known
 abbrev pub state_at : (number : ℕ) → Option (List RouterState) → RouterState
 state_at number None = Nothing
 state_at number (Some own) = unwrap_or (slice_get own number) Nothing
 
--- what each router has for it, in the topology's order
+-- what each router has for the want of the line with this number, in the topology's order
 abbrev pub states_of_line : TopologyValue → List (List RouterState) → (number : ℕ) → List RouterState
 states_of_line t states number = map (λ r. state_at number (slice_get states r)) (below (length t.routers))
 
--- a line with what is said of it, as text or in JSON
+-- a line that the audit has made
 abbrev pub line_written : (json : Bool) → TopologyValue → AskedLine → List ℕ
 line_written true t l = line_of (asked_data_of t l)
 line_written false t l = asked_text_of t l
 
--- the line of a want, as text or in JSON, where routers are excluded or not
+-- the line of a want and its LANs, by what each router has for the want; nothing for no line
 abbrev pub asked_line_of : (json : Bool) → TopologyValue → (are_excluded : Bool) → List RouterState
     → Option (Want × List ℕ) → List ℕ
 asked_line_of json t are_excluded states None = []
@@ -36,12 +38,13 @@ asked_line_of true t are_excluded states (Some line) =
 asked_line_of false t are_excluded states (Some line) =
     asked_text t are_excluded (flow_pairs t.flows) states line
 
+-- the line with this number
 abbrev pub numbered_asked_line : (json : Bool) → TopologyValue → (are_excluded : Bool) → UnansweredWantsValue
     → (number : ℕ) → List ℕ
 numbered_asked_line json t are_excluded a number =
     asked_line_of json t are_excluded (states_of_line t a.states number) (slice_get a.lines number)
 
--- how many wants there are besides, and the services
+-- the lines after those of the wants: how many more wants there are, and the services
 abbrev pub asked_end : (json : Bool) → TopologyValue → UnansweredWantsValue → List ℕ
 asked_end true t a = asked_more_line a.further ++ asked_services_line t a.services
 asked_end false t a = asked_more_text a.further ++ services_text a.services

@@ -1,4 +1,5 @@
--- The explanation of a flow's finding, by the flights of its packets.
+-- The explanation of a flow's finding in an audit (docs/FORMATS.md, "The explanation of a finding"), by the
+-- flights that the flow's travels ended with. `whole` is true where no router is excluded.
 use Rattle.std.specs.Prelude.{◌≡◌, ◌==◌, ℕ, Bool, true, false, not, nat_lt, List, [], filter, Option, Some}
 use Rattle.std.specs.Prelude.{None, if◌then◌else◌}
 use Rattle.mc_tables.specs.Summary.{SummaryValue}
@@ -40,7 +41,7 @@ also_missed d flow (FoundAtTtl255 ended) =
 also_missed d flow (FoundAtFlowTtl greatest least) =
     missed_besides d flow least.flight.flight.carried least.travel.finding
 
--- the context of a search for a flow whose packet was carried as these copies, with the marked routers
+-- what a search reads for a flow, of whose packet these are the carried copies; the marked routers are
 -- excluded
 abbrev pub search_context : DomainFacts → List SummaryValue → (excluded : List Bool) → (flow : ℕ) → List Copy
     → Search
@@ -52,7 +53,7 @@ search_context d summary excluded flow copies = record {
   first_copy_on = first_copy_on copies;
 }
 
--- the search for a missed LAN, where a LAN is missed
+-- This is the search for the LAN of the finding, if a LAN is missed; there is none for another finding.
 abbrev pub IsSearchIfMissed : Search → List Event → Finding → Option LanSearch → Type 0
 IsSearchIfMissed s events (Missed lan) (Some found) = IsLanSearch s events lan found
 IsSearchIfMissed s events (Missed lan) None = ⊥
@@ -61,17 +62,16 @@ IsSearchIfMissed s events (Duplicate lan) search = search ≡ None
 IsSearchIfMissed s events (Loop lan) search = search ≡ None
 IsSearchIfMissed s events (Stray router vif) search = search ≡ None
 
--- the search for a LAN that a packet with TTL 255 missed
+-- This is the search for the LAN that a packet with TTL 255 missed, if it missed one.
 abbrev pub IsSearchAt255 : DomainFacts → List SummaryValue → (excluded : List Bool) → (flow : ℕ)
-    → ExaminedFlights
-    → Option LanSearch → Type 0
+    → ExaminedFlights → Option LanSearch → Type 0
 IsSearchAt255 d summary excluded flow (Certified entries) search = search ≡ None
 IsSearchAt255 d summary excluded flow (FoundAtTtl255 ended) search =
     IsSearchIfMissed (search_context d summary excluded flow ended.flight.flight.carried)
     ended.travel.events.items ended.travel.finding search
 IsSearchAt255 d summary excluded flow (FoundAtFlowTtl greatest least) search = search ≡ None
 
--- whether a cause names an oif to remove
+-- whether a cause is a remedy: it names an outgoing vif to take out of an entry
 abbrev pub is_remedy : Cause → Bool
 is_remedy (TakeOut lan router vif least) = true
 is_remedy (SentOnto lan router vif) = false
@@ -81,34 +81,34 @@ is_remedy (OnlyEverySource router vif) = false
 is_remedy (LeastTtl lan least) = false
 is_remedy (StoppedAt router vif threshold ttl) = false
 
--- The causes; without remedies, unless the whole domain is known. A remedy is a change of the known rows,
--- and an excluded router may need what it removes.
+-- The causes, but without remedies where a router is excluded: that router may need what a remedy takes away.
 abbrev pub without_remedies : (whole : Bool) → List Cause → List Cause
 without_remedies true printed = printed
 without_remedies false printed = filter (λ t. not (is_remedy t)) printed
 
--- the printed causes of an examined flow
+-- These are the causes of an examined flow that are printed.
 pub record ArePrintedCauses (whole : Bool) (d : DomainValue) (flow : ℕ) (flights : ExaminedFlights)
-    (printed : List Cause)
-    : Type 0 where
+    (printed : List Cause) : Type 0 where
   pub all : List Cause
   pub explained : IsExplained d flow flights all
   pub shown : printed ≡ without_remedies whole all
 
--- Whether it is known that a flow with a finding isn't right. With routers excluded it isn't, where a LAN is
--- missed whose search comes to one of them: that router may send a copy. No tables of theirs take away a
--- second copy or a stray.
+-- Whether it is known that a flow with a finding isn't right. With routers excluded it isn't known where a
+-- LAN is missed and its search comes to one of them, which may send the LAN a copy. A second copy and a stray
+-- are there whatever the excluded routers have.
 abbrev pub is_known_wrong : (whole : Bool) → Option LanSearch → Bool
 is_known_wrong true search = true
 is_known_wrong false None = true
 is_known_wrong false (Some found) = not (name_excluded_router found.lines.items)
 
--- The TTL from which on packets show the finding. None is said where the flow's own TTL is the greatest.
+-- This is the TTL from which on packets show the finding. None is given where `greatest` is true: the flow's
+-- own TTL is 255.
 abbrev pub IsShownFromUnless : (greatest : Bool) → Net → List Copy → FindingValue → Option ℕ → Type 0
 IsShownFromUnless true n cs x shown = shown ≡ None
 IsShownFromUnless false n cs x shown = IsShownFromIfAny n cs x shown
 
--- of a finding at TTL 255; none is said of one at the flow's TTL
+-- This is the TTL from which on packets show what is found of a packet with TTL 255. None is given for what
+-- is found of one with the flow's own TTL.
 abbrev pub IsShownFromAt255 : DomainValue → (flow : ℕ) → ExaminedFlights → Option ℕ → Type 0
 IsShownFromAt255 d flow (Certified entries) shown = shown ≡ None
 IsShownFromAt255 d flow (FoundAtTtl255 ended) shown = IsShownFromUnless (ttl_of d flow == 255)
@@ -116,8 +116,9 @@ IsShownFromAt255 d flow (FoundAtTtl255 ended) shown = IsShownFromUnless (ttl_of 
 IsShownFromAt255 d flow (FoundAtFlowTtl greatest least) shown = shown ≡ None
 
 -- ---- what a packet with the flow's own TTL meets
--- Of a packet with the flow's own TTL each finding is said, where the whole domain is known. Otherwise a
--- second copy or a stray is, which no tables of the excluded routers take away.
+
+-- What an audit prints of the finding of a packet with the flow's own TTL: the finding, where no router is
+-- excluded; otherwise only a second copy or a stray, which is there whatever the excluded routers have.
 abbrev pub certain_finding : (whole : Bool) → Finding → Option Finding
 certain_finding whole Clean = if whole then Some Clean else None
 certain_finding whole (Missed lan) = if whole then Some (Missed lan) else None
@@ -125,33 +126,37 @@ certain_finding whole (Duplicate lan) = Some (Duplicate lan)
 certain_finding whole (Loop lan) = Some (Loop lan)
 certain_finding whole (Stray router vif) = Some (Stray router vif)
 
--- the finding of the travel of a packet with the flow's TTL, in which the first waiting copy is handled each
--- time
+-- This is what is printed of the travel of a packet with the flow's own TTL in which the first waiting copy
+-- is handled each time.
 pub record IsFoundAtFlowTtl (whole : Bool) (d : DomainValue) (flow : ℕ) (found : Option Finding)
     : Type 0 where
   pub travel : Travel
   pub runs : IsFirstPickTravel d flow (ttl_of d flow) travel
   pub certain : found ≡ certain_finding whole travel.finding
 
--- It is said where that TTL is less than the one from which on packets show the finding at TTL 255.
+-- This is what is printed of that travel: nothing, unless the flow's own TTL is less than the one from which
+-- on packets show the finding (`less`).
 abbrev pub IsFoundAtFlowTtlIf : (less whole : Bool) → DomainValue → (flow : ℕ) → Option Finding → Type 0
 IsFoundAtFlowTtlIf true whole d flow found = IsFoundAtFlowTtl whole d flow found
 IsFoundAtFlowTtlIf false whole d flow found = found ≡ None
 
+-- This is what is printed of that travel, by the TTL from which on packets show the finding, if that is
+-- given.
 abbrev pub IsFoundBelow : (whole : Bool) → DomainValue → (flow : ℕ) → (shown_from : Option ℕ)
     → Option Finding → Type 0
 IsFoundBelow whole d flow None found = found ≡ None
 IsFoundBelow whole d flow (Some k) found =
     IsFoundAtFlowTtlIf (nat_lt (ttl_of d flow) k) whole d flow found
 
--- which packets show the finding
+-- These are the packets that show the finding, and what one with the flow's own TTL meets.
 pub record IsShownBy (whole : Bool) (d : DomainValue) (flow : ℕ) (flights : ExaminedFlights)
     (shown_by : ShownBy) : Type 0 where
   pub from : IsShownFromAt255 d flow flights shown_by.from
   pub below : IsFoundBelow whole d flow shown_by.from shown_by.at_flow_ttl
 
 -- ---- what is behind a stray
--- of this finding of a packet with TTL 255, if it is a stray
+
+-- This is what is behind the stray, if the finding of a packet with TTL 255 is one.
 abbrev pub IsBehindIfStray : (whole : Bool) → DomainValue → (flow : ℕ) → Finding → Option Behind → Type 0
 IsBehindIfStray whole d flow (Stray router vif) None = ⊥
 IsBehindIfStray whole d flow (Stray router vif) (Some b) = IsBehind whole d flow (router, vif) b
@@ -160,7 +165,8 @@ IsBehindIfStray whole d flow (Duplicate lan) behind = behind ≡ None
 IsBehindIfStray whole d flow (Loop lan) behind = behind ≡ None
 IsBehindIfStray whole d flow (Missed lan) behind = behind ≡ None
 
--- A packet with the flow's own TTL makes no stray where one with TTL 255 makes none.
+-- This is what is behind the stray that the examination found, if it found one. A packet with the flow's own
+-- TTL makes no stray where one with TTL 255 makes none.
 abbrev pub IsBehindAt255 : (whole : Bool) → DomainValue → (flow : ℕ) → ExaminedFlights
     → Option Behind → Type 0
 IsBehindAt255 whole d flow (Certified entries) behind = behind ≡ None
@@ -168,7 +174,7 @@ IsBehindAt255 whole d flow (FoundAtTtl255 ended) behind =
     IsBehindIfStray whole d flow ended.travel.finding behind
 IsBehindAt255 whole d flow (FoundAtFlowTtl greatest least) behind = behind ≡ None
 
--- The explanation of the finding of a domain's flow, by the flights of its packets.
+-- This is the explanation of the finding of a domain's flow, by the flights of its travels.
 pub record IsExplanation (d : DomainValue) (summary : List SummaryValue) (excluded : List Bool)
     (whole : Bool) (flow : ℕ) (flights : ExaminedFlights) (x : Explanation) : Type 0 where
   pub printed : ArePrintedCauses whole d flow flights x.printed

@@ -1,4 +1,6 @@
--- The lines of one flow in an audit, as text or in JSON, after those of flows whose trees were printed.
+-- The lines of one flow in an audit, as text or in JSON (docs/FORMATS.md, "The program" and "What
+-- `audit --json` writes"). `printed` are the keys of the trees that the lines of earlier flows have printed,
+-- and `whole` is true where no router is excluded.
 use Rattle.std.specs.Prelude.{ℕ, ◌==◌, ◌&&◌, not, Bool, true, false, List, [], length, Option, Some, None}
 use Rattle.std.specs.Prelude.{if◌then◌else◌}
 use Rattle.mc_tables.specs.Summary.{SummaryValue}
@@ -17,20 +19,22 @@ use Rattle.mc_run.specs.declared.audit.flow_status.FlowStatus.{FlowStatus}
 
 -- ---- a flow that is right
 
--- with the option faults, a right flow that is wanted is hidden
+-- whether the lines of a right flow are left out: with the option faults, if some LAN wants it
 abbrev pub is_hidden : (faults : Bool) → (wanted : List ℕ) → Bool
 is_hidden faults wanted = faults && not (length wanted == 0)
 
+-- the lines of a right flow, unless they are left out
 abbrev pub unless_hidden : (faults : Bool) → (wanted : List ℕ) → (lines : List ℕ) → List ℕ
 unless_hidden faults wanted lines = if is_hidden faults wanted then [] else lines
 
+-- the lines of a right flow with this tree, as text or in JSON
 abbrev pub right_lines_or_object : (json whole : Bool) → DomainFacts → (printed : List Tree)
     → (flow : ℕ) → Tree → (wanted : List ℕ) → List ℕ
 right_lines_or_object true whole d printed flow es wanted = right_objects whole d printed flow es wanted
 right_lines_or_object false whole d printed flow es wanted =
     right_lines whole d.topology flow (length es) wanted
 
--- the lines of a right flow with this tree, where the whole domain is known, or not
+-- the lines of a right flow with this tree, as the options ask
 abbrev pub right_flow_lines : AuditOptions → (whole : Bool) → DomainFacts → (printed : List Tree)
     → (flow : ℕ) → Tree → (wanted : List ℕ) → List ℕ
 right_flow_lines o whole d printed flow es wanted =
@@ -38,6 +42,7 @@ right_flow_lines o whole d printed flow es wanted =
 
 -- ---- a flow with a finding
 
+-- the lines of a flow with a finding, as text or in JSON
 abbrev pub wrong_lines_or_object : (json travels : Bool) → DomainFacts → List SummaryValue
     → (flow ttl : ℕ) → Travel → Explanation → List ℕ
 wrong_lines_or_object true travels d summary flow ttl travel x =
@@ -45,15 +50,16 @@ wrong_lines_or_object true travels d summary flow ttl travel x =
 wrong_lines_or_object false travels d summary flow ttl travel x =
     wrong_lines travels d summary flow travel x
 
+-- the lines of a flow with a finding, as the options ask
 abbrev pub wrong_flow_lines : AuditOptions → DomainFacts → List SummaryValue → (flow ttl : ℕ) → Travel
     → Explanation → List ℕ
 wrong_flow_lines o d summary flow ttl travel x =
     wrong_lines_or_object o.json o.travels d summary flow ttl travel x
 
--- ---- a flow
+-- ---- any flow
 
--- the lines of the flow with this number, by the result of its examination, what explains it, and the
--- LANs that want the flow
+-- the lines of the flow with this number, by the result of its examination, the explanation of its finding,
+-- and the LANs that want it
 abbrev pub answer_lines : AuditOptions → (whole : Bool) → DomainFacts → List SummaryValue
     → (printed : List Tree) → (flow : ℕ) → Examined → Explanation → (wanted : List ℕ) → List ℕ
 answer_lines o whole d summary printed flow (Certified entries) x wanted =
@@ -61,11 +67,13 @@ answer_lines o whole d summary printed flow (Certified entries) x wanted =
 answer_lines o whole d summary printed flow (Found ttl travel) x wanted =
     wrong_flow_lines o d summary flow ttl travel x
 
--- the printed trees after those of this flow, each by its key; text prints none
+-- the printed trees and this flow's, each by its key; text prints none, and neither does a flow whose lines
+-- are left out
 abbrev pub with_shown_tree : (json hidden : Bool) → List Tree → (key : Tree) → List Tree
 with_shown_tree true false printed key = with_tree printed key
 with_shown_tree _ _ printed key = printed
 
+-- the printed trees after the lines of this flow
 abbrev pub shown_trees_with : AuditOptions → Net → List Tree → Examined → (wanted : List ℕ) → List Tree
 shown_trees_with o n printed (Certified entries) wanted =
     with_shown_tree o.json (is_hidden o.faults wanted) printed (tree_key n entries.items)
@@ -73,21 +81,24 @@ shown_trees_with o n printed (Found ttl travel) wanted = printed
 
 -- ---- what is known of a flow
 
--- without a finding it is right, if the whole domain is known; with one it isn't, if that is known
+-- whether the flow is right (`true`) or not (`false`), if that is known. A flow without a finding is known to
+-- be right if no router is excluded.
 abbrev pub known_right : (whole : Bool) → Examined → (known : Bool) → Option Bool
 known_right whole (Certified entries) known = if whole then Some true else None
 known_right whole (Found ttl travel) known = if known then Some false else None
 
--- the status of a flow without a finding, of one with a finding, and of any flow
+-- the status of a flow without a finding
 abbrev pub status_of_right : (whole : Bool) → (wanted : List ℕ) → FlowStatus
 status_of_right whole wanted = record {
   right = if whole then Some true else None;
   unwanted = length wanted == 0;
 }
 
+-- the status of a flow with a finding
 abbrev pub status_of_wrong : (known : Bool) → FlowStatus
 status_of_wrong known = record { right = if known then Some false else None; unwanted = false }
 
+-- the status of a flow
 abbrev pub status_of : (whole : Bool) → Examined → (known : Bool) → (wanted : List ℕ) → FlowStatus
 status_of whole (Certified entries) known wanted = status_of_right whole wanted
 status_of whole (Found ttl travel) known wanted = status_of_wrong known

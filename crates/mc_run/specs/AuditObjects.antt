@@ -1,4 +1,5 @@
--- The objects of a flow in the JSON of `mcaudit audit`, one a line, with the same facts as its text.
+-- The lines of a flow in the JSON of an audit (docs/FORMATS.md, "What `audit --json` writes"). `printed` are
+-- the keys of the trees that earlier lines have printed.
 use Rattle.std.specs.Prelude.{ℕ, Bool, List, [], ◌++◌, map, length, is_some, if◌then◌else◌}
 use Rattle.mc_tables.specs.Summary.{SummaryValue}
 use Rattle.mc_topology.specs.Topology.{flow_at}
@@ -15,22 +16,23 @@ use Rattle.mc_run.specs.AuditText.{Explanation}
 
 -- ---- a flow that is right
 
--- what a flow's tree is told apart by from those that were printed
+-- the key of a flow's tree; trees with the same key are one
 abbrev pub key_of_tree : DomainFacts → (flow : ℕ) → Tree → Tree
 key_of_tree d flow es = tree_key (d.nets flow) es
 
--- the tree of a flow, unless it was printed before
+-- the line of a flow's tree; nothing if it was printed before
 abbrev pub tree_line : DomainFacts → (printed : List Tree) → (flow : ℕ) → Tree → List ℕ
 tree_line d printed flow es =
     if is_some (find_tree printed (key_of_tree d flow es)) then []
     else line_of (tree_data d.topology (d.nets flow) es (length printed))
 
--- the number of a flow's tree, after those that were printed
+-- the number of a flow's tree, in the order in which trees are printed
 abbrev pub tree_number : DomainFacts → (printed : List Tree) → (flow : ℕ) → Tree → ℕ
 tree_number d printed flow es =
     tree_number_of (with_tree printed (key_of_tree d flow es)) (key_of_tree d flow es)
 
--- and after it the flow, with the number of its tree and the LANs that want it
+-- the line of a right flow's tree, if need be, and the line of the flow, with its tree's number and the LANs
+-- that want it
 abbrev pub right_objects : (whole : Bool) → DomainFacts → (printed : List Tree) → (flow : ℕ) → Tree
     → (wanted : List ℕ) → List ℕ
 right_objects whole d printed flow es wanted =
@@ -40,7 +42,7 @@ right_objects whole d printed flow es wanted =
 
 -- ---- a flow with a finding
 
--- the finding, why, the other missed LANs, and with the option the travel
+-- the line of a flow with a finding: the finding, its explanation, and with the option travel the events
 abbrev pub wrong_object : (travels : Bool) → DomainFacts → List SummaryValue → (flow ttl : ℕ) → Travel
     → Explanation → List ℕ
 wrong_object travels d summary flow ttl travel x =

@@ -1,4 +1,5 @@
--- The text of an audited domain, part by part, as its functions append it.
+-- The text of an audit as the code makes it, piece by piece. Most of these definitions are others of the
+-- crate, with arguments that are taken from what the code holds.
 use Rattle.std.specs.Prelude.{◌≡◌, ℕ, Bool, List, ◌++◌, flat_map, length, map, slice_get, Some, take}
 use Rattle.std.specs.Prelude.{Option, Result, Ok, Err}
 use Rattle.mc_forward.specs.ListedTables.{facts}
@@ -45,7 +46,7 @@ audited_value a = record {
   ignored = a.ignored.now;
 }
 
--- what is audited of a folder's domain without what is left out
+-- what is audited of the domain of a folder's files, with what is left out
 abbrev pub audited_without : LeftOutValue → FolderDomain → AuditedValue
 audited_without left read = record {
   domain = read.domain;
@@ -55,25 +56,25 @@ audited_without left read = record {
   ignored = left.groups;
 }
 
--- the interfaces are those of its LANs, and the marks are those of its excluded routers
+-- The interfaces that are kept are those of the domain's LANs, and the marks those of its excluded routers.
 pub record HasItsMarksAndInterfaces (a : AuditedDomain) : Type 0 where
   pub interfaces : a.interfaces.now ≡ interfaces_on_lans (facts a.domain.now)
   pub excluded : a.excluded.now ≡ excluded (audited_value a)
 
--- the LANs that the packet of a finished travel missed besides the one of its finding
+-- the other LANs that the packet of a finished travel missed, beside that of its finding
 abbrev pub also_missed_of : FinishedTravel → List ℕ
 also_missed_of ended = missed_besides (facts ended.flight.domain) ended.flight.flow
     ended.flight.flight.carried ended.travel.finding
 
--- how certain a finding is, by the search for a missed LAN and the packets that show it, where the whole
--- domain is known, or not
+-- how certain a finding is, by the search for the missed LAN, if there was one, and by which packets show the
+-- finding; `whole` is true where no router is excluded
 abbrev pub certainty_of : (whole : Bool) → Option LanSearch → ShownBy → Certainty
 certainty_of whole search shown_by = record {
   known = is_known_wrong whole search;
   shown_by = shown_by;
 }
 
--- the explanation of a finished travel's finding, with these causes, and by these
+-- the explanation of a finished travel's finding, from these parts
 abbrev pub explanation_in : (whole : Bool) → FinishedTravel → List Cause → Option LanSearch
     → Option Behind → ShownBy → Explanation
 explanation_in whole ended printed search behind shown_by = record {
@@ -94,8 +95,8 @@ explanation_value x = record {
   certainty = x.certainty;
 }
 
--- The lines of a flow were appended, after those of flows whose trees were printed, and this is its
--- status.
+-- The lines of a flow were appended, after those of earlier flows, which have printed the trees `printed`;
+-- this is the flow's status, and `new_printed` are the trees that are printed then.
 pub record IsFlowPushed (v : AuditedValue) (o : AuditOptions) (flow : ℕ) (flow_status : FlowStatus)
     (printed new_printed : List Tree) (old new : List ℕ) : Type 0 where
   pub answer : FlowAnswer
@@ -105,7 +106,8 @@ pub record IsFlowPushed (v : AuditedValue) (o : AuditOptions) (flow : ℕ) (flow
   pub shown_trees : new_printed ≡ shown_trees_with o answer.net printed answer.examined answer.wanted
   pub spelled : new ≡ old ++ answer.lines
 
--- The lines of the first k flows were appended, and these are their counts and their trees.
+-- The lines of the first k flows were appended; these are the counts of these flows, and the trees that they
+-- have printed.
 pub record AreFlowsPushed (v : AuditedValue) (o : AuditOptions) (k : ℕ) (s : FlowCounts)
     (printed : List Tree) (old new : List ℕ) : Type 0 where
   pub answers : List FlowAnswer
@@ -135,31 +137,32 @@ lans_wanting_flow a flow = lans_wanting (facts (audited_value a).domain) flow
 abbrev pub status_of_right_flow : AuditedDomain → (flow : ℕ) → FlowStatus
 status_of_right_flow a flow = status_of_right (is_whole (audited_value a)) (lans_wanting_flow a flow)
 
--- a right flow, as text with its number of copies,
+-- the lines of a right flow as text, with its number of copies
 abbrev pub right_lines_of : AuditedDomain → (flow copies : ℕ) → (wanted : List ℕ) → List ℕ
 right_lines_of a flow copies wanted =
     right_lines (is_whole (audited_value a)) (audited_value a).domain.topology flow copies wanted
 
--- in JSON, after the printed trees, of which this one has its key,
+-- the key of a flow's tree
 abbrev pub key_of_shown_tree : AuditedDomain → (flow : ℕ) → Tree → Tree
 key_of_shown_tree a flow es = key_of_tree (facts (audited_value a).domain) flow es
 
+-- the lines of a right flow in JSON
 abbrev pub right_objects_of : AuditedDomain → (printed : List Tree) → (flow : ℕ) → Tree → (wanted : List ℕ)
     → List ℕ
 right_objects_of a printed flow es wanted =
     right_objects (is_whole (audited_value a)) (facts (audited_value a).domain) printed flow es wanted
 
--- and as the options ask,
+-- the lines of a right flow as the options ask
 abbrev pub right_flow_lines_of : AuditedDomain → (printed : List Tree) → (flow : ℕ) → Tree → List ℕ
 right_flow_lines_of a printed flow es = right_flow_lines a.options (is_whole (audited_value a))
     (facts (audited_value a).domain) printed flow es (lans_wanting_flow a flow)
 
--- and the trees that are printed then
+-- the printed trees after the lines of a right flow
 abbrev pub shown_trees_with_right : AuditedDomain → (printed : List Tree) → (flow : ℕ) → Tree → List Tree
 shown_trees_with_right a printed flow es = with_shown_tree a.options.json
     (is_hidden a.options.faults (lans_wanting_flow a flow)) printed (key_of_shown_tree a flow es)
 
--- the context of the search for a LAN that the packet of a finished travel missed
+-- what the search reads for the LAN that the packet of a finished travel missed
 abbrev pub search_context_of : AuditedDomain → (flow : ℕ) → FinishedTravel → Search
 search_context_of a flow ended = search_context (facts (audited_value a).domain) (audited_value a).summary
     (excluded (audited_value a)) flow ended.flight.flight.carried
@@ -179,28 +182,28 @@ abbrev pub behind_lines_of : AuditedDomain → (flow : ℕ) → Option Behind �
 behind_lines_of a flow behind = behind_text (facts (audited_value a).domain)
     (audited_value a).summary flow behind
 
--- the lines that explain the finding of a finished travel
+-- the lines of an explanation
 abbrev pub explanation_lines_of : AuditedDomain → (flow : ℕ) → Explanation → List ℕ
 explanation_lines_of a flow x =
     explanation_lines (facts (audited_value a).domain) (audited_value a).summary flow x
 
--- a flow with a finding, by the finished travel that shows it, of a packet with this TTL: as text,
+-- the lines as text of a flow with a finding, by the travel that shows the finding
 abbrev pub wrong_lines_of : AuditedDomain → (flow : ℕ) → Travel → Explanation → List ℕ
 wrong_lines_of a flow travel x =
     wrong_lines a.options.travels (facts (audited_value a).domain) (audited_value a).summary flow travel x
 
--- in JSON,
+-- the line in JSON of such a flow, by the travel and the TTL of its packet
 abbrev pub wrong_object_of : AuditedDomain → (flow ttl : ℕ) → Travel → Explanation → List ℕ
 wrong_object_of a flow ttl travel x =
     wrong_object a.options.travels (facts (audited_value a).domain) (audited_value a).summary
     flow ttl travel x
 
--- as the options ask,
+-- the lines of such a flow as the options ask
 abbrev pub explained_lines_of : AuditedDomain → (flow ttl : ℕ) → FinishedTravel → Explanation → List ℕ
 explained_lines_of a flow ttl ended x = wrong_flow_lines a.options (facts (audited_value a).domain)
     (audited_value a).summary flow ttl ended.travel x
 
--- and for these reasons
+-- the lines of such a flow as the options ask, by the parts of the explanation
 abbrev pub wrong_flow_lines_of : AuditedDomain → (flow ttl : ℕ) → FinishedTravel → Reasons → List ℕ
 wrong_flow_lines_of a flow ttl ended reasons = explained_lines_of a flow ttl ended
     (explanation_in (is_whole (audited_value a)) ended reasons.causes.items reasons.search reasons.behind
@@ -212,26 +215,26 @@ status_of_wrong_flow a search = status_of_wrong (is_known_wrong (is_whole (audit
 
 -- ---- the lines after the flows, with these counts
 
--- as text, where the verdict is yes or not,
+-- the lines after the flows, as text; `all` is true where the verdict is yes
 abbrev pub end_text_of : AuditedDomain → FlowCounts → (all : Bool) → List ℕ
 end_text_of a s all = end_text a.options (audited_value a).domain.topology (audited_value a).summary
     (audited_value a).asked a.excluded.now (is_whole (audited_value a)) all
     (length (audited_value a).domain.topology.flows) s.right s.wrong s.unknown s.unwanted
 
--- in JSON,
+-- the lines after the flows, in JSON
 abbrev pub end_objects_of : AuditedDomain → FlowCounts → List ℕ
 end_objects_of a s = end_objects a.options (audited_value a).domain.topology (audited_value a).summary
     (audited_value a).asked a.excluded.now (is_whole (audited_value a)) s.right s.wrong s.unknown s.unwanted
 
--- and as the options ask
+-- the lines after the flows, as the options ask
 abbrev pub end_text_or_objects_of : AuditedDomain → FlowCounts → (all : Bool) → List ℕ
 end_text_or_objects_of a s all = end_text_or_objects a.options (audited_value a).domain.topology
     (audited_value a).summary (audited_value a).asked a.excluded.now (is_whole (audited_value a)) all
     (length (audited_value a).domain.topology.flows) s.right s.wrong s.unknown s.unwanted
 
--- ---- the output of an audit
+-- ---- the output and the answer of an audit
 
--- the output of the run, or the fault
+-- the output as any run's, or the fault
 abbrev pub output_of : Result AuditOutput RunFault → Result RunOutput RunFault
 output_of (Ok audit) = Ok audit.run_output
 output_of (Err fault) = Err fault

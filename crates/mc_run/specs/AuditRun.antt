@@ -1,4 +1,5 @@
--- The answer and the text of `mcaudit audit`, and what its yes promises.
+-- The answer and the text of `audit`, and what its yes promises (docs/FORMATS.md, "The program";
+-- docs/PROMISES.md).
 use Rattle.std.specs.Prelude.{◌≡◌, ◌<◌, ◌≤◌, ◌==◌, ◌&&◌, ◌⊎◌, ℕ, Bool, true, false, List, [], ◌++◌, codes}
 use Rattle.std.specs.Prelude.{flat_map, fold, if◌then◌else◌, length, map, slice_get, take, Option, Some}
 use Rattle.std.specs.Prelude.{Result, Ok}
@@ -43,19 +44,24 @@ use Rattle.mc_run.specs.declared.fault.RunFault.{RunFault}
 
 -- ---- the text of a domain
 
--- what an audit leaves out: the tables of the routers of these names, and what hosts ask for of the groups in
--- these ranges
+-- What an audit leaves out.
 pub record LeftOutValue : Type 0 where
+  -- the names of the excluded routers, whose tables are left out
   pub routers : List (List ℕ)
+  -- the ignored ranges of groups: what hosts ask for of these is left out
   pub groups : List (ℕ × ℕ)
 
--- a domain, a summary of each router's cache, what hosts ask for and no flow answers, and what is left out:
--- the names of the excluded routers, and ranges of groups
+-- What is audited.
 pub record AuditedValue : Type 0 where
+  -- the domain, without the excluded routers
   pub domain : DomainValue
+  -- the summary of each router's cache
   pub summary : List SummaryValue
+  -- what hosts ask for and no flow answers
   pub asked : UnansweredWantsValue
+  -- the names of the excluded routers
   pub without : List (List ℕ)
+  -- the ignored ranges of groups
   pub ignored : List (ℕ × ℕ)
 
 -- what is left out, as a value
@@ -66,22 +72,21 @@ left_out left = record { routers = map (λ name. name.now) left.without.now; gro
 abbrev pub excluded : AuditedValue → List Bool
 excluded v = excluded_marks v.domain.topology v.without
 
--- no router is excluded
+-- whether no router is excluded
 abbrev pub is_whole : AuditedValue → Bool
 is_whole v = length v.without == 0
 
--- The flow is examined with this result, and if it is certified, the headline holds for it, with at most
--- as many copies as its list has entries.
+-- The flow is examined with this result; if it is certified, the headline holds for it, with at most as many
+-- copies as its list has entries.
 pub record IsChecked (d : DomainValue) (flow : ℕ) (x : Examined) : Type 0 where
   pub examined : IsExamined d flow x
   pub headline : IfCertified (λ es. HeadlineHolds (net_of d flow) (length es)) x
 
--- What is printed of the flow with this number, after flows whose trees were printed: the result of its
--- examination, by the flights of its packets, what explains it, whether the flow is then known to be right
--- or not, and the LANs that want it; and the lines of all this.
+-- This is printed of the flow with this number, where `printed` are the trees that earlier lines have
+-- printed: the result of its examination, by the flights of its travels; the explanation of its finding;
+-- whether it is then known to be right or not to be; the LANs that want it; and the lines of all this.
 pub record IsFlowAnswer (v : AuditedValue) (o : AuditOptions) (printed : List Tree) (flow : ℕ)
-    (a : FlowAnswer)
-    : Type 0 where
+    (a : FlowAnswer) : Type 0 where
   pub flights : ExaminedFlights
   pub explanation : Explanation
   pub listed : flow < length v.domain.topology.flows
@@ -96,17 +101,17 @@ pub record IsFlowAnswer (v : AuditedValue) (o : AuditOptions) (printed : List Tr
   pub spelled : a.lines ≡ answer_lines o (is_whole v) (facts v.domain) v.summary printed flow
       a.examined explanation a.wanted
 
--- the trees that the lines of these flows print, each once, in the order of first use
+-- the trees that the lines of these flows print, each once, in the order of their first use
 abbrev pub trees_shown : AuditOptions → List FlowAnswer → List Tree
 trees_shown o = fold (λ printed a. shown_trees_with o a.net printed a.examined a.wanted) []
 
--- an answer for each flow of the domain's topology, in order
+-- There is such an answer for each flow of the domain's topology, in order.
 pub record AreFlowAnswers (v : AuditedValue) (o : AuditOptions) (answers : List FlowAnswer) : Type 0 where
   pub count : length answers ≡ length v.domain.topology.flows
   pub each : (flow : ℕ) (a : FlowAnswer) → slice_get answers flow ≡ Some a
       → IsFlowAnswer v o (trees_shown o (take flow answers)) flow a
 
--- whether all flows are right, and no router is excluded
+-- whether the verdict is yes: all flows are right, and no router is excluded
 abbrev pub is_yes : AuditedValue → List FlowAnswer → Bool
 is_yes v answers = is_whole v && are_right answers
 
@@ -118,7 +123,7 @@ audit_text v o answers =
     ++ (end_lines o v.domain.topology v.summary v.asked (excluded v) (is_whole v) (is_yes v answers) answers
     ++ verdict_line o.json (is_yes v answers)))
 
--- The text of the domain's audit, and whether all flows are right and no router is excluded.
+-- This is the text of the domain's audit, and `all` says whether its verdict is yes.
 pub record IsAudited (v : AuditedValue) (o : AuditOptions) (all : Bool) (written : List ℕ)
     : Type 0 where
   pub answers : List FlowAnswer
@@ -126,8 +131,8 @@ pub record IsAudited (v : AuditedValue) (o : AuditOptions) (all : Bool) (written
   pub answer : all ≡ is_yes v answers
   pub spelled : written ≡ audit_text v o answers
 
--- The files mean a domain with these summaries and with what hosts ask for in their lists, without what is
--- left out; the domain's topology has the routers of these names.
+-- The files mean this domain without what is left out, with these summaries of caches and with what hosts ask
+-- for by their lists. The domain's topology has routers of the names that are excluded.
 pub record MeansAudited (o : AuditOptions) (left : LeftOutValue) (files : List FileText)
     (v : AuditedValue) : Type 0 where
   pub means : FilesMeanDomain (files_with_exclusions left.routers files) v.domain
@@ -138,14 +143,15 @@ pub record MeansAudited (o : AuditOptions) (left : LeftOutValue) (files : List F
   pub without : v.without ≡ left.routers
   pub ignored : v.ignored ≡ left.groups
 
--- and this is the text of its audit
+-- The files mean what is audited, this is the text of its audit, and the answer says whether the verdict is
+-- yes.
 abbrev pub IsAuditText : AuditOptions → (left : LeftOutValue) → List FileText → Bool → List ℕ
     → Type 0
 IsAuditText o left files all written =
     MeansDomainWhere (MeansAudited o left) (λ v. IsAudited v o all written) files
 
--- the number of the domain's flows that are right, or without a finding, and wanted by no LAN, and how many
--- wants of LANs no flow answers
+-- The counts are the number of the domain's flows that are right, or without a known fault, and wanted by no
+-- LAN, and the number of wants of LANs that no flow answers.
 pub record HasCounts (v : AuditedValue) (o : AuditOptions) (counts : AuditCounts) : Type 0 where
   pub answers : List FlowAnswer
   pub are_answers : AreFlowAnswers v o answers
@@ -154,17 +160,17 @@ pub record HasCounts (v : AuditedValue) (o : AuditOptions) (counts : AuditCounts
 
 -- ---- what the text says of the flows
 
--- The lines of a flow that isn't right start with this, whatever the finding: that it is wrong, or, where
--- routers are excluded, that this may be unknown.
+-- The lines of a flow that isn't right begin with this, whatever the finding: that the flow is wrong, or that
+-- this isn't known, which can be only where a router is excluded.
 abbrev pub SaysFinding : (json whole : Bool) → TopologyValue → (flow : ℕ) → (lines : List ℕ) → Type 0
 SaysFinding true whole t flow lines = (w : WrongFlow) × (whole ≡ true → w.certainty.known ≡ true)
     × (lines ≡ line_of (wrong_data flow (flow_at t flow) w))
 SaysFinding false whole t flow lines = (known : Bool) × (finding : Finding) × (more : List ℕ)
     × (whole ≡ true → known ≡ true) × (lines ≡ found_flow_line t (flow_at t flow) known finding ++ more)
 
--- The lines of a flow say that it is right, or without a fault that is known, and which LANs want it, if by
--- the known tables it is right (nothing, if it is wanted and only faults are asked for), and otherwise
--- that it has a finding.
+-- If by the known tables the flow is right, its lines say so, or that no fault of it is known, and which LANs
+-- want it (there are none, if it is wanted and only faults are asked for). Otherwise they say that it has a
+-- finding.
 pub record SaysFlowRight (v : AuditedValue) (o : AuditOptions) (flow : ℕ) (lines : List ℕ) : Type 0 where
   pub right : IsRight (net_of v.domain flow) → (printed : List Tree) × (es : Tree)
       × (lines ≡ right_flow_lines o (is_whole v) (facts v.domain) printed flow es
@@ -172,8 +178,8 @@ pub record SaysFlowRight (v : AuditedValue) (o : AuditOptions) (flow : ℕ) (lin
   pub wrong : ¬ IsRight (net_of v.domain flow)
       → SaysFinding o.json (is_whole v) v.domain.topology flow lines
 
--- The text has for each flow lines that say whether it is right, and last whether all flows are right
--- and no router is excluded.
+-- The text has for each flow, in order, lines that say whether it is right, and last the verdict, which is
+-- yes if all flows are right and no router is excluded.
 pub record WritesWhichAreRight (v : AuditedValue) (o : AuditOptions) (all : Bool) (written : List ℕ)
     : Type 0 where
   pub begin : List ℕ
@@ -187,15 +193,15 @@ pub record WritesWhichAreRight (v : AuditedValue) (o : AuditOptions) (all : Bool
   pub are_right : AreRight v.domain right
   pub answer : all ≡ (is_whole v && right)
 
--- the files mean a domain with such a text
+-- The files mean what is audited, and this is such a text of it.
 abbrev pub SaysWhichAreRight : AuditOptions → (left : LeftOutValue) → List FileText → Bool
     → List ℕ → Type 0
 SaysWhichAreRight o left files all written =
     MeansDomainWhere (MeansAudited o left) (λ v. WritesWhichAreRight v o all written) files
 
--- The lines say yes to the flow with a number of copies, or that no fault is known where routers are
--- excluded. By the tables that were read this is true: the flow is right, the checker accepts a list
--- with that number of entries, and the headline holds with that number of copies.
+-- The lines say yes to the flow with a number of copies, or, where routers are excluded, that no fault of it
+-- is known. By the tables that were read this is true: the flow is right, the checker accepts a list with
+-- that number of entries, and the headline holds with at most that number of copies.
 pub record SaysYesOf (v : AuditedValue) (o : AuditOptions) (flow : ℕ) (lines : List ℕ) : Type 0 where
   pub list : Tree
   pub printed : List Tree
@@ -205,33 +211,39 @@ pub record SaysYesOf (v : AuditedValue) (o : AuditOptions) (flow : ℕ) (lines :
   pub spelled : lines ≡ right_flow_lines o (is_whole v) (facts v.domain) printed flow list
       (lans_wanting (facts v.domain) flow)
 
--- The lines give the finding of the flow, and this is true: by the known tables the flow isn't right, and the
--- finding is that of a run of its net, the travel of a packet with this TTL. The explanation is by the
--- flights of the examination. Where a TTL is said from which on packets show the finding, each packet with
--- that TTL or more carries two copies on the finding's LAN, or makes the stray, in each complete run in
--- which no copy is lost. Where it is said what a packet with the flow's own TTL meets, that is the finding of
--- such a packet's travel. What is said to be behind a stray is true of one run of the flow.
+-- The lines give the finding of the flow, and what they say is true.
 pub record SaysWhatIsFound (v : AuditedValue) (o : AuditOptions) (flow : ℕ) (lines : List ℕ)
     : Type 0 where
   pub ttl : ℕ
   pub travel : Travel
   pub flights : ExaminedFlights
   pub explanation : Explanation
+  -- By the known tables the flow isn't right.
   pub wrong : ¬ IsRight (net_of v.domain flow)
+  -- The finding is that of the travel of a packet with this TTL in which the first waiting copy is handled
+  -- each time;
   pub runs : IsFirstPickTravel v.domain flow ttl travel
+  -- it is a fault;
   pub fault : FindsFault travel
+  -- and the TTL is 255 if a fault is found there, and otherwise the flow's.
   pub ttl_shown : IsTtlOfFault v.domain flow ttl
+  -- The explanation is by the flights of the examination. Where a finding is given of a packet with the
+  -- flow's own TTL, it is that of such a packet's travel.
   pub has_flights : HasExaminedFlights v.domain flow flights
   pub explained : IsExplanation v.domain v.summary (excluded v) (is_whole v) flow flights
       explanation
+  -- Where a TTL is given from which on packets show the finding, each packet with that TTL or more carries
+  -- two copies on the finding's LAN, or makes the stray, in each complete run in which no copy is lost.
   pub shown : (k t : ℕ) → explanation.certainty.shown_by.from ≡ Some k → k ≤ t
       → EachCompleteRunHasFault (net_of v.domain flow) t (finding_value travel.finding)
+  -- What is given as behind a stray is true of one run of the flow.
   pub behind : (b : Behind) → explanation.behind ≡ Some b
       → IsTrueBehind v.domain flow b
+  -- The lines give all of this.
   pub spelled : lines ≡ wrong_flow_lines o (facts v.domain) v.summary flow ttl travel explanation
 
--- The text has for each flow, in order, lines that truly say the one or the other, and last the line
--- with the verdict.
+-- The text has for each flow, in order, lines that truly say yes or what is found, and last the line with the
+-- verdict.
 pub record WritesOfEach (v : AuditedValue) (o : AuditOptions) (all : Bool) (written : List ℕ)
     : Type 0 where
   pub begin : List ℕ
@@ -242,7 +254,7 @@ pub record WritesOfEach (v : AuditedValue) (o : AuditOptions) (all : Bool) (writ
       → SaysYesOf v o flow ls ⊎ SaysWhatIsFound v o flow ls
   pub spelled : written ≡ begin ++ (flat_map (λ ls. ls) lines ++ (end ++ verdict_line o.json all))
 
--- the files mean a domain with such a text
+-- The files mean what is audited, and this is such a text of it.
 abbrev pub SaysOfEach : AuditOptions → (left : LeftOutValue) → List FileText → Bool → List ℕ
     → Type 0
 SaysOfEach o left files all written =
@@ -250,9 +262,9 @@ SaysOfEach o left files all written =
 
 -- ---- what is found with routers excluded
 
--- The lines give the finding of the flow at a TTL from its own to 255. If that is a second copy on a LAN,
--- or a copy that leaves the domain, the flow isn't right either in the domain that the files mean without
--- any exclusion, if they mean one.
+-- The lines give the finding of the flow at a TTL from its own to 255. If the finding is a second copy on a
+-- LAN, or a stray, then the flow isn't right either in the domain that the files mean without any exclusion,
+-- if they mean one.
 pub record IsFoundInWhole (v : AuditedValue) (o : AuditOptions) (files : List FileText) (flow : ℕ)
     (lines : List ℕ) : Type 0 where
   pub ttl : ℕ
@@ -265,7 +277,8 @@ pub record IsFoundInWhole (v : AuditedValue) (o : AuditOptions) (files : List Fi
   pub wrong : IsSecondCopyOrStray (finding_value travel.finding) → (whole : DomainValue)
       → FilesMeanDomain files whole → ¬ IsRight (net_of whole flow)
 
--- The text has for each flow, in order, lines that say yes to it, or such a finding.
+-- The text has for each flow, in order, lines that say yes to it or give such a finding, and last the line
+-- with the verdict.
 pub record WritesOfEachInWhole (v : AuditedValue) (o : AuditOptions) (files : List FileText) (all : Bool)
     (written : List ℕ) : Type 0 where
   pub begin : List ℕ
@@ -276,7 +289,7 @@ pub record WritesOfEachInWhole (v : AuditedValue) (o : AuditOptions) (files : Li
       → SaysYesOf v o flow ls ⊎ IsFoundInWhole v o files flow ls
   pub spelled : written ≡ begin ++ (flat_map (λ ls. ls) lines ++ (end ++ verdict_line o.json all))
 
--- the files mean a domain, without these routers, with such a text
+-- The files mean what is audited, and this is such a text of it.
 abbrev pub AreFoundInWhole : AuditOptions → (left : LeftOutValue) → List FileText → Bool
     → List ℕ → Type 0
 AreFoundInWhole o left files all written =
@@ -290,34 +303,35 @@ pub record KeepsHeadlineByLists (d : DomainValue) : Type 0 where
   pub are_examined : AreExamined d examined
   pub keeps : KeepsHeadline d (certified_lists examined)
 
--- the files mean a domain of which this holds
+-- The files mean a domain of which this holds.
 abbrev pub FilesKeepHeadline : List FileText → Type 0
 FilesKeepHeadline = MeansDomainWhere FilesMeanDomain KeepsHeadlineByLists
 
 -- ---- the line that says yes
 
--- the line of JSON, but for its line feed
+-- the line of a yes in JSON, but for its line feed
 abbrev pub yes_object : List ℕ
 yes_object = codes "{\"verdict\":\"yes\"}"
 
--- the words that begin the line of a yes: those of text, or the object of JSON
+-- These are words that begin the line of a yes: the text's, or the object of JSON.
 abbrev pub AreYesWords : (words : List ℕ) → Type 0
 AreYesWords words = (words ≡ codes "verdict yes") ⊎ (words ≡ yes_object)
 
+-- the words of a yes in this form
 abbrev pub yes_words : (json : Bool) → List ℕ
 yes_words json = if json then yes_object else codes "verdict yes"
 
--- Where the words of a yes start a line of the text, the answer is yes, the words are those of this form,
--- and the line is the last one.
+-- Where the words of a yes are at the start of a line of the text, the answer is yes, the words are those of
+-- this form, and the line is the last one.
 abbrev pub IsYesLineLast : (json all : Bool) → (written : List ℕ) → Type 0
 IsYesLineLast json all written = (words front rest : List ℕ) → IsLineStart front
     → AreYesWords words → written ≡ front ++ (words ++ rest)
     → (all ≡ true) × (words ≡ yes_words json) × (rest ≡ codes "\n")
 
--- the words of a yes, in text or in JSON, were written at the start of a line
+-- The words of a yes, of text or of JSON, were written at the start of a line.
 abbrev pub WroteYesLine : Option (List ℕ) → Option (List ℕ) → Type 0
 WroteYesLine old new = WroteYes old new ⊎ WroteAtStart yes_object old new
 
--- an audit says yes by its answer or by what it wrote, whole or in part
+-- An audit says yes by its answer or by what it wrote, whole or in part.
 abbrev pub AuditSaysYes : Result Bool RunFault → Option (List ℕ) → Option (List ℕ) → Type 0
 AuditSaysYes result old new = (result ≡ Ok true) ⊎ WroteYesLine old new

@@ -1,5 +1,6 @@
--- The lines of a flow in the text of `mcaudit audit`: that it is right and which LANs want it, or that it is
--- wrong, or may be, by the finding, what explains that, and with the option the travel that shows it.
+-- The lines of a flow in the text of `audit` (docs/FORMATS.md, the section "The program"): that it is right
+-- and which LANs want it, or what is found of it, the explanation of that, and with the option travel the
+-- events.
 use Rattle.std.specs.Prelude.{ℕ, Bool, true, false, List, [], ◌++◌, Option, Some, None, codes, decimal}
 use Rattle.mc_tables.specs.Summary.{SummaryValue}
 use Rattle.mc_topology.specs.declared.flow.Flow.{Flow}
@@ -23,67 +24,74 @@ use Rattle.mc_run.specs.VerdictText.{flow_line, flow_words}
 
 -- ---- a flow that is right
 
--- the checker's yes with the number of copies; without the whole domain, that no fault is known
+-- the first line of a right flow, with the number of copies; where a router is excluded it says that no fault
+-- is known
 abbrev pub right_line : (whole : Bool) → TopologyValue → Flow → (copies : ℕ) → List ℕ
 right_line true t f copies = flow_line t f (Yes copies)
 right_line false t f copies =
     flow_words f ++ (codes " no fault known copies " ++ (decimal copies ++ codes "\n"))
 
--- for the flow with this number, and the LANs that want it
+-- the lines of the right flow with this number: the first one, and that of the LANs that want it
 abbrev pub right_lines : (whole : Bool) → TopologyValue → (flow copies : ℕ) → (wanted : List ℕ) → List ℕ
 right_lines whole t flow copies wanted =
     right_line whole t (flow_at t flow) copies ++ wanted_text t wanted
 
 -- ---- a flow with a finding
 
--- The explanation of a finding: its causes, the search if a LAN is missed at TTL 255, the other missed
--- LANs, what is behind a stray, and how certain the finding is.
+-- The explanation of a finding.
 pub record Explanation : Type 0 where
+  -- the causes that are printed
   pub printed : List Cause
+  -- the search for the LAN that a packet with TTL 255 missed, if it missed one
   pub search : Option LanSearch
+  -- the other LANs that the packet missed
   pub also : List ℕ
+  -- what is behind a stray, if the finding is one
   pub behind : Option Behind
+  -- how certain the finding is
   pub certainty : Certainty
 
--- that the flow is wrong, or, where that isn't known, unknown
+-- whether the flow is known to be wrong, in a word
 abbrev pub known_word : (known : Bool) → List ℕ
 known_word true = codes "wrong"
 known_word false = codes "unknown"
 
--- the line of a flow with a finding
+-- the first line of a flow with a finding
 abbrev pub found_flow_line : TopologyValue → Flow → (known : Bool) → Finding → List ℕ
 found_flow_line t f known finding = flow_words f
     ++ (codes " " ++ (known_word known ++ (codes ": " ++ (finding_text t finding ++ codes "\n"))))
 
--- from which TTL on packets show the finding, if that is said
+-- the line that gives the TTL from which on packets show the finding; nothing where none is given
 abbrev pub shown_from_text : Option ℕ → List ℕ
 shown_from_text None = []
 shown_from_text (Some ttl) =
     codes "  shown by packets sent with ttl " ++ (decimal ttl ++ codes " or more\n")
 
--- what a packet with the flow's own TTL meets, if that is said
+-- the line that gives what is found of a packet with the flow's own TTL; nothing where none is given
 abbrev pub at_flow_ttl_text : TopologyValue → (ttl : ℕ) → Option Finding → List ℕ
 at_flow_ttl_text t ttl None = []
 at_flow_ttl_text t ttl (Some finding) = codes "  with this flow's ttl "
     ++ (decimal ttl ++ (codes ": " ++ (finding_text t finding ++ codes "\n")))
 
--- which packets show the finding, for a flow with this TTL
+-- these two lines, of a flow with this TTL
 abbrev pub shown_by_text : TopologyValue → (ttl : ℕ) → ShownBy → List ℕ
 shown_by_text t ttl shown_by =
     shown_from_text shown_by.from ++ at_flow_ttl_text t ttl shown_by.at_flow_ttl
 
+-- the lines of the search, if there was one
 abbrev pub searched_lines : DomainFacts → List SummaryValue → (flow : ℕ) → Option LanSearch → List ℕ
 searched_lines d summary flow None = []
 searched_lines d summary flow (Some found) =
     search_text d summary flow found.lines.items found.reach.sent_on.items
     found.reach.took_none.items
 
--- the second copy behind a stray, if there is one: what it shows, and after four spaces its causes and from
--- which TTL on packets show it
+-- the line `shown by` after four spaces; nothing where no TTL is given
 abbrev pub deeper_shown_from_text : Option ℕ → List ℕ
 deeper_shown_from_text None = []
 deeper_shown_from_text (Some ttl) = codes "  " ++ shown_from_text (Some ttl)
 
+-- the lines of a second copy behind a stray, if there is one: its finding, and after four spaces its causes
+-- and the line `shown by`
 abbrev pub second_behind_text : DomainFacts → List SummaryValue → (flow : ℕ) → List Cause → Option ℕ
     → Option Finding → List ℕ
 second_behind_text d summary flow causes shown_from None = []
@@ -91,25 +99,27 @@ second_behind_text d summary flow causes shown_from (Some finding) =
     codes "  behind it: " ++ (finding_text d.topology finding ++ (codes "\n"
     ++ (deeper_causes_text d summary flow causes ++ deeper_shown_from_text shown_from)))
 
--- what is behind a stray, if the finding is one
+-- the lines of what is behind a stray, if the finding is one
 abbrev pub behind_text : DomainFacts → List SummaryValue → (flow : ℕ) → Option Behind → List ℕ
 behind_text d summary flow None = []
 behind_text d summary flow (Some b) =
     second_behind_text d summary flow b.causes.items b.shown_from b.finding
     ++ leaks_behind_text d b.strays.items b.open_routers.items b.missed.items
 
+-- the lines that explain a finding, but those of which packets show it
 abbrev pub explanation_lines : DomainFacts → List SummaryValue → (flow : ℕ) → Explanation → List ℕ
 explanation_lines d summary flow x =
     causes_text d summary flow x.printed
     ++ (searched_lines d summary flow x.search
     ++ (also_missed_text d.topology x.also ++ behind_text d summary flow x.behind))
 
--- the events of a travel, if travels are to be printed
+-- the lines of a travel's events, if travels are to be printed
 abbrev pub events_if_shown : (travels : Bool) → TopologyValue → Travel → List ℕ
 events_if_shown true t travel = event_lines t travel.events.items
 events_if_shown false t travel = []
 
--- the finding, who shows it, what explains it, and with the option the travel that shows it
+-- the lines of a flow with a finding: the finding, which packets show it, the explanation, and with the
+-- option travel the events
 abbrev pub wrong_lines : (travels : Bool) → DomainFacts → List SummaryValue → (flow : ℕ) → Travel
     → Explanation → List ℕ
 wrong_lines travels d summary flow travel x =

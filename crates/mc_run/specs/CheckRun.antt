@@ -1,4 +1,5 @@
--- The answer and the text of `mcaudit check`, and what its yes promises.
+-- The answer and the text of `check`, and what its yes promises (docs/FORMATS.md, "The program";
+-- docs/PROMISES.md).
 use Rattle.std.specs.Prelude.{◌≡◌, ℕ, ◌<◌, Bool, true, List, [], ◌∷◌, ◌++◌, codes, length, ◌⊎◌}
 use Rattle.std.specs.Prelude.{Option, Some, Result, Ok}
 use Rattle.mc_theory.specs.Headline.{HeadlineHolds}
@@ -12,8 +13,8 @@ use Rattle.mc_run.specs.VerdictText.{AreVerdicts, are_yes, check_text}
 
 -- ---- answers and texts
 
--- The text of the verdicts on a domain's flows by the lists of a certificate, and whether all verdicts
--- are yes.
+-- This is the text of the verdicts on a domain's flows by the lists of a certificate, and the answer is
+-- whether all verdicts are yes.
 pub record IsTextOfVerdicts (d : DomainValue) (lists : List Tree) (all : Bool) (written : List ℕ)
     : Type 0 where
   pub verdicts : List Verdict
@@ -21,29 +22,29 @@ pub record IsTextOfVerdicts (d : DomainValue) (lists : List Tree) (all : Bool) (
   pub answer : all ≡ are_yes verdicts
   pub spelled : written ≡ check_text d.topology verdicts
 
--- The text means a domain with a certificate, for which this is the text of the verdicts; and whether
--- all verdicts are yes.
+-- The bundle means a domain with a certificate, and this is the text of the verdicts; the answer is whether
+-- all are yes.
 abbrev pub IsVerdictText : List ℕ → Bool → List ℕ → Type 0
 IsVerdictText text all written =
     MeansDomainWhere MeansWithLists (λ c. IsTextOfVerdicts c.domain c.lists all written) text
 
 -- ---- the headline
 
--- a line starts after these bytes
+-- After these bytes a line begins.
 abbrev pub IsLineStart : List ℕ → Type 0
 IsLineStart front = (front ≡ []) ⊎ ((before : List ℕ) × (front ≡ before ++ 10 ∷ []))
 
--- these bytes were written at the start of a line
+-- The words were written at the start of a line.
 abbrev pub WroteAtStart : (words : List ℕ) → Option (List ℕ) → Option (List ℕ) → Type 0
 WroteAtStart words (Some old) (Some new) =
     (front rest : List ℕ) × IsLineStart front × (new ≡ old ++ (front ++ (words ++ rest)))
 WroteAtStart words _ _ = ⊥
 
--- the eleven bytes `verdict yes` were written at the start of a line
+-- The words `verdict yes` were written at the start of a line.
 abbrev pub WroteYes : Option (List ℕ) → Option (List ℕ) → Type 0
 WroteYes = WroteAtStart (codes "verdict yes")
 
--- a run says yes by its answer or by what it wrote, whole or in part
+-- A run says yes by its answer or by what it wrote, whole or in part.
 abbrev pub SaysYes : Result Bool RunFault → Option (List ℕ) → Option (List ℕ) → Type 0
 SaysYes result old new = (result ≡ Ok true) ⊎ WroteYes old new
 
@@ -56,6 +57,6 @@ KeepsHeadline d lists =
     (flow : ℕ) → flow < length d.topology.flows
     → HeadlineHolds (net_of d flow) (length (tree_at lists flow))
 
--- the text means a domain and a certificate for which the headline holds
+-- The bundle means a domain and a certificate for which the headline holds.
 abbrev pub BundleKeepsHeadline : List ℕ → Type 0
 BundleKeepsHeadline = MeansDomainWhere MeansWithLists (λ c. KeepsHeadline c.domain c.lists)

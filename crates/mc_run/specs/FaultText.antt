@@ -1,4 +1,5 @@
--- The text of a file's first fault: its place in the file, and what is wrong there.
+-- How an audit prints the first fault of a file: its place in the file, and its kind (docs/FORMATS.md, the
+-- section "The program"). The kinds are those of the sections on each file.
 use Rattle.std.specs.Prelude.{ℕ, ◌==◌, List, ◌++◌, Option, Some, None, if◌then◌else◌, codes, decimal}
 use Rattle.mc_igmp.specs.declared.fault.ListFault.{ListFault}
 use Rattle.mc_igmp.specs.declared.fault.ListFaultKind.{ListFaultKind}
@@ -14,8 +15,9 @@ use Rattle.mc_input.specs.declared.fault.InputFault.{InputFault}
 use Rattle.mc_input.specs.declared.fault.InputFault.TheVariants.{Bundle, Parts, Topology, Vif}
 use Rattle.mc_input.specs.declared.fault.InputFault.TheVariants.{Cache, Reports, Memory}
 
--- ---- what is wrong, in a word
+-- ---- the kinds of faults by their names
 
+-- the kind of a fault of a kernel's table
 abbrev pub table_word : TableFaultKind → List ℕ
 table_word table.NoHeader = codes "NoHeader"
 table_word table.Unended = codes "Unended"
@@ -35,6 +37,7 @@ table_word table.RepeatedEntry = codes "RepeatedEntry"
 table_word table.TooLarge = codes "TooLarge"
 table_word table.Memory = codes "Memory"
 
+-- the kind of a fault of a report list
 abbrev pub list_word : ListFaultKind → List ℕ
 list_word list.BadHex = codes "BadHex"
 list_word list.Short = codes "Short"
@@ -45,6 +48,7 @@ list_word list.TooLarge = codes "TooLarge"
 list_word list.Unended = codes "Unended"
 list_word list.Memory = codes "Memory"
 
+-- the kind of a fault of a topology
 abbrev pub topology_word : TopologyFaultKind → List ℕ
 topology_word topology.NotToml = codes "NotToml"
 topology_word topology.BadVersion = codes "BadVersion"
@@ -62,31 +66,31 @@ topology_word topology.RepeatedFlow = codes "RepeatedFlow"
 topology_word topology.TooMany = codes "TooMany"
 topology_word topology.Memory = codes "Memory"
 
--- ---- with the place
+-- ---- faults with their places
 
--- as `line 3: BadIif`
+-- a fault of a kernel's table, such as `line 3: BadIif`
 abbrev pub table_fault_text : TableFault → List ℕ
 table_fault_text fault =
     codes "line " ++ (decimal fault.line ++ (codes ": " ++ table_word fault.kind))
 
--- as `line 3 record 1: StateChange`
+-- a fault of a report list, such as `line 3 record 1: StateChange`
 abbrev pub list_fault_text : ListFault → List ℕ
 list_fault_text fault =
     codes "line " ++ (decimal fault.line
     ++ (codes " record " ++ (decimal fault.record_no ++ (codes ": " ++ list_word fault.kind))))
 
--- as `router 2: BadName`
+-- a fault of a topology, such as `router 2: BadName`
 abbrev pub topology_fault_text : TopologyFault → List ℕ
 topology_fault_text fault =
     section_text fault.section
     ++ (codes " " ++ (decimal fault.number ++ (codes ": " ++ topology_word fault.kind)))
 
--- the greatest size of a file is that of a bundle's part
+-- that a file is larger than a bundle's part may be
 abbrev pub too_large_text : List ℕ
 too_large_text = codes "larger than " ++ (decimal 16777216 ++ codes " bytes")
 
--- A file's first fault. Of the last three kinds a file only has that of a bundle whose part is too large:
--- `Parts` is a whole bundle's, and no file is refused because memory ran out.
+-- A file's first fault. Of the last three kinds a file has only that of a bundle whose part is too large:
+-- `Parts` is of a whole bundle, and no file is refused because memory ran out.
 abbrev pub fault_text : InputFault → List ℕ
 fault_text (Topology fault) = topology_fault_text fault
 fault_text (Vif name fault) = table_fault_text fault
@@ -98,10 +102,11 @@ fault_text Memory = too_large_text
 
 -- ---- the line of a fault
 
--- a line by its number, counted from 1; 0 means none
+-- the number of a line, counted from 1; none for 0
 abbrev pub line_or_none : ℕ → Option ℕ
 line_or_none line = if line == 0 then None else Some line
 
+-- the number of the line that has the fault, if one has it
 abbrev pub line_of_fault : InputFault → Option ℕ
 line_of_fault (Vif name fault) = line_or_none fault.line
 line_of_fault (Cache name fault) = line_or_none fault.line

@@ -1,4 +1,5 @@
--- The faults that each run can return, whatever its devices do.
+-- The faults that each run can return (docs/FORMATS.md, the section "The program"), whatever its devices do:
+-- those of what it reads, those of its devices, and that memory ran out.
 use Rattle.std.specs.Prelude.{◌≡◌, ℕ, ⊤}
 use Rattle.mc_text.specs.declared.bundle.bundle_fault.BundleFault.TheVariants as bundle
 use Rattle.mc_run.specs.declared.fault.RunFault.{RunFault}
@@ -7,7 +8,7 @@ use Rattle.mc_run.specs.declared.fault.RunFault.TheVariants.{PartReports, Report
 use Rattle.mc_run.specs.declared.fault.RunFault.TheVariants.{NoSuchFlow, NoSuchRouter, Read, Write}
 use Rattle.mc_run.specs.declared.fault.RunFault.TheVariants.{Memory}
 
--- `wants`, for one report list
+-- a fault that `wants` can return, which reads one report list
 abbrev pub IsFaultOfWants : RunFault → Type 0
 IsFaultOfWants (Reports fault) = ⊤
 IsFaultOfWants Read = ⊤
@@ -15,7 +16,7 @@ IsFaultOfWants Write = ⊤
 IsFaultOfWants Memory = ⊤
 IsFaultOfWants _ = ⊥
 
--- `make`, for a bundle without a certificate
+-- a fault that `make` can return, which reads a bundle without a certificate
 abbrev pub IsFaultOfMake : RunFault → Type 0
 IsFaultOfMake (Bundle fault) = ⊤
 IsFaultOfMake (Parts place) = ⊤
@@ -28,18 +29,19 @@ IsFaultOfMake Write = ⊤
 IsFaultOfMake Memory = ⊤
 IsFaultOfMake _ = ⊥
 
--- `check`, for a bundle with a certificate
+-- a fault that `check` can return, which reads a bundle with a certificate
 abbrev pub IsFaultOfCheck : RunFault → Type 0
 IsFaultOfCheck (Certificate fault) = ⊤
 IsFaultOfCheck fault = IsFaultOfMake fault
 
--- `replay`, for a bundle without a certificate, and for this flow
+-- a fault that `replay` can return, which reads a bundle without a certificate; the topology may not list the
+-- flow
 abbrev pub IsFaultOfReplay : (flow : ℕ) → RunFault → Type 0
 IsFaultOfReplay flow (NoSuchFlow number) = number ≡ flow
 IsFaultOfReplay flow fault = IsFaultOfMake fault
 
--- `pack`, for files of which only the topology is checked. A file that is too large for a part, and
--- files that are too large for a bundle, are a fault of the bundle.
+-- a fault that `pack` can return, which reads files and judges only the topology; files that are too large
+-- for a part or for a bundle are a fault of the bundle
 abbrev pub IsFaultOfPack : RunFault → Type 0
 IsFaultOfPack (Bundle bundle.TooLarge) = ⊤
 IsFaultOfPack (Topology fault) = ⊤
@@ -48,8 +50,8 @@ IsFaultOfPack Write = ⊤
 IsFaultOfPack Memory = ⊤
 IsFaultOfPack _ = ⊥
 
--- `audit`, for files that are all checked, and for the names of excluded routers. A file that is too
--- large is a fault of the bundle that it would be a part of.
+-- a fault that `audit` can return, which reads files and judges them all; a name of an excluded router may be
+-- in no topology, and a file that is too large is a fault of the bundle that it would be a part of
 abbrev pub IsFaultOfAudit : RunFault → Type 0
 IsFaultOfAudit (Bundle bundle.TooLarge) = ⊤
 IsFaultOfAudit (Topology fault) = ⊤

@@ -1,5 +1,5 @@
--- What a bundle with a certificate means: a domain, and a list of entries for each of its flows. And why
--- a bundle, or a folder's files, are refused.
+-- What a bundle with a certificate means: a domain, and a list of entries for each of its flows; and why a
+-- bundle, or a folder's files, are refused (docs/FORMATS.md, "The parts of a domain" and "Certificate").
 use Rattle.std.specs.Prelude.{◌≡◌, ℕ, Bool, IsTrue, List, Some, Err, ⊤}
 use Rattle.mc_forward.specs.Domains.{DomainValue}
 use Rattle.mc_cert.specs.Certificate.{Tree}
@@ -21,40 +21,40 @@ use Rattle.mc_run.specs.RunFault.{from_exclusion_fault}
 
 -- ---- what it means
 
--- The bundle means the domain, and its certificate denotes a list of entries for each of the domain's
--- flows.
+-- The bundle means the domain, and its certificate denotes these lists of entries, one for each of the
+-- domain's flows.
 pub record MeansCertified (text : List ℕ) (d : DomainValue) (lists : List Tree) : Type 0 where
   pub certificate : List ℕ
   pub domain : MeansDomain text (Some certificate) d
   pub lists_denoted : DenotesCertificate d.topology certificate lists
 
--- a domain, and a list of entries for each of its flows,
+-- A domain, and a list of entries for each of its flows.
 pub record CertifiedDomain : Type 0 where
   pub domain : DomainValue
   pub lists : List Tree
 
--- and a bundle that means them
+-- The bundle means this domain, with these lists.
 abbrev pub MeansWithLists : List ℕ → CertifiedDomain → Type 0
 MeansWithLists text c = MeansCertified text c.domain c.lists
 
 -- ---- why an input is refused
 
--- All other parts are valid, and this is the first fault of the certificate.
+-- All parts but the certificate are valid, and this is the certificate's first fault.
 abbrev pub HasBadCertificate : List ℕ → CertFault → Type 0
 HasBadCertificate text fault =
     (certificate : List ℕ) × (d : DomainValue) × MeansDomain text (Some certificate) d
     × (parse_certificate d.topology certificate ≡ Err fault)
 
--- The fault of a run that reads a bundle, with or without a certificate, is the bundle's first one: the
--- parts are checked in their order, and the certificate last. A device's fault and lack of memory say
--- nothing about the text.
+-- This is the fault of a run that reads the bundle, with a certificate or without: the bundle's first one,
+-- where the parts are judged in their order, and the certificate last. A device's fault and lack of memory
+-- say nothing about the text.
 abbrev pub IsRefusedFor : (certified : Bool) → List ℕ → RunFault → Type 0
 IsRefusedFor certified text (Bundle fault) = input_of_bundle certified text ≡ Err (input.Bundle fault)
 IsRefusedFor certified text (Parts place) = input_of_bundle certified text ≡ Err (input.Parts place)
 IsRefusedFor certified text (Topology fault) = input_of_bundle certified text ≡ Err (input.Topology fault)
 IsRefusedFor certified text (Vif part fault) = input_of_bundle certified text ≡ Err (input.Vif part fault)
-IsRefusedFor certified text (Cache part fault) = input_of_bundle certified text
-    ≡ Err (input.Cache part fault)
+IsRefusedFor certified text (Cache part fault) =
+    input_of_bundle certified text ≡ Err (input.Cache part fault)
 IsRefusedFor certified text (PartReports part fault) =
     input_of_bundle certified text ≡ Err (input.Reports part fault)
 IsRefusedFor certified text (Certificate fault) = IsTrue certified × HasBadCertificate text fault
@@ -66,8 +66,8 @@ IsRefusedFor certified text Read = ⊤
 IsRefusedFor certified text Write = ⊤
 IsRefusedFor certified text Memory = ⊤
 
--- The fault of a run on the files without the routers of these names is the topology's, the first name
--- that no router has, or the first fault of the other files, in the order in which they are read. A
+-- This is the fault of a run on the files without the routers of these names: the topology's, that of the
+-- first name that no router has, or the first one of the other files, in the order in which they are read. A
 -- device's fault and lack of memory say nothing about the files.
 abbrev pub AreRefusedWithout : (names : List (List ℕ)) → List FileText → RunFault → Type 0
 AreRefusedWithout names files Read = ⊤

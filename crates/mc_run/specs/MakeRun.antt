@@ -1,4 +1,4 @@
--- The answer and the text of `mcaudit make`.
+-- The answer and the text of `make` (docs/FORMATS.md, "The program" and "Certificate").
 use Rattle.std.specs.Prelude.{◌≡◌, ◌↔◌, ℕ, ◌<◌, Bool, true, false, All, IsTrue, List, [], ◌∷◌, ◌++◌}
 use Rattle.std.specs.Prelude.{codes, decimal}
 use Rattle.std.specs.Prelude.{length, map, slice_get, Some}
@@ -24,48 +24,56 @@ use Rattle.mc_run.specs.VerdictText.{flow_words}
 
 -- ---- examinations
 
--- What the result of examining a flow means. If the flow is certified, its entries are accepted, by
--- ascending numbers of their LANs, of the topology, which a certificate can hold, and those of the
--- copies that the travel at TTL 255 carried.
+-- This is the result of examining a flow: entries that certify it, or a travel that shows a fault of it, with
+-- the TTL of the travel's packet.
 pub record IsExamined (d : DomainValue) (flow : ℕ) (x : Examined) : Type 0 where
+  -- If the flow is certified, its entries are accepted;
   pub accepted : IfCertified (IsAccepted (net_of d flow)) x
+  -- they are in ascending order of their LANs;
   pub ascending : IfCertified (λ es. IsStrictlyIncreasing (map (λ e. e.lan) es)) x
+  -- they are of the topology;
   pub listed : IfCertified (All (IsEntryOf d.topology)) x
+  -- a certificate can hold them;
   pub writable : IfCertified IsWritableTree x
+  -- and they are those of the copies that the travel at TTL 255 carried.
   pub made : IfCertified (AreEntriesOfCleanTravel d flow) x
-  -- Otherwise the travel is the one at its TTL in which the first waiting copy is handled each time, and
-  -- it finds a fault; the TTL is 255 if a fault is found there, and otherwise the flow's.
+  -- If a fault is found, the travel is the one at its TTL in which the first waiting copy is handled each
+  -- time;
   pub travel : IfFound (IsFirstPickTravel d flow) x
+  -- it shows a fault;
   pub fault : IfFound (λ ttl travel. FindsFault travel) x
+  -- and the TTL is 255 if a fault is found there, and otherwise the flow's.
   pub ttl : IfFound (λ ttl travel. IsTtlOfFault d flow ttl) x
   -- The flow is certified exactly if it is right.
   pub right : IsTrue (is_certified x) ↔ IsRight (net_of d flow)
 
--- a result for each flow of the domain's topology, in order
+-- There is such a result for each flow of the domain's topology, in order.
 pub record AreExamined (d : DomainValue) (xs : List Examined) : Type 0 where
   pub count : length xs ≡ length d.topology.flows
   pub each : (flow : ℕ) (x : Examined) → slice_get xs flow ≡ Some x → IsExamined d flow x
 
 -- ---- the text
 
--- the lists of the flows that are certified, in order
+-- the lists of entries of the flows that are certified, in order
 abbrev pub certified_lists : List Examined → List Tree
 certified_lists [] = []
 certified_lists (Certified entries ∷ xs) = entries.items ∷ certified_lists xs
 certified_lists (Found ttl travel ∷ xs) = certified_lists xs
 
--- the two lines of a flow for which a fault is found
+-- the first line of a flow that isn't right
 abbrev pub no_certificate_line : Flow → List ℕ
 no_certificate_line f = flow_words f ++ codes " no certificate\n"
 
+-- the second line of a flow that isn't right: what is found of a packet with this TTL
 abbrev pub found_line : TopologyValue → ℕ → Finding → List ℕ
 found_line t ttl finding =
     codes "found ttl " ++ (decimal ttl ++ (codes " " ++ (finding_text t finding ++ codes "\n")))
 
+-- the two lines of a flow that isn't right
 abbrev pub found_lines : TopologyValue → Flow → ℕ → Finding → List ℕ
 found_lines t f ttl finding = no_certificate_line f ++ found_line t ttl finding
 
--- the lines of a flow: a certified one has none
+-- the lines of a flow; none if it is certified
 abbrev pub found_lines_if_any : TopologyValue → Flow → Examined → List ℕ
 found_lines_if_any t f (Certified entries) = []
 found_lines_if_any t f (Found ttl travel) = found_lines t f ttl travel.finding
@@ -79,12 +87,12 @@ found_lines_of_flows t _ _ = []
 abbrev pub are_certified : List Examined → Bool
 are_certified xs = list_all is_certified xs
 
--- the certificate with a line feed if every flow is certified, and otherwise the lines
+-- the text: a certificate and a line feed if every flow is certified, and otherwise the lines of the flows
 abbrev pub made_text : (certified : Bool) → TopologyValue → List Examined → List ℕ
 made_text true t xs = certificate_text t (certified_lists xs) ++ codes "\n"
 made_text false t xs = found_lines_of_flows t t.flows xs
 
--- The lists and the lines of a domain's flows.
+-- These are the lists and the lines that are made for a domain's flows.
 pub record AreMadeListsAndLines (d : DomainValue) (lists : List Tree) (lines : List ℕ) : Type 0 where
   pub examined : List Examined
   pub are_examined : AreExamined d examined
@@ -93,29 +101,30 @@ pub record AreMadeListsAndLines (d : DomainValue) (lists : List Tree) (lines : L
 
 -- ---- answers
 
--- The text for a domain, by the examinations of its flows, and whether the text is a certificate.
+-- This is the text for a domain, by the results of examining its flows; `certified` says whether it is a
+-- certificate.
 pub record IsMakeOutput (d : DomainValue) (certified : Bool) (written : List ℕ) : Type 0 where
   pub examined : List Examined
   pub are_examined : AreExamined d examined
   pub answer : certified ≡ are_certified examined
   pub spelled : written ≡ made_text certified d.topology examined
 
--- The text means a domain, for which this is written; and whether that is a certificate.
+-- The bundle means a domain, and this is the text for it; `certified` says whether that is a certificate.
 abbrev pub IsMadeText : List ℕ → Bool → List ℕ → Type 0
 IsMadeText text certified written =
     MeansDomainWhere MeansUncertifiedDomain (λ d. IsMakeOutput d certified written) text
 
--- the fact holds for each bundle that has, as one more part, the certificate that is made of the others
+-- P holds of each bundle that has, as one part more, the certificate that is made for the others.
 abbrev pub ForEachBundleWithMadeCertificate : ((bundle : List ℕ) → Type 0) → Type 0
 ForEachBundleWithMadeCertificate P = (text written bundle : List ℕ) (parts : List PartText)
     → IsMadeText text true written → IsBundle text parts → IsBundle bundle (with_certificate parts written)
     → P bundle
 
--- the answer is whether every flow that the domain's topology lists is right
+-- The answer is whether every flow that the domain's topology lists is right.
 abbrev pub AreRight : DomainValue → Bool → Type 0
 AreRight d all =
     IsTrue all ↔ ((flow : ℕ) → flow < length d.topology.flows → IsRight (net_of d flow))
 
--- the text means a domain for which that is the answer
+-- The bundle means a domain for which that is the answer.
 abbrev pub SaysAllRight : List ℕ → Bool → Type 0
 SaysAllRight text all = MeansDomainWhere MeansUncertifiedDomain (λ d. AreRight d all) text

@@ -1,4 +1,4 @@
--- The answer of `mcaudit pack`.
+-- The answer of `pack` (docs/FORMATS.md, "The files of a folder").
 use Rattle.std.specs.Prelude.{◌≡◌, Bool, List, Result, Ok, Err, ⊤}
 use Rattle.mc_text.specs.Bundle.{PartText}
 use Rattle.mc_text.specs.declared.bundle.bundle_fault.BundleFault.TheVariants as bundle
@@ -10,7 +10,7 @@ use Rattle.mc_files.specs.declared.fault.PackFault.TheVariants as packing
 use Rattle.mc_run.specs.declared.fault.RunFault.{RunFault}
 use Rattle.mc_run.specs.declared.fault.RunFault.TheVariants.{Bundle, Topology, Read, Write, Memory}
 
--- a fault of packing as the run's fault
+-- a fault of packing as one of the run
 abbrev pub from_pack_fault : PackFault → RunFault
 from_pack_fault (packing.Topology fault) = Topology fault
 from_pack_fault packing.TooLarge = Bundle bundle.TooLarge
@@ -18,8 +18,8 @@ from_pack_fault packing.Read = Read
 from_pack_fault packing.Write = Write
 from_pack_fault packing.Memory = Memory
 
--- The files have a bundle, or the fault is the first reason why they have none. A device's fault and
--- lack of memory say nothing about the files, and only the topology's contents are checked.
+-- The files can be packed as a bundle, or the fault is the first reason why they can't. A device's fault and
+-- lack of memory say nothing about the files, of which only the topology is judged.
 abbrev pub IsPackRunAnswer : Bool → List FileText → Result (Unit {0}) RunFault → Type 0
 IsPackRunAnswer certified files (Ok done) = (parts : List PartText) × IsPacked files certified parts
 IsPackRunAnswer certified files (Err (Topology fault)) =
@@ -31,7 +31,7 @@ IsPackRunAnswer certified files (Err Write) = ⊤
 IsPackRunAnswer certified files (Err Memory) = ⊤
 IsPackRunAnswer certified files (Err _) = ⊥
 
--- the fault is a device's, or lack of memory
+-- A device failed, or memory ran out.
 abbrev pub IsDeviceOrMemoryFault : RunFault → Type 0
 IsDeviceOrMemoryFault Read = ⊤
 IsDeviceOrMemoryFault Write = ⊤

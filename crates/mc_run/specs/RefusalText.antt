@@ -1,5 +1,6 @@
--- What is printed of the refused files of a folder: a line for each, with its first fault and the front
--- of the line that has the fault.
+-- What an audit prints of the refused files of a folder (docs/FORMATS.md, the section "The program"): a line
+-- for each, with its first fault and the front of the line that has the fault. `lost` is how many calls of
+-- the source failed meanwhile.
 use Rattle.std.specs.Prelude.{◌≡◌, ℕ, zero, suc, ◌+◌, ◌-◌, ◌/◌, ◌%◌, ◌==◌, ◌≤◌, ◌&&◌, not, nat_le, Bool}
 use Rattle.std.specs.Prelude.{List, [], ◌∷◌, ◌++◌, length, take, flat_map, map, codes, decimal}
 use Rattle.std.specs.Prelude.{Option, Some, None, IfSome, unwrap_or, Result, Ok, Err}
@@ -22,22 +23,23 @@ use Rattle.mc_run.specs.declared.fault.RunFault.TheVariants.{Memory, Write}
 
 -- ---- the front of a line
 
--- a byte that is printed between quotes unescaped: 0x20 to 0x7e, except the quote and the backslash
+-- whether a byte is printed as it is between quotes: 0x20 to 0x7e, but not the quote and the backslash
 abbrev pub is_unescaped : ℕ → Bool
 is_unescaped b = ((nat_le 0x20 b && nat_le b 0x7e) && not (b == 0x22)) && not (b == 0x5c)
 
--- a byte between quotes; one that is escaped prints as `\xhh`
+-- a byte between quotes; one that is escaped is written `\xhh`
 abbrev pub quoted_byte : ℕ → List ℕ
 quoted_byte b =
     if is_unescaped b
     then b ∷ []
     else codes "\\x" ++ (hex_digit_of (b / 16) ∷ hex_digit_of (b % 16) ∷ [])
 
+-- bytes between quotes
 abbrev pub quoted : List ℕ → List ℕ
 quoted bytes = flat_map quoted_byte bytes
 
--- The front of the line in the source's file with this name, within the greatest size of a bundle's
--- part. Of a source with unknown contents, only its greatest length is known.
+-- This is the front of the line in the source's file with this name, of whose bytes only as many count as a
+-- bundle's part may have. If the source's contents aren't known, only the front's greatest length is.
 pub record IsFrontInFile (contents : Option (List FileText)) (name : List ℕ) (line : ℕ) (front : List ℕ)
     : Type 0 where
   pub bounded : length front ≤ 100
@@ -45,13 +47,13 @@ pub record IsFrontInFile (contents : Option (List FileText)) (name : List ℕ) (
       (bytes : List ℕ) × (file_named files name ≡ Some bytes)
       × (front ≡ line_front line (take 16777216 bytes))
 
--- how many calls of a source fail where it gives this front, or gives none
+-- how many calls of a source fail where it gives this front: none, or one if it gives no front
 abbrev pub lost_calls : Option (List ℕ) → ℕ
 lost_calls (Some front) = 0
 lost_calls None = 1
 
--- What follows a fault's words: nothing if the fault is in no line, else the quoted front of the line,
--- which is empty if the source fails to give the file again.
+-- This follows the words of a fault: nothing if no line has it, and otherwise the front of the line in
+-- quotes, which is empty if the source fails to give the file again.
 abbrev pub IsFrontText : Option (List FileText) → (name : List ℕ) → (line : Option ℕ) → (lost : ℕ)
     → (text : List ℕ) → Type 0
 IsFrontText contents name None lost text = (lost ≡ 0) × (text ≡ [])
@@ -61,7 +63,8 @@ IsFrontText contents name (Some line) lost text =
 
 -- ---- the lines
 
--- Why a file is refused, in words. For a file that isn't opened, these are the system's own words.
+-- These words say why a file is refused. For a file that can't be opened or read they may be the system's
+-- own.
 abbrev pub IsRefusalReason : Option (List FileText) → (name : List ℕ) → Refusal → (lost : ℕ)
     → (words : List ℕ) → Type 0
 IsRefusalReason contents name (Unread unread) lost words =
@@ -70,18 +73,18 @@ IsRefusalReason contents name (Fault fault) lost words =
     (front : List ℕ) × IsFrontText contents name (line_of_fault fault) lost front
     × (words ≡ fault_text fault ++ front)
 
--- why this file is refused
+-- These words say why this file is refused.
 abbrev pub IsReasonOfFile : Option (List FileText) → RefusedFile → (lost : ℕ) → (words : List ℕ) → Type 0
 IsReasonOfFile contents file lost words =
     IsRefusalReason contents (string_bytes file.name) file.refusal lost words
 
--- the line of a refused file, with the number of the source's calls that failed for it
+-- This is the line of a refused file.
 abbrev pub IsRefusedFileLine : Option (List FileText) → RefusedFile → (lost : ℕ) → (line : List ℕ) → Type 0
 IsRefusedFileLine contents file lost line =
     (words : List ℕ) × IsReasonOfFile contents file lost words
     × (line ≡ codes "  " ++ (string_bytes file.name ++ (codes ": " ++ (words ++ codes "\n"))))
 
--- the lines of files, in order
+-- These are the lines of the refused files, in order.
 abbrev pub AreRefusedFileLines : Option (List FileText) → List RefusedFile → (lost : ℕ)
     → (text : List ℕ) → Type 0
 AreRefusedFileLines contents [] lost text = (lost ≡ 0) × (text ≡ [])
@@ -90,20 +93,20 @@ AreRefusedFileLines contents (file ∷ files) lost text =
     × AreRefusedFileLines contents files more rest
     × (lost ≡ one + more) × (text ≡ line ++ rest)
 
--- the line with the number of further refused files, if there are any
+-- the line that counts the further refused files; nothing if there are none
 abbrev pub more_line : ℕ → List ℕ
 more_line zero = []
 more_line (suc more) = codes "  and " ++ (decimal (suc more) ++ codes " more\n")
 
--- the lines of the first 50 files, and the line with the number of further ones
+-- These are the lines of the first 50 files, and the one that counts the further files.
 abbrev pub AreFirst50Lines : Option (List FileText) → List RefusedFile → (lost : ℕ) → (text : List ℕ)
     → Type 0
 AreFirst50Lines contents files lost text =
     (lines : List ℕ) × AreRefusedFileLines contents (take 50 files) lost lines
     × (text ≡ lines ++ more_line (length files - 50))
 
--- The text of the refused files: their lines, by the files that the source gives. The source's failures
--- are one for each file that can't be read, and one for each front of a line that it didn't give.
+-- This is the text about the refused files that the source gives. The source's failures are one for each file
+-- that can't be read, and one for each front that it didn't give.
 pub record IsRefusalText (names : List (List ℕ)) (contents : Option (List FileText)) (before after : ℕ)
     (text : List ℕ) : Type 0 where
   pub refused : List RefusedFile
@@ -118,18 +121,17 @@ pub record IsRefusalText (names : List (List ℕ)) (contents : Option (List File
 
 -- ---- writing the text
 
--- The text that was appended is right for the number of the source's calls that failed meanwhile.
+-- What was appended to the text is right for the number of the source's calls that failed meanwhile.
 pub record AppendsWithFailures (IsRight : (lost : ℕ) → (added : List ℕ) → Type 0) (old new : List ℕ)
-    (before after : ℕ)
-    : Type 0 where
+    (before after : ℕ) : Type 0 where
   pub lost : ℕ
   pub added : List ℕ
   pub right : IsRight lost added
   pub whole : new ≡ old ++ added
   pub failures : after ≡ saturating_failures lost before
 
--- What becomes of the text: it is written whole, or a part of it if the output fails, or nothing if
--- memory runs out. No other fault is returned.
+-- What becomes of the text: it is written whole, or a part of it if the output fails, or nothing if memory
+-- runs out. No other fault is returned.
 abbrev pub IsTextWritten : (IsText : List ℕ → Type 0) → Result (Unit {0}) RunFault → Option (List ℕ)
     → Option (List ℕ) → Type 0
 IsTextWritten IsText (Ok done) old new = (text : List ℕ) × IsText text × Appends old new text

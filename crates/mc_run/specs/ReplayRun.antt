@@ -1,4 +1,4 @@
--- The answer and the text of `mcaudit replay`.
+-- The answer and the text of `replay` (docs/FORMATS.md, the section "The program").
 use Rattle.std.specs.Prelude.{◌≡◌, ℕ, ◌+◌, ◌<◌, ◌⊎◌, Bool, true, false, List, [], ◌∷◌, ◌++◌, codes}
 use Rattle.std.specs.Prelude.{decimal, length}
 use Rattle.std.specs.Prelude.{Some, slice_get}
@@ -21,14 +21,16 @@ use Rattle.mc_run.specs.InputMeaning.{IsRefusedFor}
 
 -- ---- the text
 
+-- the line of an event
 abbrev pub event_line : TopologyValue → Event → List ℕ
 event_line t e = codes "event " ++ (event_text t e ++ codes "\n")
 
+-- the lines of these events, in order
 abbrev pub event_lines : TopologyValue → List Event → List ℕ
 event_lines t [] = []
 event_lines t (e ∷ es) = event_line t e ++ event_lines t es
 
--- the first line, with the time to live of the packet
+-- the first line, with the TTL of the packet
 abbrev pub replay_line : Flow → ℕ → List ℕ
 replay_line f ttl =
     codes "replay "
@@ -39,10 +41,12 @@ replay_line f ttl =
 abbrev pub finding_line : TopologyValue → Finding → List ℕ
 finding_line t x = codes "finding " ++ (finding_text t x ++ codes "\n")
 
+-- the whole text of a travel
 abbrev pub replay_text : TopologyValue → Flow → ℕ → Travel → List ℕ
 replay_text t f ttl travel =
     replay_line f ttl ++ (event_lines t travel.events.items ++ finding_line t travel.finding)
 
+-- whether the finding is `Clean`
 abbrev pub is_clean : Finding → Bool
 is_clean Clean = true
 is_clean (Duplicate lan) = false
@@ -52,8 +56,8 @@ is_clean (Missed lan) = false
 
 -- ---- answers
 
--- The domain's topology lists the flow with this number, counted from 1, and this is the text of the
--- travel of a packet of that flow with this TTL, by the picker's choices; and whether its finding is
+-- The domain's topology lists the flow with this number, counted from 1, and this is the text of the travel
+-- of a packet of that flow with this TTL, by the picker's choices. The answer is whether its finding is
 -- `Clean`.
 pub record IsTextOfTravel (d : DomainValue) (flow ttl : ℕ) (choices : Choices) (clean : Bool)
     (written : List ℕ) : Type 0 where
@@ -72,17 +76,18 @@ HasNoTravel d flow fault =
     ((fault ≡ NoSuchFlow flow) × ((flow ≡ 0) ⊎ (length d.topology.flows < flow)))
     ⊎ (fault ≡ Memory)
 
--- The text means a domain, in which that travel has this text; and whether its finding is `Clean`.
+-- The bundle means a domain, and this is the text of that travel in it. The answer is whether its finding is
+-- `Clean`.
 abbrev pub IsTravelText : (flow ttl : ℕ) → Choices → List ℕ → Bool → List ℕ → Type 0
 IsTravelText flow ttl choices text clean written =
     MeansDomainWhere MeansUncertifiedDomain (λ d. IsTextOfTravel d flow ttl choices clean written) text
 
--- The text means a domain, whose topology lists no flow with this number, counted from 1.
+-- The bundle means a domain whose topology lists no flow with this number, counted from 1.
 abbrev pub HasNoFlow : (flow : ℕ) → List ℕ → Type 0
 HasNoFlow flow =
     MeansDomainWhere MeansUncertifiedDomain (λ d. (flow ≡ 0) ⊎ (length d.topology.flows < flow))
 
--- the fault is the text's first one, or that its topology lists no such flow
+-- This is the bundle's first fault, or the topology lists no such flow.
 abbrev pub IsReplayRefused : (flow : ℕ) → List ℕ → RunFault → Type 0
 IsReplayRefused flow text (NoSuchFlow number) = (number ≡ flow) × HasNoFlow flow text
 IsReplayRefused flow text fault = IsRefusedFor false text fault

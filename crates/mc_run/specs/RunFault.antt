@@ -1,4 +1,4 @@
--- The faults of other crates as a run's own faults.
+-- The faults of the crates below as a run's own faults.
 use Rattle.mc_text.specs.declared.io.input_bytes.ReadFault.{ReadFault}
 use Rattle.mc_text.specs.declared.io.input_bytes.ReadFault.TheVariants as reading
 use Rattle.mc_igmp.specs.declared.fault.ListFault.{ListFault}
@@ -18,19 +18,21 @@ use Rattle.mc_run.specs.declared.fault.RunFault.TheVariants.{Bundle, Parts, Topo
 use Rattle.mc_run.specs.declared.fault.RunFault.TheVariants.{PartReports, Reports, Certificate}
 use Rattle.mc_run.specs.declared.fault.RunFault.TheVariants.{NoSuchRouter, Read, Memory}
 
+-- a fault of reading an input
 abbrev pub from_read_fault : ReadFault → RunFault
 from_read_fault reading.Read = Read
 from_read_fault reading.Memory = Memory
 
--- lack of memory is the run's fault, and every other fault is the list's
+-- a fault of a report list, by its kind: lack of memory is the run's own, and every other fault is the list's
 abbrev pub from_list_fault_kind : ListFault → ListFaultKind → RunFault
 from_list_fault_kind fault list.Memory = Memory
 from_list_fault_kind fault _ = Reports fault
 
+-- a fault of a report list
 abbrev pub from_list_fault : ListFault → RunFault
 from_list_fault fault = from_list_fault_kind fault fault.kind
 
--- the same for a bundle's faults,
+-- a fault of a bundle's content
 abbrev pub from_input_fault : InputFault → RunFault
 from_input_fault (input.Bundle fault) = Bundle fault
 from_input_fault (input.Parts place) = Parts place
@@ -40,20 +42,22 @@ from_input_fault (input.Cache part fault) = Cache part fault
 from_input_fault (input.Reports part fault) = PartReports part fault
 from_input_fault input.Memory = Memory
 
--- for those of a bundle or of a folder's files,
+-- a fault of a bundle or of a folder's files
 abbrev pub from_source_fault : SourceFault → RunFault
 from_source_fault (source.Input fault) = from_input_fault fault
 from_source_fault source.Read = Read
 
--- for those of a folder's files without the excluded routers,
+-- a fault of a folder's files without the excluded routers
 abbrev pub from_exclusion_fault : ExclusionFault → RunFault
 from_exclusion_fault (exclusion.Source fault) = from_source_fault fault
 from_exclusion_fault (exclusion.NoSuchRouter place) = NoSuchRouter place
 
--- and for those of a certificate
+-- a fault of a certificate, by its kind: lack of memory is the run's own, and every other fault is the
+-- certificate's
 abbrev pub of_certificate_kind : CertFault → CertFaultKind → RunFault
 of_certificate_kind fault certificate.Memory = Memory
 of_certificate_kind fault _ = Certificate fault
 
+-- a fault of a certificate
 abbrev pub from_cert_fault : CertFault → RunFault
 from_cert_fault fault = of_certificate_kind fault fault.kind

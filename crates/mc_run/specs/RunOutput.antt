@@ -1,5 +1,5 @@
--- What a run makes of its input: an answer, and a text that belongs to it. A relation says which answers
--- and texts are right for an input.
+-- What a run makes of its input: an answer, and a text that belongs to it. In each definition `Says` is the
+-- relation that says which answers and texts are right for an input.
 use Rattle.std.specs.Prelude.{◌≡◌, ℕ, Bool, List, Option, Result, Ok, Err, IfOk, IfSome}
 use Rattle.std.specs.String.{string_bytes}
 use Rattle.std.specs.Io.KnownBytes.{Appends}
@@ -8,36 +8,36 @@ use Rattle.mc_run.specs.declared.fault.RunFault.{RunFault}
 use Rattle.mc_run.specs.declared.fault.RunFault.TheVariants.{Write}
 use Rattle.mc_run.specs.declared.run_output.RunOutput.{RunOutput}
 
--- the answer is right, with some text, or the fault is right
+-- The run's answer is right, with some text, or its fault is.
 abbrev pub Answers : {X F : Type 0} → (X → Bool → List ℕ → Type 0) → (X → F → Type 0) → X
     → Result Bool F → Type 0
 Answers Says Refuses x (Ok answer) = (written : List ℕ) × Says x answer written
 Answers Says Refuses x (Err fault) = Refuses x fault
 
--- there is at most one answer and one text
+-- There is at most one right answer and text.
 abbrev pub HasOneOutput : (Bool → List ℕ → Type 0) → Type 0
 HasOneOutput Says = (all every : Bool) (text other : List ℕ) → Says all text → Says every other
     → (all ≡ every) × (text ≡ other)
 
--- the text of the answer was written whole
+-- A right text of the answer was written whole.
 abbrev pub Writes : {X : Type 0} → (X → Bool → List ℕ → Type 0) → X → Bool → Option (List ℕ)
     → Option (List ℕ) → Type 0
 Writes Says x answer old new =
     (written : List ℕ) × Says x answer written × Appends old new written
 
--- after an answer, its text was written whole, where the run's input is known
+-- After an answer a right text of it was written whole, if the run's input is known.
 abbrev pub IsWrittenWhole : {X : Type 0} → (X → Bool → List ℕ → Type 0) → Option X → Result Bool RunFault
     → Option (List ℕ) → Option (List ℕ) → Type 0
 IsWrittenWhole Says given result old new = IfOk result (λ yes. IfSome given (λ x. Writes Says x yes old new))
 
--- a proper part of a right text was written, from its front
+-- A proper part of a right text was written, from its front.
 abbrev pub WritesPart : {X : Type 0} → (X → Bool → List ℕ → Type 0) → X → Option (List ℕ)
     → Option (List ℕ) → Type 0
 WritesPart Says x old new =
     (answer : Bool) × (written : List ℕ) × Says x answer written × AppendsProperPrefix old new written
 
--- What becomes of a run's output: its text is written whole, or a part of it where the output fails. A
--- fault in its place is returned, and nothing is written.
+-- What becomes of a run's output: its text is written whole, or a part of it if the output fails. A fault in
+-- its place is returned, and nothing is written.
 abbrev pub IsOutputWritten : Result RunOutput RunFault → Result Bool RunFault → Option (List ℕ)
     → Option (List ℕ) → Type 0
 IsOutputWritten (Ok run_output) (Ok answer) old new =

@@ -1,4 +1,5 @@
--- The answer and the text of each task's run, with the task's own arguments.
+-- What the run of each task answers and writes, with the task's own arguments (docs/FORMATS.md, the section
+-- "The program"). `old` and `new` are what was written to the output before the run and after it.
 use Rattle.std.specs.Prelude.{◌≡◌, ◌==◌, ◌+◌, ◌&&◌, ◌||◌, not, ℕ, Bool, true, false, List, [], map}
 use Rattle.std.specs.Prelude.{Option, Some, Result, Ok, Err, IfErr, IfOk, IfSome, OnErr, OnOk}
 use Rattle.std.specs.Io.KnownBytes.{Appends}
@@ -30,8 +31,8 @@ use Rattle.mc_run.specs.declared.audit.audit_output.AuditAnswer.{AuditAnswer}
 use Rattle.mc_run.specs.declared.fault.RunFault.{RunFault}
 use Rattle.mc_run.specs.declared.fault.RunFault.TheVariants.{Write}
 
--- For the run's input, where its contents are known: the answer is right, with some text, or the fault
--- is right; and the text of the answer was written whole, or a part of it where the output failed.
+-- If the run's input is known, the answer is right, with some text, or the fault is. The text of an answer
+-- was written whole, or a part of it where the output failed.
 pub record IsRunResult {X : Type 0} (Says : X → Bool → List ℕ → Type 0) (Refuses : X → RunFault → Type 0)
     (given : Option X) (result : Result Bool RunFault) (old new : Option (List ℕ)) : Type 0 where
   pub answer : IfSome given (λ x. Answers Says Refuses x result)
@@ -40,7 +41,7 @@ pub record IsRunResult {X : Type 0} (Says : X → Bool → List ℕ → Type 0) 
 
 -- ---- tasks that read the input
 
--- `wants`: whether the input's list wants what the source sends to the group
+-- `wants` answers whether the LAN of the input's report list wants what the source sends to the group.
 pub record IsWantsRun (group source : ℕ) (remaining left : Option (List ℕ))
     (result : Result Bool RunFault) (old new : Option (List ℕ)) : Type 0 where
   pub answer : IfSome remaining (λ text. AnswersWants text group source result)
@@ -49,7 +50,7 @@ pub record IsWantsRun (group source : ℕ) (remaining left : Option (List ℕ))
   pub faults : IfErr result IsFaultOfWants
   pub consumed : ConsumesUpTo (max_text + 1) remaining left
 
--- `check`: the verdicts by the bundle's certificate; after a yes the headline holds
+-- `check` answers whether all verdicts by the bundle's certificate are yes. After a yes the headline holds.
 pub record IsCheckRun (remaining left : Option (List ℕ)) (result : Result Bool RunFault)
     (old new : Option (List ℕ)) : Type 0 where
   pub run : IsRunResult IsVerdictText (IsRefusedFor true) remaining result old new
@@ -57,7 +58,8 @@ pub record IsCheckRun (remaining left : Option (List ℕ)) (result : Result Bool
   pub consumed : ConsumesUpTo max_input remaining left
   pub headline : SaysYes result old new → IfSome remaining BundleKeepsHeadline
 
--- `make`: the certificate, which is made exactly if every flow is right, or the findings
+-- `make` answers whether it wrote a certificate, which it does exactly if every flow is right; otherwise it
+-- writes the findings.
 pub record IsMakeRun (remaining left : Option (List ℕ)) (result : Result Bool RunFault)
     (old new : Option (List ℕ)) : Type 0 where
   pub run : IsRunResult IsMadeText (IsRefusedFor false) remaining result old new
@@ -65,12 +67,12 @@ pub record IsMakeRun (remaining left : Option (List ℕ)) (result : Result Bool 
   pub consumed : ConsumesUpTo max_input remaining left
   pub right : IfOk result (λ certified. IfSome remaining (λ text. SaysAllRight text certified))
 
--- the first of the waiting copies is always handled next, or the last
+-- the choices of a picker that always takes the first waiting copy, or always the last
 abbrev pub choices_of : (last : Bool) → Choices
 choices_of last = record { numbers = []; last = last }
 
--- `replay`: the travel of a packet of the flow with this number, with this time to live, in this
--- order
+-- `replay` writes the travel of a packet of the flow with this number, with this TTL, in this order, and
+-- answers whether its finding is `Clean`.
 pub record IsReplayRun (flow ttl : ℕ) (last : Bool) (remaining left : Option (List ℕ))
     (result : Result Bool RunFault) (old new : Option (List ℕ)) : Type 0 where
   pub run : IsRunResult (IsTravelText flow ttl (choices_of last)) (IsReplayRefused flow) remaining
@@ -85,7 +87,7 @@ abbrev pub packed_without_yes : Result Bool RunFault → Result (Unit {0}) RunFa
 packed_without_yes (Ok done) = Ok tt
 packed_without_yes (Err fault) = Err fault
 
--- `pack`: the bundle of the files, and then yes
+-- `pack` writes the bundle of the files, and answers yes.
 pub record IsPackRun (certificate : Bool) (contents : Option (List FileText))
     (result : Result Bool RunFault) (old new : Option (List ℕ)) : Type 0 where
   pub yes : IfOk result (λ yes. yes ≡ true)
@@ -97,43 +99,55 @@ pub record IsPackRun (certificate : Bool) (contents : Option (List FileText))
       → IfSome contents (λ files. WritesPackedPrefix certificate files old new)
   pub faults : IfErr result IsFaultOfPack
 
--- The answer of an audit is enough: it is yes and, with `strict`, no right flow is wanted by nobody, and a
--- flow answers each want.
+-- Whether the answer of an audit has status 0: it is yes and, with the option strict, some LAN wants each
+-- flow and some flow answers each want.
 abbrev pub is_enough : (strict : Bool) → AuditAnswer → Bool
 is_enough strict answer =
     answer.yes && (((answer.counts.unwanted == 0) && (answer.counts.asked == 0)) || not strict)
 
+-- whether the answer of an audit has status 0, or the audit's fault
 abbrev pub enough_of : (strict : Bool) → Result AuditAnswer RunFault → Result Bool RunFault
 enough_of strict (Ok answer) = Ok (is_enough strict answer)
 enough_of strict (Err fault) = Err fault
 
--- what the words leave out: the excluded routers, and the ranges of groups whose wants are left aside
+-- what the arguments of `audit` leave out: the excluded routers, and the ignored ranges of groups
 abbrev pub left_out_by : AuditWords → LeftOutValue
 left_out_by words = record {
   routers = map (λ name. name.now) words.without.items;
   groups = words.ignored.items;
 }
 
--- The answer and the text of an audit of the files, with these options and without what is left out.
+-- This is the result of an audit of the files, with these options and without what is left out.
 pub record IsAuditResult (o : AuditOptions) (left : LeftOutValue) (contents : Option (List FileText))
     (audited : Result AuditAnswer RunFault) (old new : Option (List ℕ)) : Type 0 where
+  -- The answer is that of an audit of the files, or the files are refused for this fault.
   pub answer : IfSome contents
       (λ files. Answers (IsAuditText o left) (AreRefusedWithout left.routers) files (yes_of audited))
+  -- After an answer the text of the audit was written whole,
   pub written : IsWrittenWhole (IsAuditText o left) contents (yes_of audited) old new
+  -- or a proper part of it where the output failed.
   pub part : audited ≡ Err Write
       → IfSome contents (λ files. WritesPart (IsAuditText o left) files old new)
+  -- The text says of each flow whether it is right.
   pub right : IsWrittenWhole (SaysWhichAreRight o left) contents (yes_of audited) old new
+  -- The counts are those of the audited flows and wants.
   pub counts : IfOk audited (λ answer. IfSome contents
       (MeansDomainWhere (MeansAudited o left) (λ v. HasCounts v o answer.counts)))
+  -- The text says yes to each flow, or gives what is found of it, and what it says is true;
   pub each : IsWrittenWhole (SaysOfEach o left) contents (yes_of audited) old new
+  -- a part of such a text was written where the output failed.
   pub each_in_part : audited ≡ Err Write
       → IfSome contents (λ files. WritesPart (SaysOfEach o left) files old new)
+  -- Where routers are excluded, a second copy or a stray that is found makes the flow wrong in the whole
+  -- domain, too.
   pub excluded : IsWrittenWhole (AreFoundInWhole o left) contents (yes_of audited) old new
+  -- The fault is one that an audit can return.
   pub faults : IfErr audited IsFaultOfAudit
+  -- After a yes the headline holds for each flow.
   pub headline : AuditSaysYes (yes_of audited) old new → IfSome contents FilesKeepHeadline
 
--- `audit`: whether the answer of the audit is enough, with the options of the command line and without what
--- it leaves out
+-- `audit` answers whether the audit's answer has status 0, with the options of the command line and without
+-- what these leave out.
 pub record IsAuditRun (words : AuditWords) (contents : Option (List FileText))
     (result : Result Bool RunFault) (old new : Option (List ℕ)) : Type 0 where
   pub audited : Result AuditAnswer RunFault
@@ -142,7 +156,7 @@ pub record IsAuditRun (words : AuditWords) (contents : Option (List FileText))
 
 -- ---- tasks that read nothing
 
--- `--version` and `help`: the text, and then yes
+-- `--version` and `help` write a text, and answer yes.
 pub record IsTextRun (text : List ℕ) (result : Result Bool RunFault) (old new : Option (List ℕ))
     : Type 0 where
   pub yes : IfOk result (λ yes. yes ≡ true)

@@ -1,4 +1,5 @@
--- The text of `mcaudit check`: a line for each flow, and the verdict on all flows.
+-- The text of `check` (docs/FORMATS.md, the section "The program"): a line for each flow, and the verdict on
+-- all flows.
 use Rattle.std.specs.Prelude.{◌≡◌, ℕ, Bool, true, false, List, [], ◌∷◌, ◌++◌, codes, length}
 use Rattle.std.specs.Prelude.{decimal, slice_get, Some}
 use Rattle.std.specs.List.{list_all}
@@ -18,12 +19,13 @@ use Rattle.mc_check.specs.declared.verdict.Verdict.TheVariants.{Yes, No}
 
 -- ---- the verdicts
 
--- Yes with the number of entries if the list is accepted, and otherwise no with the first reason.
+-- The verdict is yes with the number of entries if the list is accepted, and otherwise no with the first
+-- reason.
 abbrev pub IsVerdict : (lans : ℕ) → Net → List Entry → Verdict → Type 0
 IsVerdict lans n es (Yes copies) = IsAccepted n es × (copies ≡ length es)
 IsVerdict lans n es (No reason) = first_reason n lans es ≡ Some (reason_value reason)
 
--- a verdict for each flow of the domain's topology, in order
+-- There is such a verdict for each flow of the domain's topology, in order.
 pub record AreVerdicts (d : DomainValue) (lists : List Tree) (verdicts : List Verdict)
     : Type 0 where
   pub count : length verdicts ≡ length d.topology.flows
@@ -33,16 +35,17 @@ pub record AreVerdicts (d : DomainValue) (lists : List Tree) (verdicts : List Ve
 
 -- ---- the text
 
--- the words at the start of a flow's line
+-- the words at the start of a flow's line: its source, its group and its TTL
 abbrev pub flow_words : Flow → List ℕ
 flow_words f =
     codes "flow "
     ++ (dotted f.source ++ (codes " " ++ (dotted f.group ++ (codes " ttl " ++ decimal f.ttl))))
 
+-- the line of a flow and its verdict
 abbrev pub flow_line : TopologyValue → Flow → Verdict → List ℕ
 flow_line t f v = flow_words f ++ (codes " " ++ (verdict_text t v ++ codes "\n"))
 
--- the lines of flows and their verdicts
+-- the lines of these flows and their verdicts, in order
 abbrev pub flow_lines : TopologyValue → List Flow → List Verdict → List ℕ
 flow_lines t (f ∷ fs) (v ∷ vs) = flow_line t f v ++ flow_lines t fs vs
 flow_lines t _ _ = []
@@ -56,5 +59,6 @@ abbrev pub last_line : Bool → List ℕ
 last_line true = codes "verdict yes\n"
 last_line false = codes "verdict no\n"
 
+-- the whole text
 abbrev pub check_text : TopologyValue → List Verdict → List ℕ
 check_text t vs = flow_lines t t.flows vs ++ last_line (are_yes vs)

@@ -1,7 +1,7 @@
 -- The result of reading a bundle's parts one by one, in the order of the slots (docs/FORMATS.md, "The parts
 -- of a domain"): the name of each is checked, and then its text is read.
 use Rattle.std.specs.Prelude.{◌≡◌, ℕ, ◌+◌, Bool, List, [], ◌∷◌, drop, length}
-use Rattle.std.specs.Prelude.{slice_get, Option, Some, Result, Ok, Err}
+use Rattle.std.specs.Prelude.{slice_get, Option, Some, Result, Ok, Err, if◌then◌else◌}
 use Rattle.std.specs.Str.{bytes_eq}
 use Rattle.mc_text.specs.Bundle.{PartText}
 use Rattle.mc_text.specs.PartsReading.{PartsState}

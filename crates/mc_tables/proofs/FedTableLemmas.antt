@@ -1,7 +1,7 @@
 -- A reader of a table, which keeps its fault, as a reader that is fed in pieces.
 use Rattle.std.specs.Prelude.{◌≡◌, ◌≢◌, ℕ, ◌+◌, ◌≤◌, List, ◌++◌, length, Option, Some, None}
 use Rattle.std.specs.Prelude.{Result, Ok, Err}
-use Rattle.std.specs.Prelude.{IfErr, IfSome, OnOk, is_some, refl}
+use Rattle.std.specs.Prelude.{IfErr, IfSome, OnOk, if◌then◌else◌, is_some, refl}
 use Rattle.std.proofs.Common.{ap, ◌∙◌, sym, arith}
 use Rattle.mc_text.specs.Lines.{LineText, max_text}
 use Rattle.mc_text.specs.declared.memory.Memory.{Memory}

@@ -1,7 +1,7 @@
 -- A bundle that is read part by part from an input: what its remaining bytes are read as.
 use Rattle.std.specs.Prelude.{◌≡◌, ℕ, ◌-◌, ◌≤◌, ◌==◌, nat_lt, Bool, true, false, List, [], ◌∷◌}
 use Rattle.std.specs.Prelude.{◌++◌, length, take, drop, codes}
-use Rattle.std.specs.Prelude.{IsSome, Option, Some, None, Result, Ok, Err}
+use Rattle.std.specs.Prelude.{IsSome, Option, Some, None, Result, Ok, Err, if◌then◌else◌}
 use Rattle.std.specs.Borrow.{GName}
 use Rattle.std.specs.Str.{bytes_eq}
 use Rattle.mc_text.specs.declared.bundle.bundle_fault.BundleFault.{BundleFault}

@@ -2,6 +2,7 @@
 -- value that JSON's reader gives.
 use Rattle.std.specs.Prelude.{◌≡◌, ℕ, ◌+◌, ◌≤◌, List, [], ◌∷◌, length, codes, slice_get, IsTrue}
 use Rattle.std.specs.Prelude.{IsUtf8, Option, Some, None}
+use Rattle.mc_text.specs.Lines.{max_text}
 use Rattle.serde_json.specs.Data.{Data, unsigned, number, string, array, object, Items, Members}
 use Rattle.serde_json.specs.Find.{get_member}
 use Rattle.serde_json.specs.Read.{read}
@@ -167,7 +168,7 @@ DenotesVersion Two = DenotesVersionTwo
 pub record DenotesCertificate (t : TopologyValue) (text : List ℕ) (flows : List Tree) : Type 0 where
   pub document : Members
   pub version : Version
-  pub few : length text ≤ 16777216
+  pub few : length text ≤ max_text
   pub utf8 : IsUtf8 text
   pub reads : read text ≡ Some (object document)
   pub version_number : HasNumber (codes "version") document (version_no version)

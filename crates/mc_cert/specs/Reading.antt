@@ -3,6 +3,7 @@
 use Rattle.std.specs.Prelude.{ℕ, ◌==◌, nat_le, List, [], ◌∷◌, length, codes, Option, Some, None}
 use Rattle.std.specs.Prelude.{Result, Ok, Err, ok_or, if◌then◌else◌}
 use Rattle.std.specs.Str.{is_utf8}
+use Rattle.mc_text.specs.Lines.{max_text}
 use Rattle.serde_json.specs.Data.{Data, Members}
 use Rattle.serde_json.specs.Find.{as_object, as_u64}
 use Rattle.serde_json.specs.Read.{read}
@@ -28,7 +29,7 @@ parse_json text = if is_utf8 text then ok_or (read text) NotJson else Err NotJso
 -- the value of a text, which has to have at most 16,777,216 bytes (else TooMany) and then to be
 -- JSON
 unfoldable pub parse_bounded_json : List ℕ → Result Data CertFaultKind
-parse_bounded_json text = if nat_le (length text) 16777216 then parse_json text else Err TooMany
+parse_bounded_json text = if nat_le (length text) max_text then parse_json text else Err TooMany
 
 -- the members of the object that a value has to be (else BadKind)
 abbrev pub members_of : Data → Result Members CertFaultKind

@@ -2,6 +2,7 @@
 
 ghost use Rattle.std.specs.Prelude.{◌≡◌, ◌<◌, ◌≤◌, All, length, map, Some, None, slice_get};
 ghost use Rattle.std.specs.Prelude.{option_map, string_bytes};
+ghost use Rattle.mc_text.specs.Lines.{max_text};
 ghost use Rattle.mc_cert.specs.Certificate.{IsWritableTree, trees_by_flow, tree_at};
 
 use crate::compact::compact_certificate;
@@ -184,7 +185,7 @@ impl Certificate {
         requires valid { BelongsTo topology.now self.now }
         ensures text { IfOk result (λ text. string_bytes text
             ≡ certificate_text topology.now self.now) }
-        ensures denotes { IfOk result (λ text. length (string_bytes text) ≤ 16777216 →
+        ensures denotes { IfOk result (λ text. length (string_bytes text) ≤ max_text →
             DenotesCertificate topology.now (string_bytes text) self.now) }
     {
         self.to_trees(alloc)?.to_json(alloc, topology)

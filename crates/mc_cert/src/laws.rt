@@ -1,6 +1,7 @@
 //! Theorems over the definitions alone, for crates that use them.
 
 ghost use Rattle.std.specs.Prelude.{◌≡◌, ◌↔◌, ℕ, ◌<◌, ◌≤◌, List, [], ◌∷◌, ◌++◌, length, Ok};
+ghost use Rattle.mc_text.specs.Lines.{max_text};
 ghost use Rattle.mc_topology.specs.Topology.{TopologyValue, IsValidTopology};
 ghost use Rattle.mc_cert.specs.Certificate.{Tree, BelongsTo};
 ghost use Rattle.mc_cert.specs.CertificateText.{certificate_text};
@@ -27,12 +28,12 @@ pub fn denoted_certificate_belongs_to_topology()
 /// than a text may be. Each topology in memory is valid, by the clauses `rules` of its methods.
 pub fn certificate_text_denotes_certificate()
     ensures { (t : TopologyValue) (flows : List Tree) → IsValidTopology t → IsWritableFor t flows →
-        length (certificate_text t flows) ≤ 16777216 →
+        length (certificate_text t flows) ≤ max_text →
         DenotesCertificate t (certificate_text t flows) flows }
 {}
 
 /// A line feed at the end of a text changes nothing, where the text with it isn't longer than it may be.
 pub fn trailing_line_feed_changes_nothing()
-    ensures { (t : TopologyValue) (text : List ℕ) → length text < 16777216 →
+    ensures { (t : TopologyValue) (text : List ℕ) → length text < max_text →
         parse_certificate t (text ++ 10 ∷ []) ≡ parse_certificate t text }
 {}

@@ -2,6 +2,7 @@
 
 ghost use Rattle.std.specs.Prelude.{◌≡◌, ◌<◌, ◌≤◌, [], ◌∷◌, ◌++◌, length, IfOk, OnOk, OnErr};
 ghost use Rattle.std.specs.Prelude.{string_bytes};
+ghost use Rattle.mc_text.specs.Lines.{max_text};
 ghost use Rattle.mc_cert.specs.Certificate.{BelongsTo, IsWritableTree};
 ghost use Rattle.mc_cert.specs.CertificateText.{certificate_text};
 ghost use Rattle.mc_cert.specs.Denotation.{DenotesCertificate};
@@ -75,7 +76,7 @@ impl Trees {
         requires valid { BelongsTo topology.now self.now }
         ensures text { IfOk result (λ text. string_bytes text
             ≡ certificate_text topology.now self.now) }
-        ensures denotes { IfOk result (λ text. length (string_bytes text) ≤ 16777216 →
+        ensures denotes { IfOk result (λ text. length (string_bytes text) ≤ max_text →
             DenotesCertificate topology.now (string_bytes text) self.now) }
     {
         let _rules = topology.flows();

@@ -7,7 +7,6 @@ pub mod PackReading
 pub mod PackRun
 pub use Rattle.mc_text.specs.Bundle
 pub use Rattle.mc_text.specs.BundleReading
-pub use Rattle.mc_text.specs.Bundle
 pub use Rattle.mc_text.specs.Device
 pub use Rattle.mc_text.specs.Steps
 pub use Rattle.mc_topology.specs.Names

@@ -1,10 +1,9 @@
 -- Source filters: from which sources a group is wanted (RFC 3376, section 3.2).
-use Rattle.std.specs.Prelude.{ℕ, Bool, not, List, [], Contains}
+use Rattle.std.specs.Prelude.{ℕ, ◌==◌, Bool, not, List, [], Contains}
 use Rattle.mc_igmp.specs.declared.record.Kind.{Kind}
 use Rattle.mc_igmp.specs.declared.record.Kind.TheVariants as kind
 use Rattle.mc_filter.specs.declared.filter.Mode.{Mode}
 use Rattle.mc_filter.specs.declared.filter.Mode.TheVariants.{Include, Exclude}
-use Rattle.std.specs.Prelude.{ℕ, ◌==◌, Bool, List}
 use Rattle.std.specs.List.{list_any}
 
 -- whether the list has the address

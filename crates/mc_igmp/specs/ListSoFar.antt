@@ -2,7 +2,7 @@
 use Rattle.std.specs.Prelude.{ℕ, ◌+◌, ◌*◌, ◌≤◌, nat_lt, true, ◌≡◌, List, [], ◌++◌}
 use Rattle.std.specs.Prelude.{length, Option, Some, None, Result, Ok, Err, if◌then◌else◌}
 use Rattle.mc_text.specs.DigitPairs.{AreDecoded}
-use Rattle.mc_text.specs.Lines.{LineText, HasNoLineFeed, lines_from}
+use Rattle.mc_text.specs.Lines.{LineText, HasNoLineFeed, lines_from, max_text}
 use Rattle.mc_text.specs.Steps.{◌>>=◌}
 use Rattle.mc_igmp.specs.declared.record.Record.{Record}
 use Rattle.mc_igmp.specs.declared.fault.ListFault.{ListFault}
@@ -35,7 +35,7 @@ line_after ended bytes = record { number = ended + 1; bytes = bytes; ended = tru
 -- has begun has no line feed, and its bytes and the line feeds before it are among the bytes that
 -- have come.
 abbrev pub CanReadOn : ℕ → ℕ → List ℕ → Option ListFault → Type 0
-CanReadOn size ended begun fault = size ≤ 16777216 → fault ≡ None →
+CanReadOn size ended begun fault = size ≤ max_text → fault ≡ None →
     HasNoLineFeed begun × (ended + length begun ≤ size)
 
 -- The state of reading: how many bytes have come, how many lines have ended, the bytes after the
@@ -72,6 +72,6 @@ unless_fault (Some fault) read = Err fault
 -- limit is refused whatever its lines are, as one that comes whole is.
 abbrev pub list_if : ListSoFar → List ℕ → Result (List Record) ListFault
 list_if so_far more =
-    if nat_lt 16777216 (so_far.size + length more) then Err (fault_at 0 0 TooLarge)
+    if nat_lt max_text (so_far.size + length more) then Err (fault_at 0 0 TooLarge)
     else unless_fault so_far.fault
     (read_rest_of_lines so_far.records so_far.ended (so_far.begun ++ more))

@@ -4,7 +4,7 @@ use Rattle.std.specs.Prelude.{ℕ, ◌+◌, ◌||◌, not, nat_lt, List, [], ◌
 use Rattle.std.specs.Prelude.{None, Result, Ok, Err, if◌then◌else◌}
 use Rattle.hex.specs.declared.error.FromHexError.{FromHexError}
 use Rattle.hex.specs.Hex.{decode_of}
-use Rattle.mc_text.specs.Lines.{LineText, lines_of}
+use Rattle.mc_text.specs.Lines.{LineText, lines_of, max_text}
 use Rattle.mc_text.specs.Steps.{◌>>=◌}
 use Rattle.mc_igmp.specs.declared.record.Record.{Record}
 use Rattle.mc_igmp.specs.declared.message.Message.{Message}
@@ -80,7 +80,7 @@ read_lines (line ∷ lines) = do
 -- read
 unfoldable pub read_list : List ℕ → Result (List Record) ListFault
 read_list text =
-    if nat_lt 16777216 (length text) then Err (fault_at 0 0 TooLarge)
+    if nat_lt max_text (length text) then Err (fault_at 0 0 TooLarge)
     else read_lines (lines_of text)
 
 -- the fault that memory ran out, which no line has

@@ -3,7 +3,7 @@
 use Rattle.std.specs.Prelude.{◌≡◌, ℕ, ◌≤◌, true, List, [], ◌∷◌, length, Ok}
 use Rattle.std.specs.List.{flat_map}
 use Rattle.hex.specs.Hex.{decode_of}
-use Rattle.mc_text.specs.Lines.{LineText, lines_of}
+use Rattle.mc_text.specs.Lines.{LineText, lines_of, max_text}
 use Rattle.mc_igmp.specs.declared.record.Record.{Record}
 use Rattle.mc_igmp.specs.declared.message.Message.{Message}
 use Rattle.mc_igmp.specs.declared.message.Message.TheVariants.{Report, Other}
@@ -40,6 +40,6 @@ AreMessageLines (line ∷ lines) (message ∷ messages) =
 -- their records, in order
 pub record IsReportList (text : List ℕ) (records : List Record) : Type 0 where
   pub messages : List Message
-  pub size : length text ≤ 16777216
+  pub size : length text ≤ max_text
   pub lines : AreMessageLines (lines_of text) messages
   pub in_order : records ≡ flat_map records_of messages

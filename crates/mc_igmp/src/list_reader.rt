@@ -145,6 +145,7 @@ pub struct ListReader {
 
 impl Model for ListReader {
     ghost use Rattle.std.specs.Prelude.{◌≡◌, ◌≤◌, ◌+◌, Some};
+    ghost use Rattle.mc_text.specs.Lines.{max_text};
     ghost use Rattle.mc_igmp.specs.ReadingList.{oom_fault};
     ghost use Rattle.mc_igmp.specs.ListSoFar.{ListSoFar, CanReadOn};
 
@@ -158,9 +159,9 @@ impl Model for ListReader {
       fault = s.fault;
     } };
 
-    ghost invariant = { λ s. (s.size ≤ 16777216 + 1)
+    ghost invariant = { λ s. (s.size ≤ max_text + 1)
         × CanReadOn s.size s.lines.ended s.lines.begun.items s.fault
-        × (s.fault ≡ Some oom_fault → s.size ≤ 16777216) };
+        × (s.fault ≡ Some oom_fault → s.size ≤ max_text) };
 }
 
 impl ListReader {

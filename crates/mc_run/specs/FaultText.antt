@@ -1,6 +1,7 @@
 -- How an audit prints the first fault of a file: its place in the file, and its kind (docs/FORMATS.md, the
 -- section "The program"). The kinds are those of the sections on each file.
 use Rattle.std.specs.Prelude.{ℕ, ◌==◌, List, ◌++◌, Option, Some, None, if◌then◌else◌, codes, decimal}
+use Rattle.mc_text.specs.Lines.{max_text}
 use Rattle.mc_igmp.specs.declared.fault.ListFault.{ListFault}
 use Rattle.mc_igmp.specs.declared.fault.ListFaultKind.{ListFaultKind}
 use Rattle.mc_igmp.specs.declared.fault.ListFaultKind.TheVariants as list
@@ -87,7 +88,7 @@ topology_fault_text fault =
 
 -- that a file is larger than a bundle's part may be
 abbrev pub too_large_text : List ℕ
-too_large_text = codes "larger than " ++ (decimal 16777216 ++ codes " bytes")
+too_large_text = codes "larger than " ++ (decimal max_text ++ codes " bytes")
 
 -- A file's first fault. Of the last three kinds a file has only that of a bundle whose part is too large:
 -- `Parts` is of a whole bundle, and no file is refused because memory ran out.

@@ -6,6 +6,7 @@ use Rattle.std.specs.Prelude.{List, [], ◌∷◌, ◌++◌, length, take, flat_
 use Rattle.std.specs.Prelude.{Option, Some, None, IfSome, unwrap_or, Result, Ok, Err}
 use Rattle.std.specs.Prelude.{if◌then◌else◌, string_bytes}
 use Rattle.std.specs.Io.KnownBytes.{Appends}
+use Rattle.mc_text.specs.Lines.{max_text}
 use Rattle.mc_text.specs.Device.{AppendsProperPrefix}
 use Rattle.mc_files.specs.Files.{FileText, file_named}
 use Rattle.mc_files.specs.FilePart.{unread_text}
@@ -45,7 +46,7 @@ pub record IsFrontInFile (contents : Option (List FileText)) (name : List ℕ) (
   pub bounded : length front ≤ 100
   pub known : (files : List FileText) → contents ≡ Some files →
       (bytes : List ℕ) × (file_named files name ≡ Some bytes)
-      × (front ≡ line_front line (take 16777216 bytes))
+      × (front ≡ line_front line (take max_text bytes))
 
 -- how many calls of a source fail where it gives this front: none, or one if it gives no front
 abbrev pub lost_calls : Option (List ℕ) → ℕ

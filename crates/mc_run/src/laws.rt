@@ -2,6 +2,7 @@
 
 ghost use Rattle.std.specs.Prelude.{◌≡◌, ◌≤◌, ◌++◌, ℕ, Bool, true, List, [], Ok, Option, Some};
 ghost use Rattle.std.specs.Prelude.{codes, is_some, length, slice_get};
+ghost use Rattle.mc_text.specs.Lines.{max_text};
 ghost use Rattle.mc_theory.specs.Certificates.{IsAccepted};
 ghost use Rattle.mc_files.specs.Files.{FileText};
 ghost use Rattle.mc_forward.specs.Domains.{DomainValue, net_of};
@@ -22,7 +23,7 @@ pub fn check_accepts_made_certificates()
     // If the certificate has at most 16,777,216 bytes, it is read, line feed included, as the lists that
     // were made.
     ensures read { (text written : List ℕ) (made : IsMadeText text true written) →
-        length written ≤ 16777216 →
+        length written ≤ max_text →
         parse_certificate made.domain.topology written ≡ Ok (certified_lists made.holds.examined) }
     // Each of the lists is accepted.
     ensures accepted { (text written : List ℕ) (made : IsMadeText text true written)

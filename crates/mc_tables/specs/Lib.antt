@@ -30,5 +30,4 @@ pub use Rattle.mc_text.specs.DeviceName
 pub use Rattle.mc_text.specs.AddressWord
 pub use Rattle.mc_text.specs.Lines
 pub use Rattle.mc_text.specs.Number
-pub use Rattle.mc_text.specs.Lines
 pub use Rattle.mc_text.specs.Hex

@@ -2,7 +2,6 @@
 use Rattle.std.specs.Prelude.{ℕ, Bool, Option, Some, None, Result, Ok, Err, if◌then◌else◌}
 use Rattle.mc_tables.specs.declared.fault.TableFault.{TableFault}
 use Rattle.mc_tables.specs.declared.fault.TableFaultKind.{TableFaultKind}
-use Rattle.std.specs.Prelude.{ℕ}
 use Rattle.mc_tables.specs.declared.fault.TableFaultKind.TheVariants.{Memory}
 
 -- nothing, if the test passes, or else this fault

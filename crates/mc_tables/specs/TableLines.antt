@@ -3,7 +3,7 @@ use Rattle.std.specs.Prelude.{◌≡◌, ℕ, ◌≤◌, nat_lt, Bool, false, Is
 use Rattle.std.specs.Prelude.{Option, Some, None, Result, Ok, Err, if◌then◌else◌}
 use Rattle.std.specs.List.{list_any}
 use Rattle.std.specs.Str.{bytes_eq}
-use Rattle.mc_text.specs.Lines.{LineText, lines_of}
+use Rattle.mc_text.specs.Lines.{LineText, lines_of, max_text}
 use Rattle.mc_text.specs.Lines.{words_of}
 use Rattle.mc_tables.specs.declared.fault.TableFault.{TableFault}
 use Rattle.mc_tables.specs.declared.fault.TableFaultKind.TheVariants.{NoHeader, Unended, TooLarge}
@@ -20,7 +20,7 @@ begins_with first (word ∷ words) = bytes_eq word first
 -- The text has at most 16,777,216 bytes. A line feed ends its first line, the header, whose first
 -- word is `first`, and these are the lines after it.
 pub record HasHeader (first : List ℕ) (text : List ℕ) (lines : List LineText) : Type 0 where
-  pub size : length text ≤ 16777216
+  pub size : length text ≤ max_text
   pub header : LineText
   pub whole : lines_of text ≡ header ∷ lines
   pub ended : IsTrue header.ended
@@ -50,7 +50,7 @@ lines_after_header first (header ∷ lines) =
 -- the lines after the header of a text, which has to be within the limit
 abbrev pub lines_in : List ℕ → List ℕ → Result (List LineText) TableFault
 lines_in first text =
-    if nat_lt 16777216 (length text) then Err (record { line = 0; kind = TooLarge })
+    if nat_lt max_text (length text) then Err (record { line = 0; kind = TooLarge })
     else lines_after_header first (lines_of text)
 
 -- the earlier rows, and after them those of the lines, each read in view of all rows before it

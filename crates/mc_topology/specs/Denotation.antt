@@ -2,6 +2,7 @@
 -- that TOML's reader gives.
 use Rattle.std.specs.Prelude.{◌≡◌, ℕ, pos, ◌<◌, ◌≤◌, List, [], ◌∷◌, length, codes, IsTrue, IsUtf8}
 use Rattle.std.specs.Prelude.{Option, Some, None}
+use Rattle.mc_text.specs.Lines.{max_text}
 use Rattle.toml.specs.Data.{Data, string, integer, array, table, Items, Members, get_member}
 use Rattle.toml.specs.Parse.{parse_document}
 use Rattle.mc_text.specs.Addr.{IsAddr, IsSource, IsForwardedGroup, dotted}
@@ -149,7 +150,7 @@ pub record DenotesDocument (ms : Members) (t : TopologyValue) : Type 0 where
 -- it as a table that denotes the topology
 pub record DenotesTopology (text : List ℕ) (t : TopologyValue) : Type 0 where
   pub document : Members
-  pub few : length text ≤ 16777216
+  pub few : length text ≤ max_text
   pub utf8 : IsUtf8 text
   pub reads : parse_document text ≡ Some document
   pub denotes : DenotesDocument document t

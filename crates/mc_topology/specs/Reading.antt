@@ -4,6 +4,7 @@ use Rattle.std.specs.Prelude.{ℕ, pos, nat_le, List, [], ◌∷◌, length, cod
 use Rattle.std.specs.Prelude.{◌&&◌, if◌then◌else◌}
 use Rattle.std.specs.Ordering.{int_eq}
 use Rattle.std.specs.Str.{is_utf8}
+use Rattle.mc_text.specs.Lines.{max_text}
 use Rattle.toml.specs.Data.{Members}
 use Rattle.toml.specs.Parse.{parse_document}
 use Rattle.mc_topology.specs.declared.flow.Flow.{Flow}
@@ -34,13 +35,13 @@ parse_toml text = require_utf8 text >>= λ t. ok_or (parse_document t) NotToml
 -- the table of a text, which has to have at most 16,777,216 bytes (else TooMany) and then to be
 -- TOML
 unfoldable pub table_of : List ℕ → Result Members TopologyFaultKind
-table_of text = if nat_le (length text) 16777216 then parse_toml text else Err TooMany
+table_of text = if nat_le (length text) max_text then parse_toml text else Err TooMany
 
 -- the table of a text, which has to be within the bounds as well (else TooMany) before it is read
 -- as TOML
 unfoldable pub document_of : List ℕ → Result Members TopologyFaultKind
 document_of text =
-    if nat_le (length text) 16777216 && is_bounded text then parse_toml text else Err TooMany
+    if nat_le (length text) max_text && is_bounded text then parse_toml text else Err TooMany
 
 -- the keys of a topology's table
 abbrev pub top_keys : List (List ℕ)

@@ -1,6 +1,7 @@
 //! Reads a certificate of version 1.
 
 ghost use Rattle.std.specs.Prelude.{◌≡◌, ◌≤◌, None, IfOk, length, map, option_map};
+ghost use Rattle.mc_text.specs.Lines.{max_text};
 ghost use Rattle.serde_json.specs.Data.{Members};
 ghost use Rattle.mc_cert.specs.Denotation.{DenotesCertificate};
 ghost use Rattle.mc_cert.specs.Tokens.{HoldsVersionOne, IsVersionOne};
@@ -88,7 +89,7 @@ pub(crate) fn version_one(
     topology: &Topology,
     text: &str,
 ) -> Result<Certificate, NotRead>
-    requires few { length text.now ≤ 16777216 }
+    requires few { length text.now ≤ max_text }
     ensures { IfOk result (DenotesCertificate topology.now text.now) }
 {
     let fields = read_document(alloc, topology, VersionOneFields::new(), text)?;

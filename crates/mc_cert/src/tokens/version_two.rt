@@ -1,6 +1,7 @@
 //! Reads a certificate of version 2.
 
 ghost use Rattle.std.specs.Prelude.{◌≡◌, ◌<◌, ◌≤◌, None, All, IfOk, length, map, option_map};
+ghost use Rattle.mc_text.specs.Lines.{max_text};
 ghost use Rattle.serde_json.specs.Data.{Members};
 ghost use Rattle.mc_cert.specs.Certificate.{IsWritableTree, tree_at};
 ghost use Rattle.mc_cert.specs.Denotation.{DenotesCertificate, DenotesTree};
@@ -166,7 +167,7 @@ pub(crate) fn version_two(
     topology: &Topology,
     text: &str,
 ) -> Result<Certificate, NotRead>
-    requires few { length text.now ≤ 16777216 }
+    requires few { length text.now ≤ max_text }
     ensures denotes { IfOk result (DenotesCertificate topology.now text.now) }
 {
     let fields = read_document(alloc, topology, VersionTwoFields::new(), text)?;

@@ -1,8 +1,8 @@
 -- A cache of which each row is handed on: where the whole text is read, all of its rows are.
-use Rattle.std.proofs.Common.{◌≡◌, ℕ, List, [], ◌∷◌, ◌++◌, Result, Ok, Err, cond, true, false, length, refl, sym, ap, ◌∙◌}
+use Rattle.std.proofs.Common.{◌≡◌, ℕ, List, [], ◌∷◌, ◌++◌, Ok, Err, cond, true, false, length, refl, sym, ap, ◌∙◌}
 use Rattle.std.specs.Prelude.{codes, nat_lt}
 use Rattle.mc_text.specs.declared.text.addr.Order.{Order}
-use Rattle.mc_text.specs.Lines.{LineText, lines_of, words_of}
+use Rattle.mc_text.specs.Lines.{LineText, lines_of}
 use Rattle.mc_text.specs.Steps.{◌>>=◌}
 use Rattle.mc_tables.specs.declared.fault.TableFault.{TableFault}
 use Rattle.mc_tables.specs.declared.fault.TableFaultKind.TheVariants.{TooLarge}

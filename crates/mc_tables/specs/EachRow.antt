@@ -10,7 +10,7 @@ use Rattle.mc_tables.specs.declared.fault.TableFaultKind.TheVariants.{Unended}
 use Rattle.mc_tables.specs.CacheTable.{EntryValue, RowValue}
 use Rattle.mc_tables.specs.CacheReading.{row_in_words}
 use Rattle.mc_tables.specs.Steps.{at_line, demand}
-use Rattle.mc_tables.specs.TableSoFar.{TableSoFar, table_start, table_if}
+use Rattle.mc_tables.specs.TableSoFar.{TableSoFar, table_if}
 
 -- what is made after one more row: what `after` makes of its source and group and its entry, beside
 -- what was made before; an unresolved row changes nothing

@@ -4,6 +4,7 @@
 
 mod cache;
 mod fault;
+mod fed_tables;
 pub mod laws;
 mod lines;
 mod listed;

@@ -1,7 +1,6 @@
 //! The lines and words of a kernel's tables, and their reading piece by piece.
 
 pub(crate) mod address_words;
-mod fed_table;
 pub(crate) mod header;
 pub(crate) mod line_buffer;
 pub(crate) mod marked_line;

@@ -1,7 +1,7 @@
 -- The faults of reading a bundle are framing faults.
 use Rattle.std.proofs.Common.{Bool, ◌≡◌, ℕ, zero, suc, true, false, cond, List, Option, Some, None}
 use Rattle.std.proofs.Common.{Result, Ok, Err, refl, inl, inr}
-use Rattle.std.specs.Prelude.{IfErr, ◌⊎◌, position, take, ◌==◌, ◌-◌}
+use Rattle.std.specs.Prelude.{IfErr, ◌⊎◌, position, take, ◌==◌}
 use Rattle.std.proofs.lemmas.Result.{IfErr-at_err}
 use Rattle.mc_text.specs.declared.bundle.bundle_fault.BundleFault.{BundleFault}
 use Rattle.mc_text.specs.declared.bundle.bundle_fault.BundleFault.TheVariants as faults

@@ -3,6 +3,7 @@
 mod cache_summary;
 mod distinct;
 mod lowest_pairs;
+mod pair_order;
 mod shown_pairs;
 pub(crate) mod summarized_cache;
 mod summarized_rows;
@@ -12,7 +13,7 @@ pub(crate) mod summary_so_far;
 pub(crate) mod unlisted_rows;
 
 pub use cache_summary::CacheSummary;
-pub use shown_pairs::sorted_without_repeats;
+pub use pair_order::sorted_without_repeats;
 pub use summarized_cache::SummarizedCache;
 pub use summary_pairs::SummaryPairs;
 pub use summary_reader::SummaryReader;

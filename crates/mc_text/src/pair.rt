@@ -16,6 +16,15 @@ pub fn pair_number(source: Addr, group: Addr) -> u64
     u64::from(source.to_bits()) * (1 << 32) + u64::from(group.to_bits())
 }
 
+/// The source and the group that a number stands for.
+pub fn pair_of_number(number: u64) -> (Addr, Addr)
+    ensures { result ≡ pair_of number }
+{
+    let source = Addr::from_bits((number >> 32) as u32);
+    let group = Addr::from_bits((number % (1 << 32)) as u32);
+    (source, group)
+}
+
 /// The number of each pair, in their order.
 ///
 /// # Errors

@@ -1,10 +1,10 @@
 //! The pairs of addresses that a summary shows: all that were added, or the lowest.
 
 ghost use Rattle.std.specs.Prelude.{◌≡◌, [], OnOk};
-ghost use Rattle.mc_tables.specs.Summary.{in_order};
 ghost use Rattle.mc_tables.specs.SummarySoFar.{with_pair};
 
 use crate::summary::lowest_pairs::LowestPairs;
+use crate::summary::pair_order::sorted_without_repeats;
 use mc_text::Addr;
 use std::alloc::{AllocError, Global};
 use std::marker::Model;
@@ -66,13 +66,4 @@ impl ShownPairs {
             lowest.into_vec()
         }
     }
-}
-
-/// The pairs in ascending order, each once.
-pub fn sorted_without_repeats(mut pairs: Vec<(Addr, Addr)>) -> Vec<(Addr, Addr)>
-    ensures { result.items ≡ in_order pairs.items }
-{
-    pairs.sort_unstable();
-    pairs.dedup();
-    pairs
 }

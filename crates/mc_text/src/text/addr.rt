@@ -109,6 +109,13 @@ impl Addr {
         }
     }
 
+    /// The address of four octets as one number, the first octet the most significant.
+    pub(crate) fn from_bits(bits: u32) -> Addr
+        ensures { result ≡ bits }
+    {
+        Addr { bits }
+    }
+
     /// The four octets as one number, the first octet the most significant.
     pub fn to_bits(self) -> u32
         ensures { result ≡ self }

@@ -11,8 +11,8 @@ abbrev pub is_wanted_group : (channels : List (ℕ × ℕ)) → List Record → 
 is_wanted_group channels records group =
     list_any (λ channel. (channel.1 == group) && wanted records group channel.0) channels
 
--- Wanted channels are all that a record of a kind asks for. EXCLUDE asks for its group from any source, which a wanted
--- channel of the group answers, and INCLUDE for it from each source of its list.
+-- Wanted channels are all that a record of a kind asks for. EXCLUDE asks for its group from any source, which
+-- a wanted channel of the group answers, and INCLUDE for it from each source of its list.
 abbrev pub AreAllOfKind : Kind → (channels : List (ℕ × ℕ)) → List Record → (group : ℕ) → (sources : List ℕ)
     → Type 0
 AreAllOfKind kind.Exclude channels records group sources = IsTrue (is_wanted_group channels records group)

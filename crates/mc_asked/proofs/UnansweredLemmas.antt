@@ -1,6 +1,6 @@
 -- The wants of each class are those of the pairs that no flow answers.
-use Rattle.std.proofs.Common.{◌≡◌, ℕ, Bool, true, false, cond, not, List, [], ◌∷◌, ◌++◌, filter, flat_map, map}
-use Rattle.std.proofs.Common.{inl, refl, sym, ap, ap₂, ◌∙◌, arith}
+use Rattle.std.proofs.Common.{◌≡◌, ℕ, Bool, true, false, cond, not, List, [], ◌∷◌, ◌++◌, filter, flat_map}
+use Rattle.std.proofs.Common.{map, inl, refl, sym, ap, ap₂, ◌∙◌, arith}
 use Rattle.std.specs.List.{All, Contains}
 use Rattle.std.proofs.lemmas.Bool.Decides.{nat_tests}
 use Rattle.std.proofs.lemmas.List.Concat.{flat_map-cons}
@@ -17,7 +17,8 @@ use Rattle.mc_tables.specs.Summary.{in_order}
 use Rattle.mc_asked.specs.declared.want_class.WantClass.{WantClass}
 use Rattle.mc_asked.specs.declared.want_class.WantClass.TheVariants.{Answered}
 use Rattle.mc_asked.specs.Answers.{AnswersValue, class_of, is_answer, is_answered}
-use Rattle.mc_asked.specs.ListWants.{Want, asked_by, asked_by_kind, included_in, is_of_merged_filter, wants_in}
+use Rattle.mc_asked.specs.ListWants.{Want, asked_by, asked_by_kind, included_in, is_of_merged_filter}
+use Rattle.mc_asked.specs.ListWants.{wants_in}
 use Rattle.mc_theory.specs.Lists.{In}
 use Rattle.mc_asked.proofs.LawLemmas.{not_any}
 use Rattle.mc_asked.proofs.PartLemmas.{in-from_in_order}
@@ -52,10 +53,11 @@ answered-by_flow a records group source is has_it =
     (ap (is_answer records (group, source)) has_it.2
     ∙ rw (not_any source is) (grind (arith, nat_tests)))
 
-included-answered_step : (a : AnswersValue) (records : List Record) (group s : ℕ) (sources : List ℕ) (b : Bool)
-    → is_source s ≡ b → Contains a.flows (s, group)
+included-answered_step : (a : AnswersValue) (records : List Record) (group s : ℕ) (sources : List ℕ)
+    (b : Bool) → is_source s ≡ b → Contains a.flows (s, group)
     → filter (λ want. not (is_answered a records want)) (map (λ x. (group, x)) sources) ≡ []
-    → filter (λ want. not (is_answered a records want)) (map (λ x. (group, x)) (cond b (s ∷ sources) sources)) ≡ []
+    → filter (λ want. not (is_answered a records want))
+    (map (λ x. (group, x)) (cond b (s ∷ sources) sources)) ≡ []
 included-answered_step a records group s sources false is has_it rest = rest
 included-answered_step a records group s sources true is has_it rest =
     rw (answered-by_flow a records group s is has_it) rest
@@ -66,8 +68,8 @@ included-answered : (a : AnswersValue) (records : List Record) (group : ℕ) (so
 included-answered a records group [] all = refl
 included-answered a records group (s ∷ sources) all =
     let P : ℕ → Type 0 = λ x. Contains a.flows (x, group) in
-    included-answered_step a records group s (filter is_source sources) (is_source s) refl (All-head P s sources all)
-    (included-answered a records group sources (All-tail P s sources all))
+    included-answered_step a records group s (filter is_source sources) (is_source s) refl
+    (All-head P s sources all) (included-answered a records group sources (All-tail P s sources all))
 
 asked-answered : (a : AnswersValue) (records : List Record) (k : Kind) (group : ℕ) (sources : List ℕ)
     → AreAllOfKind k a.flows records group sources

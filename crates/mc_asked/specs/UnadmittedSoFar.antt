@@ -1,13 +1,14 @@
 -- The sources that the filter of none of a want's LANs admits (Unadmitted), worked out LAN by LAN: what is
 -- kept after the lists of some LANs.
-use Rattle.std.specs.Prelude.{◌≡◌, ℕ, ◌==◌, ◌&&◌, Bool, false, true, not, List, [], ◌∷◌, filter, map}
-use Rattle.std.specs.Prelude.{take, Some, if◌then◌else◌}
+use Rattle.std.specs.Prelude.{◌≡◌, ℕ, ◌+◌, ◌==◌, ◌&&◌, Bool, false, true, not, List, [], ◌∷◌, filter}
+use Rattle.std.specs.Prelude.{length, map, slice_get, take, Some, if◌then◌else◌}
 use Rattle.mc_igmp.specs.declared.record.Record.{Record}
 use Rattle.mc_filter.specs.SourceFilter.{has}
 use Rattle.mc_tables.specs.ListedRows.{is_listed}
 use Rattle.mc_asked.specs.Answers.{AnswersValue}
-use Rattle.mc_asked.specs.AskedLines.{lan_wants_from, wants_of_lans}
+use Rattle.mc_asked.specs.AskedLines.{asked_lines, lan_wants_from, wants_of_lans}
 use Rattle.mc_asked.specs.GroupRun.{seconds_of}
+use Rattle.mc_asked.specs.LanWants.{LanWantsValue}
 use Rattle.mc_asked.specs.ListWants.{Want, any_source}
 use Rattle.mc_asked.specs.PairParts.{with_parts}
 use Rattle.mc_asked.specs.Unadmitted.{with_unadmitted}
@@ -81,3 +82,24 @@ abbrev pub AreSourcesBelow : (all : Bool) → AnswersValue → List (List Record
     → List WantSourcesValue → Type 0
 AreSourcesBelow all a lists lan wants sources =
     sources ≡ map (λ want. sources_so_far lists (with_parts (wants_below all a lists lan) want)) wants
+
+-- ---- whatever the lists of the LANs are, and what answers wants
+
+-- this is what is kept of each of these wants before the first LAN
+abbrev pub AreBeforeFirstLan : List Want → List WantSourcesValue → Type 0
+AreBeforeFirstLan wants sources = (all : Bool) (a : AnswersValue) (lists : List (List Record)) →
+    AreSourcesBelow all a lists 0 wants sources
+
+-- where the old sources are those below this LAN, of whose list `own` is kept, the new ones are those with it
+abbrev pub AddsLan : LanWantsValue → (old new : List WantSourcesValue) → List (List Record) → (lan : ℕ)
+    → Type 0
+AddsLan own old new lists lan = (all : Bool) (a : AnswersValue) (wants : List Want) →
+    slice_get (lan_wants_from all a 0 lists) lan ≡ Some own → AreSourcesBelow all a lists lan wants old →
+    AreSourcesBelow all a lists (lan + 1) wants new
+
+-- where the sources are those with all LANs, these are the wants of lines, each with what is unadmitted
+abbrev pub AreAskedAfterLast : List WantSourcesValue → List (Want × List ℕ) → Type 0
+AreAskedAfterLast sources asked = (all : Bool) (a : AnswersValue) (lists : List (List Record))
+    (lines : List (Want × List ℕ)) → lines ≡ asked_lines all (lan_wants_from all a 0 lists) →
+    AreSourcesBelow all a lists (length lists) (map (λ line. line.0) lines) sources →
+    asked ≡ map (with_unadmitted lists) lines

@@ -96,17 +96,20 @@ fn index_of_wanted_groups(
     Index::of(alloc, numbers)
 }
 
-/// Appends a want if it is kept.
-fn push_if(
-    wants: &mut Vec<(Addr, Addr)>,
-    is_kept: bool,
+/// Appends a want unless a flow answers it.
+fn push_unless_answered(
+    unanswered: &mut Vec<(Addr, Addr)>,
+    answers: &WantAnswers,
+    wanted_groups: &Index,
     want: &(Addr, Addr),
 ) -> Result<(), AllocError>
-    ensures { OnOk result (wants.new.items
-        ≡ wants.old.items ++ (if is_kept then want.now ∷ [] else [])) }
+    ensures { OnOk result ((records : List Record) →
+        IsIndexOfWantedGroups answers.now.flows records wanted_groups.now →
+        unanswered.new.items ≡ unanswered.old.items
+        ++ (if not (is_answered answers.now records want.now) then want.now ∷ [] else [])) }
 {
-    if is_kept {
-        wants.push(*want)?;
+    if !answers.is_answered(wanted_groups, want) {
+        unanswered.push(*want)?;
     }
     Ok(())
 }
@@ -124,8 +127,7 @@ fn unanswered_among(
 {
     let mut unanswered = Vec::new(alloc);
     for pair in pairs {
-        let is_answered = answers.is_answered(wanted_groups, pair);
-        push_if(&mut unanswered, !is_answered, pair)?;
+        push_unless_answered(&mut unanswered, answers, wanted_groups, pair)?;
     }
     Ok(unanswered)
 }

@@ -1,18 +1,15 @@
 //! The sources that the filter of none of a want's LANs admits, found LAN by LAN.
 
-ghost use Rattle.std.specs.Prelude.{◌≡◌, ◌+◌, ℕ, Bool, List, Some, IfOk, OnOk, false, filter, length, map};
-ghost use Rattle.std.specs.Prelude.{slice_get};
+ghost use Rattle.std.specs.Prelude.{◌≡◌, ℕ, List, Some, IfOk, OnOk, false, filter, map, slice_get};
 ghost use Rattle.std.specs.List.{list_any};
 ghost use Rattle.std.specs.List.Sorted.{IsStrictlyIncreasing, IsStrictlySortedBy};
 ghost use Rattle.mc_igmp.specs.declared.record.Record.{Record};
 ghost use Rattle.mc_filter.specs.SourceFilter.{has};
 ghost use Rattle.mc_tables.specs.CacheTable.{key_cmp};
-ghost use Rattle.mc_asked.specs.Answers.{AnswersValue};
-ghost use Rattle.mc_asked.specs.AskedLines.{asked_lines, lan_wants_from};
-ghost use Rattle.mc_asked.specs.ListWants.{Want};
-ghost use Rattle.mc_asked.specs.Unadmitted.{with_unadmitted};
-ghost use Rattle.mc_asked.specs.UnadmittedSoFar.{AreSourcesBelow, as_asked, groups_from_any, is_shared_any};
-ghost use Rattle.mc_asked.specs.UnadmittedSoFar.{with_lan, with_lan_at, with_unadmitted_of, without_sources};
+ghost use Rattle.mc_asked.specs.GroupRun.{seconds_of};
+ghost use Rattle.mc_asked.specs.UnadmittedSoFar.{AddsLan, AreAskedAfterLast, AreBeforeFirstLan, as_asked};
+ghost use Rattle.mc_asked.specs.UnadmittedSoFar.{groups_from_any, is_shared_any, with_lan, with_lan_at};
+ghost use Rattle.mc_asked.specs.UnadmittedSoFar.{with_unadmitted_of, without_sources};
 
 use crate::group_run::seconds_of;
 use crate::lan_wants::LanWants;
@@ -164,8 +161,7 @@ impl UnadmittedSources {
     /// `Memory` if an allocation is refused.
     pub fn of_lines(alloc: Global, lines: &[SharedPair]) -> Result<UnadmittedSources, Memory>
         requires sorted { IsStrictlySortedBy key_cmp (map (λ line. line.0) lines.now) }
-        ensures { IfOk result (λ sources. (all : Bool) (a : AnswersValue) (lists : List (List Record)) →
-            AreSourcesBelow all a lists 0 (map (λ line. line.0) lines.now) sources) }
+        ensures { IfOk result (AreBeforeFirstLan (map (λ line. line.0) lines.now)) }
     {
         let keys = wants_of(alloc, lines)?;
         let sources = without_sources(alloc, &keys)?;
@@ -177,10 +173,8 @@ impl UnadmittedSources {
     pub fn needs_list(&self, own: &LanWants) -> bool
         ensures value { result
             ≡ list_any (is_shared_any (map (λ s. s.want) self.now)) own.now.lowest }
-        ensures skipped { (all : Bool) (a : AnswersValue) (lists : List (List Record)) (lan : ℕ)
-            (wants : List Want) → slice_get (lan_wants_from all a 0 lists) lan ≡ Some own.now →
-            AreSourcesBelow all a lists lan wants self.now → result ≡ false →
-            AreSourcesBelow all a lists (lan + 1) wants self.now }
+        ensures skipped { result ≡ false → (lists : List (List Record)) (lan : ℕ) →
+            AddsLan own.now self.now self.now lists lan }
     {
         for want in own.lowest() {
             if is_shared_any(&self.keys, want) {
@@ -217,6 +211,21 @@ impl UnadmittedSources {
         Ok(())
     }
 
+    /// The same by the sources that the LAN doesn't admit, each behind its group.
+    fn add_group(
+        &mut self,
+        alloc: Global,
+        group: Addr,
+        unadmitted: &[(Addr, Addr)],
+    ) -> Result<(), AllocError>
+        requires sorted { IsStrictlySortedBy key_cmp unadmitted.now }
+        ensures { OnOk result
+            (self.new ≡ map (with_lan_at group (seconds_of group unadmitted.now)) self.old) }
+    {
+        let own = seconds_of(alloc, unadmitted, group)?;
+        self.add_lan(alloc, group, own)
+    }
+
     /// Takes the sources that one more LAN doesn't admit, each behind its group, of some groups.
     fn add_unadmitted(
         &mut self,
@@ -229,8 +238,7 @@ impl UnadmittedSources {
         ensures { OnOk result (self.new ≡ map (with_unadmitted_of groups.now unadmitted.now) self.old) }
     {
         for group in groups {
-            let own = seconds_of(alloc, unadmitted, *group)?;
-            self.add_lan(alloc, *group, own)?;
+            self.add_group(alloc, *group, unadmitted)?;
         }
         Ok(())
     }
@@ -247,11 +255,8 @@ impl UnadmittedSources {
         own: &LanWants,
         list: &ReportList,
     ) -> Result<(), Memory>
-        ensures { OnOk result ((all : Bool) (a : AnswersValue) (lists : List (List Record)) (lan : ℕ)
-            (wants : List Want) → slice_get lists lan ≡ Some list.now →
-            slice_get (lan_wants_from all a 0 lists) lan ≡ Some own.now →
-            AreSourcesBelow all a lists lan wants self.old →
-            AreSourcesBelow all a lists (lan + 1) wants self.new) }
+        ensures { OnOk result ((lists : List (List Record)) (lan : ℕ) →
+            slice_get lists lan ≡ Some list.now → AddsLan own.now self.old self.new lists lan) }
     {
         let groups = self.groups_from_any(alloc, own)?;
         let unadmitted = unadmitted_in(alloc, list, &groups)?;
@@ -266,10 +271,7 @@ impl UnadmittedSources {
     /// `Memory` if an allocation is refused.
     pub fn into_wants(self, alloc: Global) -> Result<Vec<AskedWant>, Memory>
         // With all LANs these are the sources that are unadmitted.
-        ensures asked { IfOk result (λ wants. (all : Bool) (a : AnswersValue) (lists : List (List Record))
-            (lines : List (Want × List ℕ)) → lines ≡ asked_lines all (lan_wants_from all a 0 lists) →
-            AreSourcesBelow all a lists (length lists) (map (λ line. line.0) lines) self →
-            wants.items ≡ map (with_unadmitted lists) lines) }
+        ensures asked { IfOk result (λ wants. AreAskedAfterLast self wants.items) }
         ensures sorted { IfOk result (λ wants. IsStrictlySortedBy key_cmp (map (λ w. w.0) wants.items)) }
     {
         let UnadmittedSources { sources, .. } = self;

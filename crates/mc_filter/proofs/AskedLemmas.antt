@@ -115,9 +115,9 @@ asked-of_kind groups numbers places records j r kind.Include each groups_of numb
     (rw is at (keeps.sources k d within))
 asked-of_kind groups numbers places records j r kind.Exclude each groups_of numbers_of below at is keeps =
     wanted-by_exclude groups numbers places records j r each groups_of below at is keeps
-asked-of_kind groups numbers places records j r (kind.Change type) each groups_of numbers_of below at is keeps =
+asked-of_kind groups numbers places records j r (kind.Change t) each groups_of numbers_of below at is keeps =
     tt
-asked-of_kind groups numbers places records j r (kind.Unknown type) each groups_of numbers_of below at is keeps =
+asked-of_kind groups numbers places records j r (kind.Unknown t) each groups_of numbers_of below at is keeps =
     tt
 
 -- records that keep to the channels ask for nothing else

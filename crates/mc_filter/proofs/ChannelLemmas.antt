@@ -32,13 +32,11 @@ contains-map f xs made kept is same = λ k d below.
     ))
 
 -- an index of the channels' groups has no other
-pub groups-of_made : (channels asked : List (ℕ × ℕ)) (made kept : List ℕ) → channels ≡ asked
-    → made ≡ map (λ channel. channel.1) asked → ((n : ℕ) → Contains kept n ↔ Contains made n)
-    → AreGroupsOf kept channels
-groups-of_made channels asked made kept is made_is same = λ k d below.
+pub groups-of_made : (asked : List (ℕ × ℕ)) (made kept : List ℕ) → made ≡ map (λ channel. channel.1) asked
+    → ((n : ℕ) → Contains kept n ↔ Contains made n) → AreGroupsOf kept asked
+groups-of_made asked made kept made_is same = λ k d below.
     let group : ℕ = get_or kept k d in
-    subst (λ (cs : List (ℕ × ℕ)). Contains (map (λ (channel : ℕ × ℕ). channel.1) cs) group) (sym is)
-    (subst (λ ns. Contains ns group) made_is ((same group).0 (Contains-get_or kept k d below)))
+    subst (λ ns. Contains ns group) made_is ((same group).0 (Contains-get_or kept k d below))
 
 contains-mapped : (f : ℕ → ℕ × ℕ) (xs : List ℕ) (x : ℕ) → Contains xs x → Contains (map f xs) (f x)
 contains-mapped f xs x has_it = (
@@ -48,12 +46,11 @@ contains-mapped f xs x has_it = (
 )
 
 -- and one of their numbers no other channel
-pub numbers-of_made : (channels asked : List (ℕ × ℕ)) (made kept : List ℕ) → channels ≡ asked
-    → map pair_of made ≡ asked → ((n : ℕ) → Contains kept n ↔ Contains made n)
-    → AreNumbersOf kept channels
-numbers-of_made channels asked made kept is made_are same = λ k d below.
+pub numbers-of_made : (asked : List (ℕ × ℕ)) (made kept : List ℕ) → map pair_of made ≡ asked
+    → ((n : ℕ) → Contains kept n ↔ Contains made n) → AreNumbersOf kept asked
+numbers-of_made asked made kept made_are same = λ k d below.
     let number : ℕ = get_or kept k d in
-    subst (λ (cs : List (ℕ × ℕ)). Contains cs (pair_of number)) (made_are ∙ sym is)
+    subst (λ (cs : List (ℕ × ℕ)). Contains cs (pair_of number)) made_are
     (contains-mapped pair_of made number ((same number).0 (Contains-get_or kept k d below)))
 
 -- the channels of places, with one more

@@ -87,6 +87,11 @@ AddsRecord channels place r old new = (groups : List ℕ) (records left : List R
     get_or groups place 0 ≡ r.group →
     IsTallyOf groups channels records old (r ∷ left) → IsTallyOf groups channels records new left
 
+-- The new tally, of these groups and channels, counts one more record than the old one.
+abbrev pub CountsRecord : (groups channels : List ℕ) → Record → (old new : Tally) → Type 0
+CountsRecord groups channels r old new = (records left : List Record) →
+    IsTallyOf groups channels records old (r ∷ left) → IsTallyOf groups channels records new left
+
 -- whether the kind is that of an INCLUDE record
 abbrev pub is_include : Kind → Bool
 is_include kind.Include = true

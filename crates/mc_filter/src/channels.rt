@@ -1,16 +1,17 @@
 //! Channels, and which of them the hosts of a LAN want.
 
-ghost use Rattle.std.specs.Prelude.{◌≡◌, ◌<◌, ℕ, Bool, Contains, IfOk, [], Some, false};
+ghost use Rattle.std.specs.Prelude.{◌≡◌, ◌<◌, ℕ, Bool, Contains, IfOk, OnOk, [], Some, false};
 ghost use Rattle.std.specs.Prelude.{length, map, slice_get, vec_len};
 ghost use Rattle.std.specs.List.{All};
 ghost use Rattle.mc_text.specs.Pair.{pair_number};
-ghost use Rattle.mc_filter.specs.ChannelPlaces.{AreAnswersOfTally, IsChannelPlace, channel_at};
-ghost use Rattle.mc_filter.specs.ChannelPlaces.{IsWantedAnswer};
+ghost use Rattle.mc_filter.specs.ChannelPlaces.{AreAnswersOfTally, AreGroupsOf, AreNumbersOf};
+ghost use Rattle.mc_filter.specs.ChannelPlaces.{IsChannelPlace, IsWantedAnswer, channel_at};
 ghost use Rattle.mc_filter.specs.ChannelWants.{AreAllAskedFor};
-ghost use Rattle.mc_filter.specs.Tallies.{IsTallyOf, KeepToChannelsUnlessMore};
+ghost use Rattle.mc_filter.specs.Tallies.{CountsRecord, IsTallyOf, KeepsToChannels};
+ghost use Rattle.mc_filter.specs.Tallies.{KeepToChannelsUnlessMore};
 
 use crate::tally::Tally;
-use mc_igmp::ReportList;
+use mc_igmp::{Record, ReportList};
 use mc_text::{Addr, Index, Memory, pair_number, pair_numbers};
 use std::alloc::Global;
 use std::marker::Model;
@@ -31,6 +32,25 @@ fn group_numbers(alloc: Global, asked: &[(Addr, Addr)]) -> Result<Vec<u64>, Memo
         numbers.push(u64::from(channel.1.to_bits()))?;
     }
     Ok(numbers)
+}
+
+/// An index of the groups of channels.
+fn index_of_groups(alloc: Global, asked: &[(Addr, Addr)]) -> Result<Index, Memory>
+    ensures each { IfOk result (λ groups. All (λ channel. Contains groups channel.1) asked.now) }
+    ensures only { IfOk result (λ groups. AreGroupsOf groups asked.now) }
+{
+    let numbers = group_numbers(alloc, asked)?;
+    Index::of(alloc, numbers)
+}
+
+/// An index of channels.
+fn index_of_channels(alloc: Global, asked: &[(Addr, Addr)]) -> Result<Index, Memory>
+    ensures each { IfOk result (λ channels.
+        All (λ channel. Contains channels (pair_number channel)) asked.now) }
+    ensures only { IfOk result (λ channels. AreNumbersOf channels asked.now) }
+{
+    let numbers = pair_numbers(alloc, asked)?;
+    Index::of(alloc, numbers)
 }
 
 /// The place of a channel, which must be in both indexes.
@@ -70,6 +90,30 @@ fn places_of(
     Ok(places)
 }
 
+/// Adds a record to a tally of these groups and channels.
+fn add_record(
+    tally: &mut Tally,
+    groups: &Index,
+    channels: &Index,
+    group_record: &Record<'_>,
+) -> Result<(), Memory>
+    requires groups { length tally.old.excludes.items ≡ length groups.now }
+    requires channels { length tally.old.states.items ≡ length channels.now }
+    ensures groups { OnOk result (length tally.new.excludes.items ≡ length groups.now) }
+    ensures channels { OnOk result (length tally.new.states.items ≡ length channels.now) }
+    ensures each { OnOk result
+        (CountsRecord groups.now channels.now group_record.now tally.old tally.new) }
+    ensures more { OnOk result (tally.new.asks_more ≡ false → (tally.old.asks_more ≡ false)
+        × KeepsToChannels groups.now channels.now group_record.now) }
+{
+    let group = u64::from(group_record.group.to_bits());
+    match groups.place_of(group) {
+        Some(place) => tally.add(channels, place, group_record)?,
+        None => tally.asks_more = true,
+    }
+    Ok(())
+}
+
 /// The tally of the channels over the records of a list.
 fn tally_of(
     alloc: Global,
@@ -85,11 +129,7 @@ fn tally_of(
 {
     let mut tally = Tally::none(alloc, groups.count(), channels.count())?;
     for group_record in reports.records() {
-        let group = u64::from(group_record.group.to_bits());
-        match groups.place_of(group) {
-            Some(place) => tally.add(channels, place, &group_record)?,
-            None => tally.asks_more = true,
-        }
+        add_record(&mut tally, groups, channels, &group_record)?;
     }
     Ok(tally)
 }
@@ -156,8 +196,8 @@ impl Channels {
     pub fn of(alloc: Global, asked: &[(Addr, Addr)]) -> Result<Channels, Memory>
         ensures { IfOk result (λ channels. channels ≡ asked.now) }
     {
-        let groups = Index::of(alloc, group_numbers(alloc, asked)?)?;
-        let channels = Index::of(alloc, pair_numbers(alloc, asked)?)?;
+        let groups = index_of_groups(alloc, asked)?;
+        let channels = index_of_channels(alloc, asked)?;
         let places = places_of(alloc, &groups, &channels, asked)?;
         Ok(Channels {
             groups,

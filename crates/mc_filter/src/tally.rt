@@ -61,12 +61,12 @@ fn is_include(kind: Kind) -> bool
     matches!(kind, Kind::Include)
 }
 
-/// Whether more is asked for than before, by a source that makes a channel, or not, and should or
-/// shouldn't.
-fn asks_more_by(before: bool, makes_channel: bool, should: bool) -> bool
-    ensures { result ≡ false → (before ≡ false) × (makes_channel ≡ should) }
+/// Whether something else may be asked for: as before a source was listed, or by the source, which an
+/// INCLUDE record lists without a channel, or another record with one.
+fn asks_more_by(before: bool, has_channel: bool, by_include: bool) -> bool
+    ensures { result ≡ false → (before ≡ false) × (has_channel ≡ by_include) }
 {
-    before || makes_channel != should
+    before || has_channel != by_include
 }
 
 /// The state of groups and channels after some records.
@@ -116,7 +116,7 @@ impl Tally {
         ensures more { self.new.asks_more ≡ false → (self.old.asks_more ≡ false)
             × ListsAsChannels channels.now group_record.now group_record.now.sources }
     {
-        let makes_channels = is_include(group_record.kind);
+        let by_include = is_include(group_record.kind);
         for source in group_record.sources.iter() {
             let number = pair_number(source, group_record.group);
             match channels.place_of(number) {
@@ -126,9 +126,9 @@ impl Tally {
                         before,
                         after,
                     );
-                    self.asks_more = asks_more_by(self.asks_more, true, makes_channels);
+                    self.asks_more = asks_more_by(self.asks_more, true, by_include);
                 }
-                None => self.asks_more = asks_more_by(self.asks_more, false, makes_channels),
+                None => self.asks_more = asks_more_by(self.asks_more, false, by_include),
             }
         }
     }

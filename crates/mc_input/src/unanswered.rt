@@ -1,7 +1,7 @@
 //! What hosts ask for and no flow answers, by the lists and the caches of a folder.
 
-ghost use Rattle.std.specs.Prelude.{◌≡◌, ◌+◌, ◌<◌, ◌^◌, ℕ, Bool, IfErr, IfOk, List, OnOk, Some, length, map};
-ghost use Rattle.std.specs.Prelude.{slice_get, true};
+ghost use Rattle.std.specs.Prelude.{◌≡◌, ◌<◌, ◌^◌, ℕ, Bool, IfErr, IfOk, List, OnOk, Some, length, map};
+ghost use Rattle.std.specs.Prelude.{true};
 ghost use Rattle.std.specs.List.Sorted.{IsStrictlySortedBy};
 ghost use Rattle.mc_text.specs.Device.{failures_after};
 ghost use Rattle.mc_igmp.specs.declared.record.Record.{Record};
@@ -10,9 +10,8 @@ ghost use Rattle.mc_tables.specs.Summary.{SummaryValue};
 ghost use Rattle.mc_files.specs.Files.{FileText};
 ghost use Rattle.mc_asked.specs.Answers.{AnswersValue};
 ghost use Rattle.mc_asked.specs.AskedLines.{asked_lines, lan_wants_from};
-ghost use Rattle.mc_asked.specs.ListWants.{Want};
 ghost use Rattle.mc_asked.specs.Unadmitted.{with_unadmitted};
-ghost use Rattle.mc_asked.specs.UnadmittedSoFar.{AreSourcesBelow};
+ghost use Rattle.mc_asked.specs.UnadmittedSoFar.{AddsLan};
 ghost use Rattle.mc_input.specs.AskedOfFiles.{IsAskedOf};
 ghost use Rattle.mc_input.specs.ExcludedRouters.{files_without};
 ghost use Rattle.mc_input.specs.ListsOfFiles.{AreListsOf, AreWantsOf};
@@ -112,12 +111,10 @@ fn take_list<F: PieceSource>(
     requires failures { F.failed files.old < u64.MAX }
     ensures same { F.borrows files.new ≡ F.borrows files.old }
     ensures kept { F.contents files.new ≡ F.contents files.old }
-    ensures sources { (all : Bool) (a : AnswersValue) (lists : List (List Record)) (contents : List FileText)
-        (wants : List Want) → F.contents files.old ≡ Some contents →
+    ensures sources { (lists : List (List Record)) (contents : List FileText) →
+        F.contents files.old ≡ Some contents →
         AreListsOf (files_without without.now contents) topology.now lists →
-        slice_get (lan_wants_from all a 0 lists) lan ≡ Some own.now →
-        AreSourcesBelow all a lists lan wants sources.old →
-        OnOk result (AreSourcesBelow all a lists (lan + 1) wants sources.new) }
+        OnOk result (AddsLan own.now sources.old sources.new lists lan) }
     ensures fault { (lists : List (List Record)) (contents : List FileText) →
         F.contents files.old ≡ Some contents →
         AreListsOf (files_without without.now contents) topology.now lists → IfErr result IsReadOrMemory }

@@ -1,12 +1,13 @@
 //! One walk over the slots of a domain, whatever gives their parts.
 
 ghost use Rattle.std.specs.Prelude.{◌≡◌, ◌<◌, ◌≤◌, ◌+◌, ◌*◌, [], List, Some, Ok, Err, IfOk};
-ghost use Rattle.std.specs.Prelude.{IfErr, OnOk, false, true, length, map, Result};
+ghost use Rattle.std.specs.Prelude.{◌++◌, ◌∷◌, IfErr, OnOk, false, true, length, map, Result};
 ghost use Rattle.mc_text.specs.Bundle.{PartText};
 ghost use Rattle.mc_text.specs.Device.{failures_after};
 ghost use Rattle.mc_igmp.specs.declared.record.Record.{Record};
 ghost use Rattle.mc_files.specs.Layout.{slots as all_slots};
-ghost use Rattle.mc_forward.specs.Assembling.{AreAnswers};
+ghost use Rattle.mc_forward.specs.Assembling.{AreAnswers, AreWanted};
+ghost use Rattle.mc_forward.specs.ListedTables.{flow_pairs};
 ghost use Rattle.mc_forward.specs.RouterTables.{AreTablesFor, kept_of_tables};
 ghost use Rattle.mc_input.specs.Kept.{AreContentsOf, AreFlowPairs, AreWantedBy};
 ghost use Rattle.mc_input.specs.PartsOneByOne.{certificate_number};
@@ -27,8 +28,9 @@ use crate::slots::Slots;
 use crate::source_fault::SourceFault;
 use mc_files::{cache_slot_number, first_lan_slot_number, vif_slot_number};
 use mc_forward::{FlowChannels, Items, RouterTables, Tables};
-use mc_igmp::ListReader;
+use mc_igmp::{ListReader, ReportList};
 use mc_tables::VifReader;
+use mc_text::Memory;
 use mc_topology::{LanNo, RouterNo, Topology};
 use std::alloc::Global;
 
@@ -126,6 +128,28 @@ fn read_tables<S: Slots, K: CacheKeeper>(
     Ok(tables)
 }
 
+/// Answers which flows the next LAN wants by its reports, of which the keeper keeps what it does.
+fn take_reports<L: ListKeeper>(
+    alloc: Global,
+    topology: &Topology,
+    channels: &FlowChannels,
+    lan: LanNo,
+    reports: &ReportList,
+    keeper: &mut L,
+) -> Result<Items<bool>, Memory>
+    requires channels { channels.now ≡ flow_pairs topology.now.flows }
+    requires ready { L.is_ready keeper.old topology.now.flows }
+    ensures wanted { IfOk result (AreWanted topology.now.flows reports.now) }
+    ensures ready { L.is_ready keeper.new topology.now.flows }
+    ensures settings { L.settings keeper.new ≡ L.settings keeper.old }
+    ensures kept { (lists : List (List Record)) → OnOk result (length lists ≡ lan →
+        L.has_kept keeper.old lists → L.has_kept keeper.new (lists ++ reports.now ∷ [])) }
+{
+    let wants = channels.wanted(alloc, reports)?;
+    keeper.keep_list(alloc, topology, lan, reports, &wants)?;
+    Ok(Items::of(wants.wanted))
+}
+
 /// Reads which flows each LAN wants, and keeps of the lists what the keeper does.
 fn read_wants<S: Slots, L: ListKeeper>(
     alloc: Global,
@@ -163,9 +187,8 @@ fn read_wants<S: Slots, L: ListKeeper>(
     for lan in 0..topology.lans() {
         let reader = ListReader::new(alloc);
         let reports = read_slot(alloc, slots, buffer, topology, first + lan, reader)?;
-        let own = channels.wanted(alloc, &reports)?;
-        keeper.keep_list(alloc, topology, LanNo(lan), &reports, &own)?;
-        wants.push(Items::of(own.wanted))?;
+        let wanted = take_reports(alloc, topology, &channels, LanNo(lan), &reports, keeper)?;
+        wants.push(wanted)?;
     }
     Ok(wants)
 }

@@ -1,9 +1,6 @@
-use Rattle.std.proofs.Common.{subst, sym, ◌∙◌}
-use Rattle.std.specs.List.{Contains}
-use Rattle.std.proofs.lemmas.Bool.{true≢false}
-use Rattle.std.proofs.lemmas.List.Elements.{All-cons, Contains-get_or}
+use Rattle.std.proofs.Common.{sym, ◌∙◌}
+use Rattle.std.proofs.lemmas.List.Elements.{All-cons}
 use Rattle.mc_filter.specs.Tallies.{KeepsToChannels}
-use Rattle.mc_filter.proofs.TallyLemmas.{AreTallied-other_group}
 use Rattle.mc_filter.proofs.channels.tally_of.Goals as goal
 
 pub loop-group_record-init : goal.loop-group_record-init
@@ -18,41 +15,18 @@ loop-group_record-init c =
       more = λ _ all. all;
     }))
 
-pub loop-group_record-preserved-in-Continue-branch-2 : goal.loop-group_record-preserved-in-Continue-branch-2
-loop-group_record-preserved-in-Continue-branch-2 c =
-    let before = c.loop-group_record.invariant in
-    let found = c.in-Some-place_of.ensures.found in
-    let at = found.1 ∙ c.from-group.ensures ∙ c.to_bits.ensures in
-    let added = c.in_ok-add-in-Some-place_of.ensures in
-    record {
-      groups = added.groups ∙ before.groups;
-      channels = added.channels;
-      each = added.each c.args.groups.now c.args.reports.now c.next.new.self
-          c.place_of.ensures.ascending (sym before.groups) at
-          (rw c.in-Some.ensures.steps at before.each);
-      more = λ none all.
-          let parts = added.more none in
-          (rw c.in-Some.ensures.steps at before.more) parts.0 (All-cons (KeepsToChannels c.args.groups.now
-          c.args.channels.now) c.in-Some.group_record c.next.new.self (record {
-            group = subst (Contains c.args.groups.now) at
-                (Contains-get_or c.args.groups.now c.in-Some-place_of.place 0 found.0);
-            sources = parts.1;
-          }) all);
-    }
-
 pub loop-group_record-preserved : goal.loop-group_record-preserved
 loop-group_record-preserved c =
     let before = c.loop-group_record.invariant in
+    let added = c.in_ok-add_record.ensures in
     record {
-      groups = before.groups;
-      channels = before.channels;
-      each = AreTallied-other_group c.args.groups.now c.args.channels.now c.args.reports.now
-          c.next.new.self
-          c.loop-group_record.tally.excludes.items c.loop-group_record.tally.states.items
-          c.in-Some.group_record
-          (rw (c.from-group.ensures, c.to_bits.ensures) at c.in-None-place_of.ensures.none)
-          (rw c.in-Some.ensures.steps at before.each);
-      more = λ none. absurd (true≢false none);
+      groups = added.groups;
+      channels = added.channels;
+      each = added.each c.args.reports.now c.next.new.self (rw c.in-Some.ensures.steps at before.each);
+      more = λ none all.
+          let parts = added.more none in
+          (rw c.in-Some.ensures.steps at before.more) parts.0 (All-cons (KeepsToChannels c.args.groups.now
+          c.args.channels.now) c.in-Some.group_record c.next.new.self parts.1 all);
     }
 
 pub returns-clause-each : goal.returns-clause-each

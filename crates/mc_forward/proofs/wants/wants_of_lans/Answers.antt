@@ -9,17 +9,17 @@ loop-list-preserved c =
     let found = slice_get-from_read c.args.reports.now c.loop-list.list-index c.list-item.result
     c.loop-list-test.true c.list-item.is in
     let channels = c.in_ok-channels.channels in
+    let list = c.list-item.result in
     let own = c.of-in-loop-list.result in
-    let wanted = are_wanted-from_channels c.args.topology.now.flows c.list-item.result channels own
-    c.in_ok-channels.ensures (subst (λ (answers : List Bool). AreChannelsWanted channels c.list-item.result answers)
-    (sym c.of-in-loop-list.ensures) c.in_ok-own.ensures.wanted) in
+    let answers = subst (λ (answers : List Bool). AreChannelsWanted channels list answers)
+    (sym c.of-in-loop-list.ensures) c.in_ok-own.ensures.wanted in
+    let wanted = are_wanted-from_channels c.args.topology.now.flows list channels own
+    c.in_ok-channels.ensures answers in
     record {
       count = length-push c.loop-list.wants.items c.push.new.self.items
           own c.loop-list.list-index c.in_ok-push.ensures.items
           c.loop-list.invariant.count;
       each = related_at_each_index-pushed_list (AreWanted c.args.topology.now.flows) c.args.reports.now
-          c.loop-list.wants.items c.push.new.self.items c.list-item.result
-          own c.loop-list.list-index c.in_ok-push.ensures.items
-          c.loop-list.invariant.count found wanted
-          c.loop-list.invariant.each;
+          c.loop-list.wants.items c.push.new.self.items list own c.loop-list.list-index
+          c.in_ok-push.ensures.items c.loop-list.invariant.count found wanted c.loop-list.invariant.each;
     }

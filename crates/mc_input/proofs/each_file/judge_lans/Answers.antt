@@ -1,4 +1,4 @@
-use Rattle.std.proofs.Common.{◌+◌, ◌*◌, ◌∙◌, ◌∷◌, [], ap, arith, false, map, refl, rules}
+use Rattle.std.proofs.Common.{◌+◌, ◌∙◌, ◌∷◌, [], ap, arith, false, map, refl, rules}
 use Rattle.mc_text.specs.Steps.{map_fault}
 use Rattle.mc_files.specs.Layout.{reports_slot}
 use Rattle.mc_files.proofs.SlotLemmas.{slots-reports_slot}

@@ -26,8 +26,8 @@ loop-lan-preserved g c =
       kept = c.take_list.ensures.kept ∙ c.loop-lan.invariant.kept;
       failures = c.in_ok-take_list.ensures.failures ∙ c.loop-lan.invariant.failures;
       sources = λ all a lists contents is are wants_are.
-          c.in_ok-take_list.ensures.sources all a lists contents
-          (map (λ (line : Want × List ℕ). line.0) c.args.lines.now) (c.loop-lan.invariant.kept ∙ is) are
+          c.in_ok-take_list.ensures.sources lists contents (c.loop-lan.invariant.kept ∙ is) are all a
+          (map (λ (line : Want × List ℕ). line.0) c.args.lines.now)
           (subst (λ (ws : List LanWantsValue). slice_get ws lan ≡ Some own) wants_are own_at)
           (c.loop-lan.invariant.sources all a lists contents is are wants_are);
     }

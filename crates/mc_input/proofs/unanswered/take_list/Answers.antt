@@ -1,4 +1,4 @@
-use Rattle.std.proofs.Common.{◌≡◌, ◌+◌, ◌*◌, List, Some, ap, arith, false, subst}
+use Rattle.std.proofs.Common.{◌≡◌, ◌+◌, List, Some, ap, arith, false, subst}
 use Rattle.std.specs.Prelude.{slice_get}
 use Rattle.std.proofs.lemmas.Result.{err_from_is_err_and}
 use Rattle.mc_text.specs.Steps.{map_fault}
@@ -36,7 +36,7 @@ returns-in_err-list-clause-fault g c = λ lists contents is are.
     (ap (map_fault (Reports own.4.part.name)) own.4.read))
 
 pub returns-clause-sources : goal.returns-clause-sources
-returns-clause-sources g c = λ all a lists contents wants is are own_at so_far.
+returns-clause-sources g c = λ lists contents is are.
     let t = c.args.topology.now in
     let lan = c.args.lan in
     let files = files_without c.args.without.now contents in
@@ -47,8 +47,8 @@ returns-clause-sources g c = λ all a lists contents wants is are own_at so_far.
     (λ part small. ap (map_fault (Reports part.name)) (c.new-reader.ensures.reads part.bytes)) here is in
     let list = subst (λ (records : List Record). slice_get lists lan ≡ Some records)
     (same_list-read files own.0 own.2 c.in_ok-list.list own.4 read) own.3 in
-    c.in_ok-add_list.ensures all a lists lan wants list own_at so_far
+    c.in_ok-add_list.ensures lists lan list
 
 pub returns-then-not-needs_list-clause-sources : goal.returns-then-not-needs_list-clause-sources
-returns-then-not-needs_list-clause-sources g c = λ all a lists contents wants is are own_at so_far.
-    c.needs_list.ensures.skipped all a lists c.args.lan wants own_at so_far c.if-not-needs_list.true
+returns-then-not-needs_list-clause-sources g c = λ lists contents is are.
+    c.needs_list.ensures.skipped c.if-not-needs_list.true lists c.args.lan

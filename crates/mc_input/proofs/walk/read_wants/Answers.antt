@@ -1,13 +1,12 @@
-use Rattle.std.proofs.Common.{◌≡◌, ℕ, ◌+◌, ◌*◌, ◌∙◌, Bool, List, [], ◌∷◌, ◌++◌, Result, Some, ap, arith, drop}
+use Rattle.std.proofs.Common.{◌≡◌, ℕ, ◌+◌, ◌∙◌, Bool, List, [], ◌∷◌, ◌++◌, Result, Some, ap, arith, drop}
 use Rattle.std.proofs.Common.{false, inr, length, refl, rules, slice_get, subst, sym}
 use Rattle.std.proofs.lemmas.List.{drop_all, length-append}
 use Rattle.std.proofs.lemmas.Result.{err_from_is_err_and}
 use Rattle.mc_text.specs.Steps.{map_fault}
 use Rattle.mc_igmp.specs.declared.record.Record.{Record}
-use Rattle.mc_forward.specs.Assembling.{AreChannelsWanted, AreWanted}
+use Rattle.mc_forward.specs.Assembling.{AreWanted}
 use Rattle.mc_forward.proofs.IndexLemmas.{slice_get-exists}
 use Rattle.mc_forward.proofs.ListedTableLemmas.{pairwise-more}
-use Rattle.mc_forward.proofs.WantsLemmas.{are_wanted-from_channels, length-flow_pairs}
 use Rattle.mc_input.specs.Kept.{AreWantedBy}
 use Rattle.mc_input.specs.PartsOneByOne.{certificate_number}
 use Rattle.mc_input.specs.PartsReading.{first_lan_number, reports_of}
@@ -87,21 +86,19 @@ returns-in_err-reports-clause-fault g c =
     (read_each-Err read x.1 lan.0 (drop (k + 1) t.lans)) x.0 own
     (read_stream-Err_implied (read_first reports_of) read_lan read_lan-Err x.0 own (refused x.0 x.2 loud)))
 
-pub returns-in_err-own-clause-faults : goal.returns-in_err-own-clause-faults
-returns-in_err-own-clause-faults g c =
-    let p = err_from_is_err_and c.from_residual-in_err-own.result
-    c.from_residual-in_err-own.ensures.1 in
+pub returns-in_err-wanted-clause-faults : goal.returns-in_err-wanted-clause-faults
+returns-in_err-wanted-clause-faults g c =
+    let p = err_from_is_err_and c.from_residual-in_err-wanted.result
+    c.from_residual-in_err-wanted.ensures.1 in
     rw (p.1, p.2) (g.met.S.Slots.possible (Input Memory) refl)
 
 pub loop-lan-preserved : goal.loop-lan-preserved
 loop-lan-preserved g c =
     let t = c.args.topology.now in
     let k = c.loop-lan.lan in
-    let own = c.of-in-loop-lan.result in
-    let answers = subst (λ (ws : List Bool). AreChannelsWanted c.in_ok-channels.channels c.in_ok-reports.reports ws)
-    (sym c.of-in-loop-lan.ensures) c.in_ok-own.ensures.wanted in
+    let wanted = c.in_ok-wanted.wanted in
+    let are = c.in_ok-wanted.ensures.wanted in
     let items = c.in_ok-push.ensures.items in
-    let are = c.in_ok-channels.ensures in
     let lan = slice_get-exists t.lans k (omega (arith, c.loop-lan-test.true, c.loop-lan.invariant.end)) in
     let number : c.first_lan_slot_number-first.result + k ≡ first_lan_number t + k =
     omega (arith, c.first_lan_slot_number-first.ensures.value) in
@@ -115,19 +112,18 @@ loop-lan-preserved g c =
       end = c.loop-lan.invariant.end;
       count = ap length items ∙ omega (
         arith,
-        length-append c.loop-lan.wants.items (own ∷ []),
+        length-append c.loop-lan.wants.items (wanted ∷ []),
         c.loop-lan.invariant.count,
       );
-      ready = c.keep_list.ensures.ready;
-      settings = c.keep_list.ensures.settings ∙ c.loop-lan.invariant.settings;
-      flows = rw items (length-answers_push (length t.flows) c.loop-lan.wants.items own
-          c.loop-lan.invariant.flows
-          (answers.count ∙ length-flow_pairs t.flows c.in_ok-channels.channels are));
+      ready = c.take_reports.ensures.ready;
+      settings = c.take_reports.ensures.settings ∙ c.loop-lan.invariant.settings;
+      flows = rw items (length-answers_push (length t.flows) c.loop-lan.wants.items wanted
+          c.loop-lan.invariant.flows are.count);
       some =
           let lists = c.loop-lan.invariant.some in (
             lists.0 ++ c.in_ok-reports.reports ∷ [],
             length-append lists.0 (c.in_ok-reports.reports ∷ []) ∙ ap (λ n. n + 1) lists.1,
-            c.in_ok-keep_list.ensures.kept lists.0 lists.1 lists.2,
+            c.in_ok-wanted.ensures.kept lists.0 lists.1 lists.2,
           );
       taken = λ stream known.
           let x = c.loop-lan.invariant.taken stream known in
@@ -138,14 +134,11 @@ loop-lan-preserved g c =
             x.1 ++ y.4.0 ∷ [],
             subst (λ (n : ℕ). g.S.Slots.gives c.read_slot.new.slots t n ≡ Some y.0) next y.2,
             subst (λ (ws : List (List Bool)). AreWantedBy t (x.1 ++ y.4.0 ∷ []) ws) (sym items)
-                (pairwise-more (AreWanted t.flows) x.1 c.loop-lan.wants.items y.4.0 own
-                x.3 (are_wanted-from_channels t.flows y.4.0 c.in_ok-channels.channels own are
-                (subst (λ (records : List Record). AreChannelsWanted c.in_ok-channels.channels records
-                own) y.4.2
-                answers))),
-            subst (λ (records : List Record). g.L.ListKeeper.has_kept c.keep_list.new.self
+                (pairwise-more (AreWanted t.flows) x.1 c.loop-lan.wants.items y.4.0 wanted
+                x.3 (subst (λ (records : List Record). AreWanted t.flows records wanted) y.4.2 are)),
+            subst (λ (records : List Record). g.L.ListKeeper.has_kept c.take_reports.new.keeper
                 (x.1 ++ records ∷ [])) y.4.2
-                (c.in_ok-keep_list.ensures.kept x.1 x.5 x.4),
+                (c.in_ok-wanted.ensures.kept x.1 x.5 x.4),
             length-append x.1 (y.4.0 ∷ []) ∙ ap (λ n. n + 1) x.5,
             x.6 ∙ ap (λ (more : List (List ℕ)). read_stream (read_each_after read x.1 more) x.0)
                 (drop-slice_get t.lans k lan.0 lan.1)
@@ -181,29 +174,13 @@ pub returns-in_err-reports-clause-advances : goal.returns-in_err-reports-clause-
 returns-in_err-reports-clause-advances g c = g.met.S.Slots.advances_twice c.args.slots.now c.loop-lan.slots
     c.read_slot.new.slots c.loop-lan.invariant.advances c.in_err-reports.ensures.advances
 
-pub returns-in_err-own-clause-advances : goal.returns-in_err-own-clause-advances
-returns-in_err-own-clause-advances g c = g.met.S.Slots.advances_twice c.args.slots.now c.loop-lan.slots
-    c.read_slot.new.slots c.loop-lan.invariant.advances c.in_ok-reports.ensures.advances
-
-pub returns-in_err-keep_list-clause-advances : goal.returns-in_err-keep_list-clause-advances
-returns-in_err-keep_list-clause-advances g c = g.met.S.Slots.advances_twice c.args.slots.now c.loop-lan.slots
+pub returns-in_err-wanted-clause-advances : goal.returns-in_err-wanted-clause-advances
+returns-in_err-wanted-clause-advances g c = g.met.S.Slots.advances_twice c.args.slots.now c.loop-lan.slots
     c.read_slot.new.slots c.loop-lan.invariant.advances c.in_ok-reports.ensures.advances
 
 pub returns-in_err-push-clause-advances : goal.returns-in_err-push-clause-advances
 returns-in_err-push-clause-advances g c = g.met.S.Slots.advances_twice c.args.slots.now c.loop-lan.slots
     c.read_slot.new.slots c.loop-lan.invariant.advances c.in_ok-reports.ensures.advances
-
-pub returns-in_err-keep_list-clause-fault : goal.returns-in_err-keep_list-clause-fault
-returns-in_err-keep_list-clause-fault g c =
-    let p = err_from_is_err_and c.from_residual-in_err-keep_list.result
-    c.from_residual-in_err-keep_list.ensures.1 in
-    rw (p.1, p.2) (λ stream known loud. absurd (loud (inr refl)))
-
-pub returns-in_err-keep_list-clause-faults : goal.returns-in_err-keep_list-clause-faults
-returns-in_err-keep_list-clause-faults g c =
-    let p = err_from_is_err_and c.from_residual-in_err-keep_list.result
-    c.from_residual-in_err-keep_list.ensures.1 in
-    rw (p.1, p.2) (g.met.S.Slots.possible (Input Memory) refl)
 
 pub returns-in_err-push-clause-fault : goal.returns-in_err-push-clause-fault
 returns-in_err-push-clause-fault g c =

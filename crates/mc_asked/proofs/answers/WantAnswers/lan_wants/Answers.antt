@@ -1,4 +1,5 @@
-use Rattle.std.proofs.Common.{◌≡◌, ℕ, Bool, List, arith, filter, flat_map, map, not, refl, ap, ap₂, subst, sym, ◌∙◌}
+use Rattle.std.proofs.Common.{◌≡◌, ℕ, Bool, List, arith, filter, flat_map, map, not, refl, ap, ap₂, subst}
+use Rattle.std.proofs.Common.{sym, ◌∙◌}
 use Rattle.std.specs.List.Sorted.{IsStrictlySortedBy}
 use Rattle.mc_tables.specs.CacheTable.{key_cmp}
 use Rattle.mc_tables.specs.Summary.{in_order}
@@ -34,7 +35,8 @@ into_kept-requires-2 c =
     let index = subst (λ (flows : List (ℕ × ℕ)). AreFlowsWanted flows list answers
     → IsIndexOfWantedGroups flows list c.in_ok-wanted_groups.wanted_groups) c.flows.ensures
     (c.in_ok-wanted_groups.ensures list)
-    (subst (λ (own : List Bool). AreFlowsWanted a.flows list own) (sym c.deref.ensures.value) c.requires.each) in
+    (subst (λ (own : List Bool). AreFlowsWanted a.flows list own) (sym c.deref.ensures.value)
+    c.requires.each) in
     let unanswered = c.in_ok-unanswered.ensures list index
     ∙ ap (filter (λ want. not (is_answered a list want))) (c.deref-2.ensures.value ∙ c.in_ok-asked.ensures) in
     let wants = c.deref-3.ensures.value ∙ c.in_ok-wants.ensures
@@ -58,7 +60,8 @@ returns c =
     let index = subst (λ (flows : List (ℕ × ℕ)). AreFlowsWanted flows list answers
     → IsIndexOfWantedGroups flows list c.in_ok-wanted_groups.wanted_groups) c.flows.ensures
     (c.in_ok-wanted_groups.ensures list)
-    (subst (λ (own : List Bool). AreFlowsWanted a.flows list own) (sym c.deref.ensures.value) c.requires.each) in
+    (subst (λ (own : List Bool). AreFlowsWanted a.flows list own) (sym c.deref.ensures.value)
+    c.requires.each) in
     let each = c.in_ok-classified.ensures list index in
     let unanswered = c.in_ok-unanswered.ensures list index
     ∙ ap (filter (λ want. not (is_answered a list want))) (c.deref-2.ensures.value ∙ c.in_ok-asked.ensures) in

@@ -7,7 +7,7 @@ use Rattle.mc_asked.proofs.LanByLanLemmas.{sources-with_list, wants-of_sources}
 use Rattle.mc_asked.proofs.unadmitted_sources.UnadmittedSources.add_list.Goals as goal
 
 pub returns : goal.returns
-returns c = λ all a lists lan wants at own_at are.
+returns c = λ lists lan at all a wants own_at are.
     let own = c.args.own.now in
     let old = c.args.self.now in
     let groups = groups_from_any wants own.lowest in

@@ -7,7 +7,7 @@ use Rattle.mc_asked.proofs.LanByLanLemmas.{sources-without_list, wants-of_source
 use Rattle.mc_asked.proofs.unadmitted_sources.UnadmittedSources.needs_list.Goals as goal
 
 pub returns-clause-skipped : goal.returns-clause-skipped
-returns-clause-skipped c = λ all a lists lan wants at are not_needed.
+returns-clause-skipped c = λ not_needed lists lan all a wants at are.
     let own = c.args.own.now in
     let sources = c.args.self.now in
     let items = c.lowest-want-items.result.now in

@@ -26,7 +26,7 @@ loop-source-preserved-in-Some-place_of c =
             earlier.0,
             λ left. earlier.1 (ListsAsChannels-more c.args.channels.now c.args.group_record.now
                 c.in-Some.source c.pair_number-number.result c.next.new.self (Some c.in-Some-place_of.place)
-                pair found tt (parts.1 ∙ c.is_include-makes_channels.ensures) left),
+                pair found tt (parts.1 ∙ c.is_include-by_include.ensures) left),
           );
     })
 
@@ -39,8 +39,8 @@ loop-source-preserved c =
       excludes = before.excludes;
       count = before.count;
       each = AreListedUpTo-missed c.args.channels.now c.args.group_record.now.group
-          c.args.group_record.now.kind c.args.before c.in-Some.source c.pair_number-number.result c.next.new.self
-          c.args.group_record.now.sources c.loop-source.self.states.items c.args.self.now.states.items
+          c.args.group_record.now.kind c.args.before c.in-Some.source c.pair_number-number.result
+          c.next.new.self c.args.group_record.now.sources c.loop-source.self.states.items c.args.self.now.states.items
           pair missed (rw c.in-Some.ensures.steps at before.each);
       more = λ none.
           let parts = c.asks_more_by-self-in-None-place_of.ensures none in
@@ -48,7 +48,7 @@ loop-source-preserved c =
             earlier.0,
             λ left. earlier.1 (ListsAsChannels-more c.args.channels.now c.args.group_record.now
                 c.in-Some.source c.pair_number-number.result c.next.new.self None
-                pair tt missed (parts.1 ∙ c.is_include-makes_channels.ensures) left),
+                pair tt missed (parts.1 ∙ c.is_include-by_include.ensures) left),
           );
     }
 

@@ -7,17 +7,19 @@ ghost use Rattle.mc_asked.specs.Indexes.{AreFlowsWanted, IsClassified, IsIndexOf
 ghost use Rattle.std.specs.List.Sorted.{IsStrictlySortedBy};
 ghost use Rattle.mc_tables.specs.CacheTable.{key_cmp};
 ghost use Rattle.mc_tables.specs.Summary.{shown_pairs};
-ghost use Rattle.std.specs.Prelude.{if◌then◌else◌, filter, not};
+ghost use Rattle.std.specs.Prelude.{if◌then◌else◌, filter, flat_map, map, not};
+ghost use Rattle.mc_text.specs.Pair.{pair_of};
+ghost use Rattle.mc_asked.specs.ListWants.{asked_by};
 ghost use Rattle.mc_asked.specs.Answers.{is_answered};
 ghost use Rattle.std.specs.List.{dedup};
 ghost use Rattle.mc_asked.specs.LanWants.{is_asked_class, is_service_class, kept_wants, lan_wants};
 
 use crate::answers::WantAnswers;
 use crate::want_class::WantClass;
-use crate::wants::{asked_in, group_number, wants_among};
+use crate::wants::{add_asked, group_number, wants_among};
 use mc_filter::ChannelWants;
 use mc_igmp::ReportList;
-use mc_text::{Addr, Index, Memory};
+use mc_text::{Addr, Index, Memory, pair_number};
 use mc_topology::LanNo;
 use std::alloc::{AllocError, Global};
 use std::marker::Model;
@@ -96,38 +98,61 @@ fn index_of_wanted_groups(
     Index::of(alloc, numbers)
 }
 
-/// Appends a want unless a flow answers it.
+/// Appends the number of a want unless a flow answers it.
 fn push_unless_answered(
-    unanswered: &mut Vec<(Addr, Addr)>,
+    unanswered: &mut Vec<u64>,
     answers: &WantAnswers,
     wanted_groups: &Index,
     want: &(Addr, Addr),
 ) -> Result<(), AllocError>
     ensures { OnOk result ((records : List Record) →
         IsIndexOfWantedGroups answers.now.flows records wanted_groups.now →
-        unanswered.new.items ≡ unanswered.old.items
+        map pair_of unanswered.new.items ≡ map pair_of unanswered.old.items
         ++ (if not (is_answered answers.now records want.now) then want.now ∷ [] else [])) }
 {
     if !answers.is_answered(wanted_groups, want) {
-        unanswered.push(*want)?;
+        unanswered.push(pair_number(want.0, want.1))?;
     }
     Ok(())
 }
 
-/// Those of the pairs that no flow answers. Mostly there are none, and they needn't be put in order.
-fn unanswered_among(
+/// Appends the numbers of those of the wants that no flow answers. Mostly there are none, and they needn't
+/// be put in order.
+fn push_unanswered(
+    unanswered: &mut Vec<u64>,
+    answers: &WantAnswers,
+    wanted_groups: &Index,
+    wants: &[(Addr, Addr)],
+) -> Result<(), AllocError>
+    ensures { OnOk result ((records : List Record) →
+        IsIndexOfWantedGroups answers.now.flows records wanted_groups.now →
+        map pair_of unanswered.new.items ≡ map pair_of unanswered.old.items
+        ++ filter (λ want. not (is_answered answers.now records want)) wants.now) }
+{
+    for want in wants {
+        push_unless_answered(unanswered, answers, wanted_groups, want)?;
+    }
+    Ok(())
+}
+
+/// The numbers of what the list asks for and no flow answers, one by one.
+fn unanswered_in(
     alloc: Global,
     answers: &WantAnswers,
     wanted_groups: &Index,
-    pairs: &[(Addr, Addr)],
-) -> Result<Vec<(Addr, Addr)>, AllocError>
-    ensures { IfOk result (λ unanswered. (records : List Record) →
-        IsIndexOfWantedGroups answers.now.flows records wanted_groups.now →
-        unanswered.items ≡ filter (λ pair. not (is_answered answers.now records pair)) pairs.now) }
+    list: &ReportList,
+) -> Result<Vec<u64>, AllocError>
+    ensures { IfOk result (λ unanswered.
+        IsIndexOfWantedGroups answers.now.flows list.now wanted_groups.now →
+        map pair_of unanswered.items
+        ≡ filter (λ want. not (is_answered answers.now list.now want)) (flat_map asked_by list.now)) }
 {
     let mut unanswered = Vec::new(alloc);
-    for pair in pairs {
-        push_unless_answered(&mut unanswered, answers, wanted_groups, pair)?;
+    let mut wants = Vec::new(alloc);
+    for group_record in list.records() {
+        wants.clear();
+        add_asked(&mut wants, &group_record)?;
+        push_unanswered(&mut unanswered, answers, wanted_groups, &wants)?;
     }
     Ok(unanswered)
 }
@@ -249,8 +274,7 @@ impl WantAnswers {
             return Ok(ClassifiedWants::none(alloc).into_kept(all));
         }
         let wanted_groups = index_of_wanted_groups(alloc, self.flows(), &wants.wanted)?;
-        let asked = asked_in(alloc, list)?;
-        let unanswered = unanswered_among(alloc, self, &wanted_groups, &asked)?;
+        let unanswered = unanswered_in(alloc, self, &wanted_groups, list)?;
         let wants = wants_among(alloc, list, unanswered)?;
         let classified = classify(alloc, self, lan, &wanted_groups, &wants)?;
         Ok(classified.into_kept(all))

@@ -1,6 +1,7 @@
 //! What a list of reports asks for.
 
-ghost use Rattle.std.specs.Prelude.{◌≡◌, ◌↔◌, ◌++◌, Contains, IfOk, IsTrue, OnOk, filter, flat_map};
+ghost use Rattle.std.specs.Prelude.{◌≡◌, ◌↔◌, ◌++◌, Contains, IfOk, IsTrue, OnOk, filter, map};
+ghost use Rattle.mc_text.specs.Pair.{pair_of};
 ghost use Rattle.mc_filter.specs.SourceFilter.{has};
 ghost use Rattle.mc_filter.specs.FilterBuilding.{is_exclude};
 ghost use Rattle.mc_asked.specs.Indexes.{IsIndexOfExcludes, is_of_merged_filter_by};
@@ -8,7 +9,7 @@ ghost use Rattle.mc_tables.specs.Summary.{in_order};
 ghost use Rattle.mc_asked.specs.ListWants.{asked_by, included_in, is_of_merged_filter};
 
 use mc_igmp::{Kind, Record, ReportList};
-use mc_tables::sorted_without_repeats;
+use mc_tables::pairs_in_order;
 use mc_text::{Addr, Index, Memory};
 use std::alloc::{AllocError, Global};
 
@@ -60,7 +61,10 @@ fn add_included(wants: &mut Vec<(Addr, Addr)>, group_record: &Record<'_>) -> Res
 }
 
 /// Adds what a record asks for.
-fn add_asked(wants: &mut Vec<(Addr, Addr)>, group_record: &Record<'_>) -> Result<(), AllocError>
+pub(crate) fn add_asked(
+    wants: &mut Vec<(Addr, Addr)>,
+    group_record: &Record<'_>,
+) -> Result<(), AllocError>
     ensures { OnOk result (wants.new.items ≡ wants.old.items ++ asked_by group_record.now) }
 {
     match group_record.kind {
@@ -74,17 +78,6 @@ fn add_asked(wants: &mut Vec<(Addr, Addr)>, group_record: &Record<'_>) -> Result
     }
 }
 
-/// What the records of a list ask for, one by one.
-pub(crate) fn asked_in(alloc: Global, list: &ReportList) -> Result<Vec<(Addr, Addr)>, AllocError>
-    ensures { IfOk result (λ wants. wants.items ≡ flat_map asked_by list.now) }
-{
-    let mut wants = Vec::new(alloc);
-    for group_record in list.records() {
-        add_asked(&mut wants, &group_record)?;
-    }
-    Ok(wants)
-}
-
 /// Whether the merged filter of the want's group asks for it, by the groups that have an EXCLUDE record.
 fn is_of_merged_filter(excluded: &Index, want: &(Addr, Addr)) -> bool
     ensures { result ≡ is_of_merged_filter_by excluded.now want.now }
@@ -94,17 +87,17 @@ fn is_of_merged_filter(excluded: &Index, want: &(Addr, Addr)) -> bool
         && (source.is_unspecified() || !has_number(excluded, group_number(group)))
 }
 
-/// Those of these pairs that the list wants, by group and then by source, each once.
+/// Those of the pairs of these numbers that the list wants, by group and then by source, each once.
 pub(crate) fn wants_among(
     alloc: Global,
     list: &ReportList,
-    pairs: Vec<(Addr, Addr)>,
+    numbers: Vec<u64>,
 ) -> Result<Vec<(Addr, Addr)>, Memory>
     ensures { IfOk result (λ wants.
-        wants.items ≡ filter (is_of_merged_filter list.now) (in_order pairs.items)) }
+        wants.items ≡ filter (is_of_merged_filter list.now) (in_order (map pair_of numbers.items))) }
 {
     let excluded = excluded_groups(alloc, list)?;
-    let mut wants = sorted_without_repeats(pairs);
+    let mut wants = pairs_in_order(numbers)?;
     wants.retain(|want| is_of_merged_filter(&excluded, want));
     Ok(wants)
 }

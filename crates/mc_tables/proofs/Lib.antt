@@ -32,6 +32,7 @@ pub mod KeptRowLemmas
 pub mod RowsSoFarLemmas
 pub mod RowRuleLemmas
 pub mod LowestLemmas
+pub mod PairOrderLemmas
 pub mod SummaryStepLemmas
 pub mod SummaryLemmas
 pub mod EachRowLemmas

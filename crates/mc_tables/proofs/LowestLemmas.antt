@@ -334,7 +334,7 @@ in_order-unique ps up ascend same =
     (λ q. same q ∙ sym (fin.get-from_entries key_cmp-total (as_keys ps) q) ∙ fin.get-entries m q))
 
 -- a pair that is in the list is found
-find-contained : (q : ℕ × ℕ) (ps : List (ℕ × ℕ)) (k : ℕ) → k < length ps → get_or ps k q ≡ q
+pub find-contained : (q : ℕ × ℕ) (ps : List (ℕ × ℕ)) (k : ℕ) → k < length ps → get_or ps k q ≡ q
     → fin.find key_cmp q (as_keys ps) ≡ Some (tt {0})
 find-contained q [] k lt is = absurd (omega (arith, lt))
 find-contained q (p ∷ ps) zero lt is =
@@ -348,7 +348,7 @@ find-contained q (p ∷ ps) (suc k) lt is =
     ]
 
 -- a pair that is found is in the list
-contains-found : (q : ℕ × ℕ) (ps : List (ℕ × ℕ))
+pub contains-found : (q : ℕ × ℕ) (ps : List (ℕ × ℕ))
     → fin.find key_cmp q (as_keys ps) ≡ Some (tt {0}) → Contains ps q
 contains-found q [] is = absurd cc
 contains-found q (p ∷ ps) is =

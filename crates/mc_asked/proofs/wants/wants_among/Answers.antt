@@ -10,10 +10,10 @@ returns c =
     let records = c.args.list.now in
     let excluded = c.in_ok-excluded.excluded in
     let kept : c.retain.new.self.items
-    ≡ filter (is_of_merged_filter_by excluded) c.sorted_without_repeats-wants.result.items =
+    ≡ filter (is_of_merged_filter_by excluded) c.in_ok-wants.wants.items =
     filter_same _ _ _ (λ x b f' k. search rules) _ _ c.retain.ensures.filtered in
     kept ∙ filter-equal_tests (is_of_merged_filter_by excluded) (is_of_merged_filter records)
-    c.sorted_without_repeats-wants.result.items
+    c.in_ok-wants.wants.items
     (is_of_merged_filter-by_index records excluded c.in_ok-excluded.ensures)
     ∙ ap (filter (is_of_merged_filter records))
-    c.sorted_without_repeats-wants.ensures
+    c.in_ok-wants.ensures

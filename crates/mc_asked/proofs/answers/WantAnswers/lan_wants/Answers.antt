@@ -1,9 +1,9 @@
-use Rattle.std.proofs.Common.{◌≡◌, ℕ, Bool, List, arith, filter, flat_map, map, not, refl, ap, ap₂, subst}
+use Rattle.std.proofs.Common.{◌≡◌, ℕ, Bool, List, arith, filter, flat_map, map, refl, ap, ap₂, subst}
 use Rattle.std.proofs.Common.{sym, ◌∙◌}
 use Rattle.std.specs.List.Sorted.{IsStrictlySortedBy}
 use Rattle.mc_tables.specs.CacheTable.{key_cmp}
 use Rattle.mc_tables.specs.Summary.{in_order}
-use Rattle.mc_asked.specs.Answers.{class_of, is_answered}
+use Rattle.mc_asked.specs.Answers.{class_of}
 use Rattle.mc_asked.specs.Indexes.{AreFlowsWanted, IsIndexOfWantedGroups}
 use Rattle.mc_asked.specs.LanWants.{is_asked_class, is_service_class, kept_wants, asked_wants}
 use Rattle.mc_asked.specs.ListWants.{asked_by, is_of_merged_filter}
@@ -37,10 +37,8 @@ into_kept-requires-2 c =
     (c.in_ok-wanted_groups.ensures list)
     (subst (λ (own : List Bool). AreFlowsWanted a.flows list own) (sym c.deref.ensures.value)
     c.requires.each) in
-    let unanswered = c.in_ok-unanswered.ensures list index
-    ∙ ap (filter (λ want. not (is_answered a list want))) (c.deref-2.ensures.value ∙ c.in_ok-asked.ensures) in
-    let wants = c.deref-3.ensures.value ∙ c.in_ok-wants.ensures
-    ∙ ap (λ pairs. filter (is_of_merged_filter list) (in_order pairs)) unanswered in
+    let wants = c.deref-2.ensures.value ∙ c.in_ok-wants.ensures
+    ∙ ap (λ pairs. filter (is_of_merged_filter list) (in_order pairs)) (c.in_ok-unanswered.ensures index) in
     let asked : c.in_ok-classified.classified.asked.items ≡ asked_wants a c.args.lan list =
     (c.in_ok-classified.ensures list index).asked
     ∙ ap (filter (λ (w : ℕ × ℕ). is_asked_class (class_of a c.args.lan list w))) wants
@@ -63,10 +61,8 @@ returns c =
     (subst (λ (own : List Bool). AreFlowsWanted a.flows list own) (sym c.deref.ensures.value)
     c.requires.each) in
     let each = c.in_ok-classified.ensures list index in
-    let unanswered = c.in_ok-unanswered.ensures list index
-    ∙ ap (filter (λ want. not (is_answered a list want))) (c.deref-2.ensures.value ∙ c.in_ok-asked.ensures) in
-    let wants = c.deref-3.ensures.value ∙ c.in_ok-wants.ensures
-    ∙ ap (λ pairs. filter (is_of_merged_filter list) (in_order pairs)) unanswered in
+    let wants = c.deref-2.ensures.value ∙ c.in_ok-wants.ensures
+    ∙ ap (λ pairs. filter (is_of_merged_filter list) (in_order pairs)) (c.in_ok-unanswered.ensures index) in
     let all = flat_map asked_by list in
     c.into_kept-2.ensures
     ∙ ap₂ (kept_wants c.args.all)

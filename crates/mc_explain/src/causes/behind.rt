@@ -1,7 +1,7 @@
 //! What is behind a stray: what the run comes to that goes on past it.
 
-ghost use Rattle.std.specs.Prelude.{◌≡◌, ◌<◌, ◌≤◌, ◌==◌, ◌++◌, [], ℕ, List, IfOk, OnOk, None, Some, filter};
-ghost use Rattle.std.specs.Prelude.{Bool, if◌then◌else◌, length, option_map};
+ghost use Rattle.std.specs.Prelude.{◌≡◌, ◌<◌, ◌≤◌, ◌==◌, ◌++◌, [], Bool, List, IfOk, OnOk, None, Some};
+ghost use Rattle.std.specs.Prelude.{filter, if◌then◌else◌, length};
 ghost use Rattle.mc_theory.specs.Nets.{Interface};
 ghost use Rattle.mc_theory.specs.Flights.{Copy};
 ghost use Rattle.mc_theory.specs.Findings.{first_double, sender_on as sender_of_first};

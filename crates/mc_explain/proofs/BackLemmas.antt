@@ -13,7 +13,7 @@ use Rattle.mc_forward.proofs.PerLanLemmas.{first_with_key-first_copy_on}
 use Rattle.mc_replay.proofs.WalkLemmas.{length-drop_one_more, sender-copy_on}
 
 -- the sender of the first copy that is held
-sender_on-held : (first_copies : List (Option Copy)) (cs : List Copy) (l : ℕ) (next : Option Interface) →
+pub sender_on-held : (first_copies : List (Option Copy)) (cs : List Copy) (l : ℕ) (next : Option Interface) →
     HoldsFirstOfEachKey (λ (c : Copy). c.lan) first_copies cs →
     next ≡ option_and_then (λ (c : Copy). c.sender) (item_on_lan first_copies l) → next ≡ sender_on cs l
 sender_on-held first_copies cs l next are e = e ∙

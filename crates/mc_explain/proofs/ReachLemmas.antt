@@ -20,6 +20,8 @@ use Rattle.mc_explain.specs.SearchLine.{Search, append_new, group_by_router, add
 use Rattle.mc_explain.specs.SearchLine.{router_of_group, routers_on}
 use Rattle.mc_explain.specs.SearchReach.{has_event, routers_of_lans}
 use Rattle.mc_explain.specs.BucketsAndMarks.{AreMarksOf}
+use Rattle.mc_explain.specs.declared.searches.reach.Handling.{Handling}
+use Rattle.mc_explain.specs.declared.searches.reach.Handling.TheVariants.{SentOn, TookNone}
 
 -- one router more, which passes the test or doesn't
 pub filter-take_more : (p : ℕ → Bool) (rs : List ℕ) (i r : ℕ) (found now : List ℕ) (b : Bool)
@@ -150,20 +152,20 @@ routers_of_lans-all_below s lans rs n e le k d lt =
     omega (arith, one, le)
 
 -- the marks of routers with such an event, and of those without one
-pub are_marks_of-has_event : (events : List Event) (sent : Bool) (old now : List Bool) → length now
-    ≡ length old
+pub are_marks_of-has_event : (events : List Event) (handling : Handling) (old now : List Bool)
+    → length now ≡ length old
     → ((r : ℕ) → get_or old r false ≡ false)
-    → ((r : ℕ) → r < length old → get_or now r false ≡ (get_or old r false || has_event sent events r))
-    → AreMarksOf (has_event sent events) now
-are_marks_of-has_event events sent old now count none marks r lt =
+    → ((r : ℕ) → r < length old → get_or now r false ≡ (get_or old r false || has_event handling events r))
+    → AreMarksOf (has_event handling events) now
+are_marks_of-has_event events handling old now count none marks r lt =
     marks r (subst (λ (n : ℕ). r < n) count lt)
-    ∙ ap (λ (b : Bool). b || has_event sent events r) (none r)
+    ∙ ap (λ (b : Bool). b || has_event handling events r) (none r)
 
 pub are_marks_of-took_none : (events : List Event) (old now : List Bool) → length now ≡ length old
-    → AreMarksOf (has_event false events) old
+    → AreMarksOf (has_event TookNone events) old
     → ((r : ℕ) → r < length old
-    → get_or now r false ≡ (get_or old r false && not (has_event true events r)))
-    → AreMarksOf (λ r. has_event false events r && not (has_event true events r)) now
+    → get_or now r false ≡ (get_or old r false && not (has_event SentOn events r)))
+    → AreMarksOf (λ r. has_event TookNone events r && not (has_event SentOn events r)) now
 are_marks_of-took_none events old now count before marks r lt =
     let within = subst (λ (n : ℕ). r < n) count lt in
-    marks r within ∙ ap (λ (b : Bool). b && not (has_event true events r)) (before r within)
+    marks r within ∙ ap (λ (b : Bool). b && not (has_event SentOn events r)) (before r within)

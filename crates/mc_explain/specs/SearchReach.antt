@@ -7,22 +7,28 @@ use Rattle.mc_theory.specs.Events.{Event, Outcome}
 use Rattle.mc_theory.specs.Events.Outcome.{Open, NoRow, OtherVif, Sent}
 use Rattle.mc_explain.specs.SearchLine.{Search, append_new, lans_of_search, router_of_group, routers_on}
 use Rattle.mc_explain.specs.SearchLine.{search_lines}
+use Rattle.mc_explain.specs.declared.searches.reach.Handling.{Handling}
+use Rattle.mc_explain.specs.declared.searches.reach.Handling.TheVariants.{SentOn, TookNone}
 use Rattle.mc_explain.specs.declared.searches.search_line.SearchLine.{SearchLine}
 use Rattle.mc_explain.specs.declared.searches.search_line.SearchLine.TheVariants.{Excluded}
 use Rattle.mc_explain.specs.declared.searches.searching.LanSearch.{LanSearch}
 
--- whether an event sent copies on, where `sent` is true, or else took none by the router's row; an event at
--- an open row did neither
-abbrev pub outcome_matches : (sent : Bool) → Outcome → Bool
-outcome_matches sent Open = false
-outcome_matches sent NoRow = not sent
-outcome_matches sent OtherVif = not sent
-outcome_matches sent (Sent copies strays) = sent
+-- whether a router that is handled so sent copies on; the other kind took none
+abbrev pub is_sent_on : Handling → Bool
+is_sent_on SentOn = true
+is_sent_on TookNone = false
 
--- whether a router has an event that sent copies on, or one that took none
-abbrev pub has_event : (sent : Bool) → List Event → (router : ℕ) → Bool
-has_event sent events router =
-    list_any (λ e. (e.router == router) && outcome_matches sent e.outcome) events
+-- whether the outcome is of this handling: an event at an open row is of neither
+abbrev pub is_of_handling : Handling → Outcome → Bool
+is_of_handling handling Open = false
+is_of_handling handling NoRow = not (is_sent_on handling)
+is_of_handling handling OtherVif = not (is_sent_on handling)
+is_of_handling handling (Sent copies strays) = is_sent_on handling
+
+-- whether a router has an event of this handling
+abbrev pub has_event : Handling → List Event → (router : ℕ) → Bool
+has_event handling events router =
+    list_any (λ e. (e.router == router) && is_of_handling handling e.outcome) events
 
 -- the routers that have an interface on one of these LANs, LAN by LAN, each once
 abbrev pub routers_of_lans : Search → List ℕ → List ℕ
@@ -34,11 +40,12 @@ routers_of_search s missed = routers_of_lans s (lans_of_search s missed)
 
 -- those of the routers that sent copies on
 abbrev pub sent_on : List Event → List ℕ → List ℕ
-sent_on events routers = filter (has_event true events) routers
+sent_on events routers = filter (has_event SentOn events) routers
 
 -- those of the others that a copy came to and that took none
 abbrev pub took_none : List Event → List ℕ → List ℕ
-took_none events routers = filter (λ r. has_event false events r && not (has_event true events r)) routers
+took_none events routers =
+    filter (λ r. has_event TookNone events r && not (has_event SentOn events r)) routers
 
 -- ---- excluded routers
 

@@ -37,10 +37,7 @@ pub(crate) fn write_output<W: Output>(
         ≡ failures_after is_read result before }
     ensures failures { W.failed output.new ≡ failures_after is_write result (W.failed output.old) }
 {
-    let run_output = match run_output {
-        Ok(run_output) => run_output,
-        Err(fault) => return Err(fault),
-    };
+    let run_output = run_output?;
     match write_all(output, run_output.text.as_bytes()) {
         Ok(()) => Ok(run_output.yes),
         Err(_) => Err(RunFault::Write),

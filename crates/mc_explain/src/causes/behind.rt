@@ -1,7 +1,8 @@
 //! What is behind a stray: what the run comes to that goes on past it.
 
-ghost use Rattle.std.specs.Prelude.{◌≡◌, ◌<◌, ◌≤◌, ◌==◌, ◌++◌, [], ℕ, List, IfOk, OnOk, None, Some, filter};
-ghost use Rattle.std.specs.Prelude.{if◌then◌else◌, length, option_map};
+ghost use Rattle.std.specs.Prelude.{◌≡◌, ◌<◌, ◌≤◌, ◌==◌, ◌++◌, [], Bool, List, IfOk, OnOk, None, Some};
+ghost use Rattle.std.specs.Prelude.{filter, if◌then◌else◌, length};
+ghost use Rattle.mc_theory.specs.Nets.{Interface};
 ghost use Rattle.mc_theory.specs.Flights.{Copy};
 ghost use Rattle.mc_theory.specs.Findings.{first_double, sender_on as sender_of_first};
 ghost use Rattle.mc_forward.specs.FlightsInDomain.{net_in};
@@ -243,12 +244,11 @@ fn second_shown_from(
     Ok(Some(least))
 }
 
-/// What is behind a stray where a LAN carries a second copy.
+/// What is behind a stray where a LAN carries a second copy: the same for each stray, and whether or not
+/// a router is excluded.
 fn behind_with_second(
     alloc: Global,
     view: &FlowView<'_>,
-    whole: bool,
-    own: Stray,
     flight: &Flight<'_>,
     first_copies: &FirstCopies,
     second: &CarriedCopy,
@@ -260,8 +260,9 @@ fn behind_with_second(
     requires bounded { least_of_two_copies (net_in view.now) flight.now.flight.carried second.now.lan ≤ 255 }
     requires finding { optional_finding_value finding
         ≡ Some (finding_of_double (net_in view.now) flight.now.flight.carried second.now) }
-    ensures { IfOk result (IsBehindIn whole ((net_in view.now).ttl == 255) view.now.domain.topology
-        (net_in view.now) own flight.now.flight (Some second.now)) }
+    ensures { (whole : Bool) (own : Interface) → IfOk result
+        (IsBehindIn whole ((net_in view.now).ttl == 255) view.now.domain.topology (net_in view.now) own
+        flight.now.flight (Some second.now)) }
 {
     let copies = flight.copies();
     let causes = second_causes(alloc, view, copies, first_copies, second, &finding)?;
@@ -353,8 +354,6 @@ pub fn behind_stray(
         Some(second) => behind_with_second(
             alloc,
             &view,
-            whole,
-            own,
             flight,
             &first_copies,
             &second,

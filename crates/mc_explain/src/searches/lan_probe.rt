@@ -116,14 +116,14 @@ impl<'s> LanProbe<'s> {
         router: RouterNo,
         from: LanNo,
         entry: &Entry<'_>,
-        own: &[ListedInterface],
+        interfaces: &[ListedInterface],
     ) -> Result<(), Memory>
         requires valid { IsValidEntry entry.now }
         ensures added { OnOk result (lines.new.items ≡ lines.old.items
             ++ flat_map (λ i. vif_lines (search_in self.now) lan router from
-            (oif_pairs entry.now.oifs) i.vif) own.now) }
+            (oif_pairs entry.now.oifs) i.vif) interfaces.now) }
     {
-        for interface in own {
+        for interface in interfaces {
             if let Some(vif) = interface.vif {
                 if self.view.placed(router, vif) == Some(lan) {
                     lines.push(self.vif_line(lan, router, from, entry, vif))?;
@@ -139,17 +139,17 @@ impl<'s> LanProbe<'s> {
         lines: &mut Vec<SearchLine>,
         lan: LanNo,
         router: RouterNo,
-        own: &[ListedInterface],
+        interfaces: &[ListedInterface],
     ) -> Result<(), Memory>
         requires valid { IsLanProbe self.now }
         ensures added { OnOk result (lines.new.items ≡ lines.old.items ++ row_lines (search_in self.now) lan
-            router own.now ((net (search_in self.now)).row router)) }
+            router interfaces.now ((net (search_in self.now)).row router)) }
     {
         match self.view.row(router) {
             RowFor::Exact(entry) => match self.view.placed(router, entry.iif) {
                 // Its line comes from `add_expected_lines`.
                 Some(from) if from == lan => {}
-                Some(from) => self.add_vif_lines(lines, lan, router, from, &entry, own)?,
+                Some(from) => self.add_vif_lines(lines, lan, router, from, &entry, interfaces)?,
                 None => lines.push(SearchLine::FromUnplaced { lan, router })?,
             },
             RowFor::Open => lines.push(SearchLine::EverySource { lan, router })?,
@@ -213,12 +213,12 @@ impl<'s> LanProbe<'s> {
         &self,
         lines: &mut Vec<SearchLine>,
         lan: LanNo,
-        own: &[ListedInterface],
+        interfaces: &[ListedInterface],
     ) -> Result<(), Memory>
         ensures { OnOk result (lines.new.items ≡ lines.old.items
-            ++ flat_map (λ i. device_lines (search_in self.now) lan i i.vif) own.now) }
+            ++ flat_map (λ i. device_lines (search_in self.now) lan i i.vif) interfaces.now) }
     {
-        for listed in own {
+        for listed in interfaces {
             self.add_device_line(lines, lan, *listed)?;
         }
         Ok(())
@@ -239,18 +239,18 @@ impl<'s> LanProbe<'s> {
         lines: &mut Vec<SearchLine>,
         lan: LanNo,
         router: RouterNo,
-        own: &[ListedInterface],
+        interfaces: &[ListedInterface],
     ) -> Result<(), Memory>
         requires valid { IsLanProbe self.now }
         ensures added { OnOk result (lines.new.items ≡ lines.old.items
-            ++ router_lines (search_in self.now) lan (router, own.now)) }
+            ++ router_lines (search_in self.now) lan (router, interfaces.now)) }
     {
         if self.is_excluded(router) {
             lines.push(SearchLine::Excluded { lan, router })?;
             return Ok(());
         }
-        self.add_row_lines(lines, lan, router, own)?;
-        self.add_device_lines(lines, lan, own)
+        self.add_row_lines(lines, lan, router, interfaces)?;
+        self.add_device_lines(lines, lan, interfaces)
     }
 
     /// Adds the lines of all routers on the LAN.
@@ -261,8 +261,8 @@ impl<'s> LanProbe<'s> {
             ++ flat_map (router_lines (search_in self.now) lan)
             (routers_on (search_in self.now) lan)) }
     {
-        for own in self.routers_on(lan) {
-            self.add_router_lines(lines, lan, own.router, own.interfaces)?;
+        for router_on_lan in self.routers_on(lan) {
+            self.add_router_lines(lines, lan, router_on_lan.router, router_on_lan.interfaces)?;
         }
         Ok(())
     }
@@ -282,8 +282,8 @@ impl<'s> LanProbe<'s> {
             ++ flat_map (expected_lines (search_in self.now) lan)
             (routers_on (search_in self.now) lan)) }
     {
-        for own in self.routers_on(lan) {
-            let router = own.router;
+        for router_on_lan in self.routers_on(lan) {
+            let router = router_on_lan.router;
             if self.is_expecting(lan, router) {
                 lines.push(SearchLine::ExpectedFromHere { lan, router })?;
             }
@@ -292,20 +292,20 @@ impl<'s> LanProbe<'s> {
     }
 
     /// Whether a router's row sends by a vif of a device that the topology has on the LAN.
-    fn sends_here(&self, router: RouterNo, own: &[ListedInterface]) -> bool
-        ensures { result ≡ sends_here (search_in self.now) (router, own.now) }
+    fn sends_here(&self, router: RouterNo, interfaces: &[ListedInterface]) -> bool
+        ensures { result ≡ sends_here (search_in self.now) (router, interfaces.now) }
     {
         match self.view.row(router) {
-            RowFor::Exact(entry) => own.iter().any(|i| sends_by_known_vif(&entry, i.vif)),
+            RowFor::Exact(entry) => interfaces.iter().any(|i| sends_by_known_vif(&entry, i.vif)),
             RowFor::Open | RowFor::NoRow => false,
         }
     }
 
     /// Whether a router sends onto the LAN, or is excluded.
-    fn may_send_here(&self, router: RouterNo, own: &[ListedInterface]) -> bool
-        ensures { result ≡ may_send_here (search_in self.now) (router, own.now) }
+    fn may_send_here(&self, router: RouterNo, interfaces: &[ListedInterface]) -> bool
+        ensures { result ≡ may_send_here (search_in self.now) (router, interfaces.now) }
     {
-        self.is_excluded(router) || self.sends_here(router, own)
+        self.is_excluded(router) || self.sends_here(router, interfaces)
     }
 
     /// Whether some router on the LAN sends onto it, or is excluded.
@@ -315,8 +315,8 @@ impl<'s> LanProbe<'s> {
         ensures value { result ≡ list_any (may_send_here (search_in self.now))
             (routers_on (search_in self.now) lan) }
     {
-        for own in self.routers_on(lan) {
-            if self.may_send_here(own.router, own.interfaces) {
+        for router_on_lan in self.routers_on(lan) {
+            if self.may_send_here(router_on_lan.router, router_on_lan.interfaces) {
                 return true;
             }
         }

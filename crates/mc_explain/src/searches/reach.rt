@@ -1,13 +1,14 @@
 //! How far a packet came in a search: which routers sent copies on, and which took none.
 
 ghost use Rattle.std.specs.Prelude.{◌≡◌, ◌<◌, ◌≤◌, ◌||◌, ◌∷◌, ℕ, [], All, IfOk, OnOk, false, filter};
-ghost use Rattle.std.specs.Prelude.{◌&&◌, Bool, length, map, not, slice_index_or, true};
+ghost use Rattle.std.specs.Prelude.{◌&&◌, Bool, length, map, not, replicate, slice_index_or};
 ghost use Rattle.mc_forward.specs.OutcomeValues.{outcome_value};
 ghost use Rattle.mc_explain.specs.LanProbe.{IsLanProbe, search_in};
 ghost use Rattle.mc_explain.specs.BucketsAndMarks.{AreMarksOfListed, AreMarksOf};
 ghost use Rattle.mc_explain.specs.SearchLine.{append_new, router_of_group, routers_on};
-ghost use Rattle.mc_explain.specs.SearchReach.{has_event, outcome_matches, routers_of_lans, sent_on};
+ghost use Rattle.mc_explain.specs.SearchReach.{has_event, is_of_handling, routers_of_lans, sent_on};
 ghost use Rattle.mc_explain.specs.SearchReach.{took_none};
+ghost use Rattle.mc_explain.specs.declared.searches.reach.Handling.TheVariants.{SentOn};
 
 use crate::searches::lan_probe::LanProbe;
 use mc_forward::{Event, Outcome};
@@ -25,30 +26,36 @@ pub struct Reach {
     pub took_none: Vec<RouterNo>,
 }
 
-/// The greatest number of routers of a topology.
-const MAX_ROUTERS: usize = 256;
+/// What a router did with a copy that came to it.
+#[derive(Clone, Copy)]
+enum Handling {
+    /// It sent copies on.
+    SentOn,
+    /// It took none: it has no row, or one with another incoming vif.
+    TookNone,
+}
 
-/// Whether an event sent the copy on (`sent`), or took none (not `sent`).
-fn outcome_matches(outcome: Outcome, sent: bool) -> bool
-    ensures { result ≡ outcome_matches sent (outcome_value outcome) }
+/// Whether an outcome is of this handling. That of a row for every source is of neither.
+fn is_of_handling(outcome: Outcome, handling: Handling) -> bool
+    ensures { result ≡ is_of_handling handling (outcome_value outcome) }
 {
     match outcome {
-        Outcome::Sent { .. } => sent,
-        Outcome::NoRow | Outcome::OtherVif => !sent,
+        Outcome::Sent { .. } => matches!(handling, Handling::SentOn),
+        Outcome::NoRow | Outcome::OtherVif => matches!(handling, Handling::TookNone),
         Outcome::Open => false,
     }
 }
 
-/// Marks the routers with an event that sent the copy on, or with one that took none.
-fn mark_routers(marks: &mut [bool], events: &[Event], sent: bool)
+/// Marks the routers with an event of this handling.
+fn mark_routers(marks: &mut [bool], events: &[Event], handling: Handling)
     ensures count { length marks.new ≡ length marks.old }
     ensures marks { (router : ℕ) → router < length marks.old →
         slice_index_or marks.new router false
-        ≡ (slice_index_or marks.old router false || has_event sent events.now router) }
+        ≡ (slice_index_or marks.old router false || has_event handling events.now router) }
 {
     for event in events {
         let router = event.router.0 as usize;
-        if router < marks.len() && outcome_matches(event.outcome, sent) {
+        if router < marks.len() && is_of_handling(event.outcome, handling) {
             marks[router] = true;
         }
     }
@@ -59,14 +66,21 @@ fn unmark_senders(marks: &mut [bool], events: &[Event])
     ensures count { length marks.new ≡ length marks.old }
     ensures marks { (router : ℕ) → router < length marks.old →
         slice_index_or marks.new router false
-        ≡ (slice_index_or marks.old router false && not (has_event true events.now router)) }
+        ≡ (slice_index_or marks.old router false && not (has_event SentOn events.now router)) }
 {
     for event in events {
         let router = event.router.0 as usize;
-        if router < marks.len() && outcome_matches(event.outcome, true) {
+        if router < marks.len() && is_of_handling(event.outcome, Handling::SentOn) {
             marks[router] = false;
         }
     }
+}
+
+/// Marks for so many routers, of which none is set.
+fn no_marks(alloc: Global, routers: u32) -> Result<Vec<bool>, Memory>
+    ensures { IfOk result (λ marks. marks.items ≡ replicate routers false) }
+{
+    Ok(vec![in alloc; false; routers as usize]?)
 }
 
 /// Adds a router, unless it is listed already.
@@ -105,8 +119,8 @@ fn add_routers(
         (map router_of_group (routers_on (search_in lan_probe.now) lan))) }
     ensures listed { OnOk result (AreMarksOfListed routers.new.items listed.new) }
 {
-    for own in lan_probe.routers_on(lan) {
-        add_router(routers, listed, own.router)?;
+    for router_on_lan in lan_probe.routers_on(lan) {
+        add_router(routers, listed, router_on_lan.router)?;
     }
     Ok(())
 }
@@ -121,11 +135,10 @@ fn routers_of_lans(
     requires lans { All (λ lan. lan < length lan_probe.now.view.now.domain.topology.lans) lans.now }
     ensures routers { IfOk result (λ routers.
         routers.items ≡ routers_of_lans (search_in lan_probe.now) lans.now) }
-    ensures bounded { IfOk result (λ routers. All (λ router. router < 256) routers.items) }
+    ensures within { IfOk result (λ routers. All (λ router.
+        router < length lan_probe.now.view.now.domain.topology.routers) routers.items) }
 {
-    // This brings in the domain's rules: it has at most `MAX_ROUTERS` routers.
-    let _rules = lan_probe.view.topology();
-    let mut listed = [false; MAX_ROUTERS];
+    let mut listed = no_marks(alloc, lan_probe.view.topology().routers())?;
     let mut routers = Vec::new(alloc);
     for lan in lans {
         add_routers(lan_probe, &mut routers, &mut listed, *lan)?;
@@ -152,18 +165,23 @@ fn marked_routers(
     Ok(found)
 }
 
-/// Which of these routers sent copies on, and which others took none.
-fn reach_among(alloc: Global, routers: &[RouterNo], events: &[Event]) -> Result<Reach, Memory>
-    requires bounded { All (λ router. router < 256) routers.now }
+/// Which of these routers, of so many, sent copies on, and which others took none.
+fn reach_among(
+    alloc: Global,
+    routers: &[RouterNo],
+    count: u32,
+    events: &[Event],
+) -> Result<Reach, Memory>
+    requires within { All (λ router. router < count) routers.now }
     ensures sent_on { IfOk result (λ reach.
         reach.sent_on.items ≡ sent_on events.now routers.now) }
     ensures took_none { IfOk result (λ reach.
         reach.took_none.items ≡ took_none events.now routers.now) }
 {
-    let mut sent_on = [false; MAX_ROUTERS];
-    mark_routers(&mut sent_on, events, true);
-    let mut took_none = [false; MAX_ROUTERS];
-    mark_routers(&mut took_none, events, false);
+    let mut sent_on = no_marks(alloc, count)?;
+    mark_routers(&mut sent_on, events, Handling::SentOn);
+    let mut took_none = no_marks(alloc, count)?;
+    mark_routers(&mut took_none, events, Handling::TookNone);
     unmark_senders(&mut took_none, events);
     Ok(Reach {
         sent_on: marked_routers(alloc, routers, &sent_on)?,
@@ -186,5 +204,6 @@ pub(crate) fn reach_of(
         took_none events.now (routers_of_lans (search_in lan_probe.now) lans.now)) }
 {
     let routers = routers_of_lans(alloc, lan_probe, lans)?;
-    reach_among(alloc, &routers, events)
+    let count = lan_probe.view.topology().routers();
+    reach_among(alloc, &routers, count, events)
 }

@@ -16,7 +16,7 @@ use crate::searches::lan_probe::LanProbe;
 use crate::searches::reach::{Reach, reach_of};
 use crate::searches::search_line::SearchLine;
 use crate::searches::visited_lans::VisitedLans;
-use mc_forward::{Domain, Event, Flight, FlowView};
+use mc_forward::{Event, Flight};
 use mc_tables::CacheSummary;
 use mc_text::Memory;
 use mc_topology::LanNo;
@@ -132,37 +132,33 @@ fn search_with_reach(
     Ok(LanSearch { lines, reach })
 }
 
-/// Searches why the LAN `missed` carried no copy in a flight of a flow's packet, by the travel's events.
+/// Searches why the LAN `missed` carried no copy in the flight of a packet, by the travel's events.
 /// `summary` has the summary of each router's cache, `excluded` a mark for each router, both in the
 /// topology's order, and `interfaces` the interfaces of the domain. Routers without a mark aren't
-/// excluded. `flow` counts from 0. The time is in proportion to the number of LANs and copies, and to the
-/// interfaces on the searched LANs and the size of their routers' rows.
+/// excluded. The time is in proportion to the number of LANs and copies, and to the interfaces on the
+/// searched LANs and the size of their routers' rows.
 ///
 /// # Errors
 ///
 /// `Memory` if an allocation fails.
 pub fn search(
     alloc: Global,
-    domain: &Domain,
     summary: &[CacheSummary],
     excluded: &[bool],
     interfaces: &InterfacesOfLans,
     flight: &Flight<'_>,
     events: &[Event],
-    flow: u32,
     missed: LanNo,
 ) -> Result<LanSearch, Memory>
-    requires flow { flow < length domain.now.topology.flows }
-    requires interfaces { interfaces.now ≡ interfaces_on_lans (facts domain.now) }
-    requires flight { flight.now.domain ≡ domain.now }
-    requires missed { missed < length domain.now.topology.lans }
-    ensures ok { IfOk result (IsLanSearch
-        (search_of domain.now flow summary.now excluded.now flight.now.flight.carried) events.now missed) }
+    requires interfaces { interfaces.now ≡ interfaces_on_lans (facts flight.now.domain) }
+    requires missed { missed < length flight.now.domain.topology.lans }
+    ensures ok { IfOk result (IsLanSearch (search_of flight.now.domain flight.now.flow summary.now
+        excluded.now flight.now.flight.carried) events.now missed) }
 {
-    let view = FlowView::new(domain, flow);
-    let first_copies = FirstCopies::new(alloc, &view, flight.copies())?;
+    let view = flight.flow_view();
+    let first_copies = FirstCopies::new(alloc, view, flight.copies())?;
     let lan_probe = LanProbe {
-        view: &view,
+        view,
         summary,
         excluded,
         interfaces,

@@ -59,13 +59,11 @@ pub(crate) fn search_if_missed(
     };
     let found = search(
         alloc,
-        audited.domain,
         audited.summary,
         audited.excluded,
         audited.interfaces,
         &ended.flight,
         &ended.travel.events,
-        flow,
         lan,
     )?;
     Ok(Some(found))

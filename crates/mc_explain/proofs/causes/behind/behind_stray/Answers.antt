@@ -1,3 +1,4 @@
+use Rattle.std.proofs.Common.{rules}
 use Rattle.mc_explain.proofs.BehindLemmas.{need_of_second-of_view}
 use Rattle.mc_explain.proofs.causes.behind.behind_stray.Goals as goal
 
@@ -7,3 +8,8 @@ behind_with_second-requires-clause-bounded c =
     c.copies.result.now
     c.in_ok-first_copies.first_copies.second c.in-Some.second c.new-view.ensures.flow c.new-view.ensures.rules
     c.in_ok-past.ensures.run c.copies.ensures.copies c.in_ok-first_copies.ensures.second c.in-Some.is
+
+pub returns-in-Some : goal.returns-in-Some
+returns-in-Some c =
+    let behind = c.behind_with_second.ensures c.args.whole c.args.own in
+    search rules

@@ -6,12 +6,12 @@ use Rattle.mc_explain.specs.BucketsAndMarks.{AreMarksOfListed}
 use Rattle.mc_explain.specs.SearchLine.{append_new, router_of_group, routers_on}
 use Rattle.mc_explain.proofs.searches.reach.add_routers.Given as goal
 
-abbrev pub invariant-loop-own : goal.invariant-loop-own
-invariant-loop-own l = record {
+abbrev pub invariant-loop-router_on_lan : goal.invariant-loop-router_on_lan
+invariant-loop-router_on_lan l = record {
   count : length l.listed ≡ length l.fn.listed;
-  rest : append_new l.routers.items (map router_of_group l.own-iterator)
+  rest : append_new l.routers.items (map router_of_group l.router_on_lan-iterator)
       ≡ append_new l.fn.routers.items
       (map router_of_group (routers_on (search_in l.fn.lan_probe) l.fn.lan));
   listed : AreMarksOfListed l.routers.items l.listed;
-  inside : (g : ℕ × List ListedInterface) → In g l.own-iterator → g.0 < length l.fn.listed;
+  inside : (g : ℕ × List ListedInterface) → In g l.router_on_lan-iterator → g.0 < length l.fn.listed;
 }

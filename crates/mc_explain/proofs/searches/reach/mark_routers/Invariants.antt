@@ -7,6 +7,6 @@ abbrev pub invariant-loop-event : goal.invariant-loop-event
 invariant-loop-event l = record {
   count : length l.marks ≡ length l.fn.marks;
   marks : (router : ℕ) → router < length l.fn.marks →
-      (slice_index_or l.marks router false || has_event l.fn.sent (drop l.event-index l.fn.events) router)
-      ≡ (slice_index_or l.fn.marks router false || has_event l.fn.sent l.fn.events router);
+      (slice_index_or l.marks router false || has_event l.fn.handling (drop l.event-index l.fn.events) router)
+      ≡ (slice_index_or l.fn.marks router false || has_event l.fn.handling l.fn.events router);
 }

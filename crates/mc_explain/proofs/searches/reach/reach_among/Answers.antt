@@ -1,6 +1,10 @@
 -- By the marks.
-use Rattle.std.proofs.Common.{◌&&◌, not, true, false, replicate}
+use Rattle.std.proofs.Common.{◌&&◌, ◌∙◌, ℕ, Bool, List, ap, false, arith, drop, length, not, subst, sym}
+use Rattle.std.specs.Prelude.{slice_index_or}
+use Rattle.std.proofs.lemmas.List.{take_at}
+use Rattle.mc_explain.specs.BucketsAndMarks.{AreMarksOf}
 use Rattle.mc_explain.specs.SearchReach.{has_event}
+use Rattle.mc_explain.specs.declared.searches.reach.Handling.TheVariants.{SentOn, TookNone}
 use Rattle.mc_explain.proofs.FilterLemmas.{slice_index_or-replicate_false}
 use Rattle.mc_explain.proofs.ReachLemmas.{are_marks_of-has_event, are_marks_of-took_none}
 use Rattle.mc_explain.proofs.searches.reach.reach_among.Goals as goal
@@ -8,17 +12,35 @@ use Rattle.mc_explain.proofs.searches.reach.reach_among.Goals as goal
 pub returns-clause-sent_on : goal.returns-clause-sent_on
 returns-clause-sent_on c =
     let events = c.args.events.now in
-    c.in_ok-marked_routers.ensures.marked (has_event true events)
-    (are_marks_of-has_event events true (replicate 256 false) c.mark_routers.new.marks
-    c.mark_routers.ensures.count (slice_index_or-replicate_false 256)
-    c.mark_routers.ensures.marks)
+    let none = c.in_ok-sent_on.sent_on in
+    let marks = c.mark_routers.new.marks in
+    let whole = take_at marks (drop (length marks) none.items) none.len
+    (omega (arith, c.mark_routers.ensures.count, c.deref_mut.ensures.len)) in
+    let are = are_marks_of-has_event events SentOn c.deref_mut.result.now marks c.mark_routers.ensures.count
+    (λ r. ap (λ (ms : List Bool). slice_index_or ms r false) (c.deref_mut.ensures.value
+    ∙ c.in_ok-sent_on.ensures) ∙ slice_index_or-replicate_false c.args.count r)
+    c.mark_routers.ensures.marks in
+    c.in_ok-marked_routers.ensures.marked (has_event SentOn events)
+    (subst (AreMarksOf (has_event SentOn events)) (sym (c.deref.ensures.value ∙ whole)) are)
 
 pub returns-clause-took_none : goal.returns-clause-took_none
 returns-clause-took_none c =
     let events = c.args.events.now in
-    c.in_ok-marked_routers-2.ensures.marked (λ r. has_event false events r && not (has_event true events r))
-    (are_marks_of-took_none events c.mark_routers-2.new.marks c.unmark_senders.new.marks
-    c.unmark_senders.ensures.count
-    (are_marks_of-has_event events false (replicate 256 false) c.mark_routers-2.new.marks
-    c.mark_routers-2.ensures.count (slice_index_or-replicate_false 256)
-    c.mark_routers-2.ensures.marks) c.unmark_senders.ensures.marks)
+    let none = c.in_ok-took_none.took_none in
+    let took_none = λ (r : ℕ). has_event TookNone events r && not (has_event SentOn events r) in
+    let first = c.mark_routers-2.new.marks in
+    let marks = c.unmark_senders.new.marks in
+    let before = c.deref_mut-3.result.now in
+    let whole_first = take_at first (drop (length first) none.items) none.len
+    (omega (arith, c.mark_routers-2.ensures.count, c.deref_mut-2.ensures.len)) in
+    let are_first = are_marks_of-has_event events TookNone c.deref_mut-2.result.now first
+    c.mark_routers-2.ensures.count
+    (λ r. ap (λ (ms : List Bool). slice_index_or ms r false) (c.deref_mut-2.ensures.value
+    ∙ c.in_ok-took_none.ensures) ∙ slice_index_or-replicate_false c.args.count r)
+    c.mark_routers-2.ensures.marks in
+    let are = are_marks_of-took_none events before marks c.unmark_senders.ensures.count
+    (subst (AreMarksOf (has_event TookNone events)) (sym (c.deref_mut-3.ensures.value ∙ whole_first))
+    are_first) c.unmark_senders.ensures.marks in
+    c.in_ok-marked_routers-2.ensures.marked took_none (subst (AreMarksOf took_none)
+    (sym (c.deref-2.ensures.value ∙ take_at marks _ none.len
+    (omega (arith, c.unmark_senders.ensures.count, c.deref_mut-3.ensures.len)))) are)

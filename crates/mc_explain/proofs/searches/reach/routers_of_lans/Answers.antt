@@ -1,31 +1,48 @@
 -- LAN by LAN.
-use Rattle.std.proofs.Common.{◌==◌, ℕ, List, take, refl, sym, ap, ◌∙◌}
+use Rattle.std.proofs.Common.{◌==◌, ◌≤◌, ◌∙◌, ℕ, Bool, List, ap, arith, drop, false, length, subst, sym, take}
 use Rattle.std.specs.List.{list_any}
+use Rattle.std.specs.Prelude.{slice_index_or}
+use Rattle.std.proofs.lemmas.List.{length-replicate, take_at}
+use Rattle.mc_topology.specs.Topology.{TopologyValue}
+use Rattle.mc_explain.specs.BucketsAndMarks.{AreMarksOfListed}
 use Rattle.mc_explain.specs.LanProbe.{search_in}
 use Rattle.mc_explain.proofs.FilterLemmas.{slice_index_or-replicate_false}
 use Rattle.mc_explain.proofs.ReachLemmas.{routers_of_lans-all_below, routers_of_lans-more}
 use Rattle.mc_explain.proofs.searches.reach.routers_of_lans.Goals as goal
 
 pub loop-lan-init : goal.loop-lan-init
-loop-lan-init c = record {
-  count = refl;
-  routers = c.new-routers.ensures.items;
-  listed = λ n lt. slice_index_or-replicate_false 256 n
-      ∙ sym (ap (λ (rs : List ℕ). list_any (λ m. m == n) rs) c.new-routers.ensures.items);
-}
+loop-lan-init c =
+    let none = c.in_ok-listed.ensures in
+    let routers = c.args.lan_probe.now.view.now.domain.topology.routers in
+    record {
+      count = ap length none ∙ length-replicate c.routers.result false ∙ c.routers.ensures.count
+          ∙ ap (λ (t : TopologyValue). length t.routers) c.topology.ensures.topology;
+      routers = c.new-routers.ensures.items;
+      listed = λ n lt. ap (λ (ms : List Bool). slice_index_or ms n false) none
+          ∙ slice_index_or-replicate_false c.routers.result n
+          ∙ sym (ap (λ (rs : List ℕ). list_any (λ m. m == n) rs) c.new-routers.ensures.items);
+    }
 
 pub loop-lan-preserved : goal.loop-lan-preserved
-loop-lan-preserved c = record {
-  count = c.in_ok-add_routers.ensures.count ∙ c.loop-lan.invariant.count;
-  routers = routers_of_lans-more (search_in c.args.lan_probe.now) c.args.lans.now c.loop-lan.lan-index
-      c.lan-item.result c.loop-lan.routers.items c.add_routers.new.routers.items
-      c.loop-lan-test.true c.lan-item.is c.loop-lan.invariant.routers
-      c.in_ok-add_routers.ensures.routers;
-  listed = c.in_ok-add_routers.ensures.listed;
-}
+loop-lan-preserved c =
+    let listed = c.add_routers.new.listed in
+    let before = c.loop-lan.listed in
+    let whole = take_at listed (drop (length listed) before.items) before.len
+    (omega (arith, c.in_ok-add_routers.ensures.count, c.deref_mut.ensures.len)) in
+    record {
+      count = ap length whole ∙ c.in_ok-add_routers.ensures.count ∙ ap length c.deref_mut.ensures.value
+          ∙ c.loop-lan.invariant.count;
+      routers = routers_of_lans-more (search_in c.args.lan_probe.now) c.args.lans.now c.loop-lan.lan-index
+          c.lan-item.result c.loop-lan.routers.items c.add_routers.new.routers.items
+          c.loop-lan-test.true c.lan-item.is c.loop-lan.invariant.routers
+          c.in_ok-add_routers.ensures.routers;
+      listed = subst (AreMarksOfListed c.add_routers.new.routers.items) (sym whole)
+          c.in_ok-add_routers.ensures.listed;
+    }
 
-pub returns-clause-bounded : goal.returns-clause-bounded
-returns-clause-bounded c =
+pub returns-clause-within : goal.returns-clause-within
+returns-clause-within c =
+    let routers = c.args.lan_probe.now.view.now.domain.topology.routers in
+    let all : length routers ≤ length routers = omega arith in
     routers_of_lans-all_below (search_in c.args.lan_probe.now) (take c.loop-lan.lan-index c.args.lans.now)
-    c.loop-lan.routers.items 256 c.loop-lan.invariant.routers
-    c.topology-rules.ensures.rules.domain.topology.few_routers
+    c.loop-lan.routers.items (length routers) c.loop-lan.invariant.routers all

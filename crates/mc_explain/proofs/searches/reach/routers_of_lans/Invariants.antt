@@ -6,7 +6,7 @@ use Rattle.mc_explain.proofs.searches.reach.routers_of_lans.Given as goal
 
 abbrev pub invariant-loop-lan : goal.invariant-loop-lan
 invariant-loop-lan l = record {
-  count : length l.listed ≡ 256;
+  count : length l.listed.items ≡ length l.fn.lan_probe.view.now.domain.topology.routers;
   routers : l.routers.items ≡ routers_of_lans (search_in l.fn.lan_probe) (take l.lan-index l.fn.lans);
-  listed : AreMarksOfListed l.routers.items l.listed;
+  listed : AreMarksOfListed l.routers.items l.listed.items;
 }

@@ -10,8 +10,9 @@ pub returns : goal.returns
 returns c = record {
   ok = (
       subst (λ (s : Search). IfOk c.search_with_reach.result (IsLanSearch s c.args.events.now c.args.missed))
-      (search-of_view c.new-view.result c.args.domain.now c.args.flow c.args.summary.now c.args.excluded.now
-      c.in_ok-first_copies.first_copies.by_lan c.copies.result.now c.args.flight.now.flight.carried
-      c.new-view.ensures.flow c.in_ok-first_copies.ensures.first_copies c.copies.ensures.copies)
+      (search-of_view c.flow_view-view.result.now c.args.flight.now.domain c.args.flight.now.flow
+      c.args.summary.now c.args.excluded.now c.in_ok-first_copies.first_copies.by_lan c.copies.result.now
+      c.args.flight.now.flight.carried c.flow_view-view.ensures c.in_ok-first_copies.ensures.first_copies
+      c.copies.ensures.copies)
       c.search_with_reach.ensures.ok);
 }

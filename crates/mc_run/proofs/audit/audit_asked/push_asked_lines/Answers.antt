@@ -1,8 +1,8 @@
-use Rattle.std.proofs.Common.{◌++◌, ap, append-nil, append_assoc, sym, ◌∙◌, flat_map}
+use Rattle.std.proofs.Common.{append-nil, sym}
 use Rattle.std.specs.Prelude.{not}
 use Rattle.std.specs.String.{string_bytes}
 use Rattle.mc_theory.specs.Lists.{below}
-use Rattle.mc_run.specs.AuditAsked.{asked_end, numbered_asked_line}
+use Rattle.mc_run.specs.AuditAsked.{numbered_asked_line}
 use Rattle.mc_run.specs.AuditPieces.{audited_value}
 use Rattle.mc_run.specs.AuditRun.{is_whole}
 use Rattle.mc_run.proofs.AuditAskedLemmas.{flat_map_below-more}

@@ -7,4 +7,4 @@ use Rattle.mc_explain.proofs.searches.lan_probe.LanProbe.add_device_lines.Given 
 abbrev pub invariant-loop-listed : goal.invariant-loop-listed
 invariant-loop-listed l = l.lines.items ≡ l.fn.lines.items
     ++ flat_map (λ (i : ListedInterface). device_lines (search_in l.fn.self) l.fn.lan i i.vif)
-    (take l.listed-index l.fn.own)
+    (take l.listed-index l.fn.interfaces)

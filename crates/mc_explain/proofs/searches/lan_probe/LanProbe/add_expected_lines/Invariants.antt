@@ -3,8 +3,8 @@ use Rattle.mc_explain.specs.LanProbe.{search_in}
 use Rattle.mc_explain.specs.SearchLine.{expected_lines, routers_on}
 use Rattle.mc_explain.proofs.searches.lan_probe.LanProbe.add_expected_lines.Given as goal
 
-abbrev pub invariant-loop-own : goal.invariant-loop-own
-invariant-loop-own l =
-    l.lines.items ++ flat_map (expected_lines (search_in l.fn.self) l.fn.lan) l.own-iterator
+abbrev pub invariant-loop-router_on_lan : goal.invariant-loop-router_on_lan
+invariant-loop-router_on_lan l =
+    l.lines.items ++ flat_map (expected_lines (search_in l.fn.self) l.fn.lan) l.router_on_lan-iterator
     ≡ l.fn.lines.items ++ flat_map (expected_lines (search_in l.fn.self) l.fn.lan)
     (routers_on (search_in l.fn.self) l.fn.lan)

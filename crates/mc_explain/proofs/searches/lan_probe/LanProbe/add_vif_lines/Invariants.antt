@@ -8,4 +8,4 @@ use Rattle.mc_explain.proofs.searches.lan_probe.LanProbe.add_vif_lines.Given as 
 abbrev pub invariant-loop-interface : goal.invariant-loop-interface
 invariant-loop-interface l = l.lines.items ≡ l.fn.lines.items
     ++ flat_map (λ (i : ListedInterface). vif_lines (search_in l.fn.self) l.fn.lan l.fn.router l.fn.from
-    (oif_pairs l.fn.entry.oifs) i.vif) (take l.interface-index l.fn.own)
+    (oif_pairs l.fn.entry.oifs) i.vif) (take l.interface-index l.fn.interfaces)

@@ -6,6 +6,6 @@ use Rattle.mc_explain.proofs.searches.lan_probe.LanProbe.sends_here.Goals as goa
 
 pub returns-in-Open : goal.returns-in-Open
 returns-in-Open c = elim c.in-Open.is [
-  | inl e ↦ sym (list_any_sends-open_row _ c.args.own.now (sym c.row.ensures.row ∙ ap row_value e))
-  | inr e ↦ sym (list_any_sends-no_row _ c.args.own.now (sym c.row.ensures.row ∙ ap row_value e))
+  | inl e ↦ sym (list_any_sends-open_row _ c.args.interfaces.now (sym c.row.ensures.row ∙ ap row_value e))
+  | inr e ↦ sym (list_any_sends-no_row _ c.args.interfaces.now (sym c.row.ensures.row ∙ ap row_value e))
 ]

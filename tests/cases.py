@@ -355,6 +355,7 @@ def make_commands(folder, python, shell):
     for name in APPLETS if shell == "busybox" else ["sh"]:
         os.symlink(path_of(shell), f"{folder}.below/{name}")
     os.symlink(python, f"{folder}.below/python3")
+    subprocess.run([python, "-m", "compileall", "-q", f"{folder}/python"], check=True)  # each run of a tool imports it
 
 
 def ways(room):

@@ -12,6 +12,9 @@ import time
 import packets as p
 from place import GOOD, HERE, LISTED, NETWORK, PROGRAM, TOOLS, TOP, case
 
+FAST = "import signal\nsetitimer = signal.setitimer\n" \
+       "signal.setitimer = lambda which, seconds: setitimer(which, seconds / 5)\n"
+
 
 # Names are data
 
@@ -141,13 +144,16 @@ esac""")
 
 @case
 def topology_that_takes_long_to_read(place):
-    """It is given up, by all who read it: a key of many parts takes more than its length in steps."""
+    """It is given up, by all who read it: a key of many parts takes more than its length in steps. (The timer is five
+    times as fast, so that the 10 s are 2.)"""
+    place.write("fast/sitecustomize.py", FAST)
+    place.environment["PYTHONPATH"] = place.at("fast")
     place.write("site/topology", ".".join(["a"] * 200000) + " = 1\n")
     begun = time.monotonic()
     assert place.run("site", "lans", "site") == 3 and "takes more than 10 s" in place.said, place.said
     ways = place.routers("r1")
     assert place.run("collect", "--adopt", "--pause", "0", "site", *ways) == 1, place.said
-    assert "takes more than 10 s" in place.said and time.monotonic() - begun < 60, place.said
+    assert "takes more than 10 s" in place.said and 4 <= time.monotonic() - begun < 60, place.said
 
 
 @case
@@ -178,7 +184,7 @@ def changes_beyond_number(place):
     ways = place.routers("r1", "r2")
     place.site()
     assert place.run("monitor", "--pause", "0", "site", *ways) == 0, place.said
-    shutil.copytree(TOOLS, place.at("tools"), ignore=shutil.ignore_patterns("__pycache__"))
+    shutil.copytree(TOOLS, place.at("tools"))
     place.write("tools/mcaudit-diff", """#!/bin/sh
 yes 'flow 10.0.0.5 239.1.2.3: new fault: Missed l2' | head -n 99999; exit 1
 """)
@@ -235,7 +241,7 @@ def diff_that_crashes(place):
     ways = place.routers("r1", "r2")
     place.site()
     assert place.run("monitor", "--pause", "0", "site", *ways) == 0, place.said
-    shutil.copytree(TOOLS, place.at("tools"), ignore=shutil.ignore_patterns("__pycache__"))
+    shutil.copytree(TOOLS, place.at("tools"))
     place.write("tools/mcaudit-diff", "#!/bin/sh\nkill -SEGV $$\n")
     words = [sys.executable, place.at("tools", "mcaudit-monitor"), "--plugin", "--pause", "0", "site", *ways]
     done = subprocess.run(words, cwd=place.folder, env=place.environment, capture_output=True, check=False)
@@ -290,7 +296,7 @@ def inputs_and_outputs_that_are_closed_or_full(place):
 @case
 def tools_that_are_not_installed_whole(place):
     """A missing or an empty module is told with the status 3, and to a monitor as UNKNOWN."""
-    shutil.copytree(TOOLS, place.at("whole"), ignore=shutil.ignore_patterns("__pycache__"))
+    shutil.copytree(TOOLS, place.at("whole"))
     for path in glob.glob(place.at("whole/mcaudit-*")):
         place.write(f"bin/{os.path.basename(path)}", open(path, "rb").read())
     tools = sorted(os.path.basename(it) for it in glob.glob(place.at("bin/mcaudit-*")) if not it.endswith("query"))

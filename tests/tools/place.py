@@ -44,6 +44,7 @@ class Place:
         self.folder = folder
         os.mkdir(self.at("bin"))
         self.script("cat", TABLES)
+        os.symlink(sys.executable, self.at("bin", "python3"))  # for tools that another tool runs
         path = os.pathsep.join((self.at("bin"), os.path.dirname(PROGRAM), os.environ["PATH"]))
         self.environment = {**os.environ, "PATH": path, "PYTHONDONTWRITEBYTECODE": "1"}
 

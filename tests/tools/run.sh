@@ -23,16 +23,21 @@ PROGRAM=${PROGRAM:-$tools/../crates/mcaudit/out/mcaudit}
 TOOLS=$tools
 export PROGRAM TOOLS
 
-# Completes the words of the file completion, and those of the help, in a folder that has one folder and one
-# file, by the shell that the further words run: what comes out is the same for all.
+# Writes the words of the file completion, and those of the help, which all shells complete.
+write_words() {
+    LC_ALL=C sh "$here/help_words.sh" "$PROGRAM" "$tools" && cat "$here/completion"
+}
+
+# Completes these words in a folder that has one folder and one file, by the shell that the further words run: what
+# comes out is the same for all.
 complete_words() {
     mkdir -p "$1/folder" && cd "$1" && : > file || return 1
     LC_ALL=C
     export LC_ALL
     "$@" -n "$tools/mcaudit.$1" || return 1
-    { sh "$here/help_words.sh" "$PROGRAM" "$tools" && cat "$here/completion"; } > ../"$1.words" || return 1
-    "$@" "$here/completion.$1" "$tools/mcaudit.$1" < ../"$1.words" > ../"$1.completed"
-    diff ../"$1.words" ../"$1.completed"
+    [ -s ../words ] || return 1
+    "$@" "$here/completion.$1" "$tools/mcaudit.$1" < ../words > ../"$1.completed"
+    diff ../words ../"$1.completed"
 }
 
 # Reads all shell with shellcheck.
@@ -139,6 +144,9 @@ python=$(python3 -c 'import sys; print(sys.executable)')
 systemd=$(command -v systemd-analyze)
 "$python" "$here/../cases.py" tools ${JOBS:+--jobs "$JOBS"} "$@" > "$scratch/cases" 2>&1 &
 if [ $# -eq 0 ]; then
+    # (what python3 is on the PATH may be a script that looks for the interpreter at each start of a tool)
+    mkdir "$scratch/bin" && ln -s "$python" "$scratch/bin/python3" && PATH=$scratch/bin:$PATH
+    write_words > "$scratch/words" || rm "$scratch/words"
     run_apart install make install_all
     run_apart completion-bash bash complete_words bash
     run_apart completion-zsh zsh complete_words zsh -f

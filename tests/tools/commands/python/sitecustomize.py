@@ -6,10 +6,8 @@ answer is there. Where the file mv.fails has the last name of what something is 
 mv.term has it, the tool gets a TERM just before. With exchange.none no two names can be exchanged in one step.
 """
 import builtins
-import ctypes
 import errno
 import os
-import resource
 import signal
 
 HERE = os.getcwd()
@@ -39,6 +37,7 @@ def open_limited(path, *how, **more):
     """Opens a file, and lets none become long once it is a router's table."""
     limit = os.path.join(HERE, "tables.limit")
     if os.path.basename(str(path)).startswith("ip_mr_") and os.path.exists(limit):
+        import resource  # pylint: disable=import-outside-toplevel
         with OPEN(limit, encoding="ascii") as file:
             most = 512 * int(file.read())
         resource.setrlimit(resource.RLIMIT_FSIZE, (most, resource.RLIM_INFINITY))
@@ -64,6 +63,7 @@ def without_a_library(*_, **__):
 
 
 if os.path.exists(os.path.join(HERE, "exchange.none")):
+    import ctypes
     ctypes.CDLL = without_a_library
 os.fsync, os.rename, os.replace = fsync, moving_by(RENAME), moving_by(REPLACE)
 builtins.open = open_limited

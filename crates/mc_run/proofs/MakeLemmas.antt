@@ -214,7 +214,7 @@ found_lines-none_if_certified t (f ∷ fs) (Certified entries ∷ xs) count none
     found_lines-none_if_certified t fs xs (omega (arith, count)) none
 found_lines-none_if_certified t (f ∷ fs) (Found ttl travel ∷ xs) count none = absurd cc
 
--- a line is written if one isn't
+-- and where a line is written, one isn't certified
 pub found_lines-some_if_found : (t : TopologyValue) (fs : List Flow) (xs : List Examined)
     → length xs ≡ length fs
     → length (found_lines_of_flows t fs xs) ≢ 0 → are_certified xs ≡ false

@@ -490,6 +490,7 @@ is_shown_from_unless-unique : (greatest : Bool) (n : Net) (cs : List Copy) (x : 
 is_shown_from_unless-unique true n cs x s t net p q = p ∙ sym q
 is_shown_from_unless-unique false n cs x s t net p q = is_shown_from_if_any-unique n cs x s t net p q
 
+-- so it is for the same flights
 is_shown_from-unique : (d : DomainValue) (flow : ℕ) (a b : ExaminedFlights) (s t : Option ℕ) → IsDomain d
     → HaveSameFlights a b → IsShownFromAt255 d flow a s → IsShownFromAt255 d flow b t → s ≡ t
 is_shown_from-unique d flow (FoundAtTtl255 a) (FoundAtTtl255 b) s t ok same p q =
@@ -533,6 +534,7 @@ is_found_below-unique whole d flow None s t p q = p ∙ sym q
 is_found_below-unique whole d flow (Some k) s t p q =
     is_found_at_flow_ttl_if-unique (nat_lt (ttl_of d flow) k) whole d flow s t p q
 
+-- so what is printed of the packets that show it is unique
 is_shown_by-unique : (whole : Bool) (d : DomainValue) (flow : ℕ) (a b : ExaminedFlights) (s t : ShownBy)
     → IsDomain d → HaveSameFlights a b → IsShownBy whole d flow a s → IsShownBy whole d flow b t → s ≡ t
 is_shown_by-unique whole d flow a b s t ok same p q =

@@ -33,10 +33,12 @@ abbrev pub merge_into : ℕ × ℕ → (List (ℕ × ℕ) → List (ℕ × ℕ))
 merge_into a f [] = a ∷ f []
 merge_into a f (b ∷ l) = merge_step (key_cmp a b) a b (f (b ∷ l)) (f l) (merge_into a f l)
 
+-- both lists in one, ascending
 abbrev pub merge : List (ℕ × ℕ) → List (ℕ × ℕ) → List (ℕ × ℕ)
 merge [] l = l
 merge (a ∷ s) l = merge_into a (merge s) l
 
+-- with an empty list
 merge-nil : (s : List (ℕ × ℕ)) → merge s [] ≡ s
 merge-nil [] = refl
 merge-nil (a ∷ s) = ap (λ (l : List (ℕ × ℕ)). a ∷ l) (merge-nil s)
@@ -58,6 +60,7 @@ take-merge_right (suc k) (suc m) le (a ∷ s) (b ∷ l) =
       | Greater ↦ ap (λ (x : List (ℕ × ℕ)). b ∷ x) (take-merge_right k m (omega (arith, le)) (a ∷ s) l)
     ]
 
+-- and of the first list
 take-merge_left : (k m : ℕ) → k ≤ m → (s l : List (ℕ × ℕ))
     → take k (merge s l) ≡ take k (merge (take m s) l)
 take-merge_left zero m le s l = refl
@@ -77,23 +80,28 @@ take-merge_left (suc k) (suc m) le (a ∷ s) (b ∷ l) =
 
 -- ---- one pair more at the front of the second list
 
+-- each of these is greater than a pair
 abbrev pub AreAbove : ℕ × ℕ → List (ℕ × ℕ) → Type 0
 AreAbove x ps = AllByRecursion (λ y. key_cmp x y ≡ Less) ps
 
+-- what is above a pair is above a lesser one
 pub are_above-trans : (a b : ℕ × ℕ) (l : List (ℕ × ℕ)) → key_cmp a b ≡ Less → AreAbove b l → AreAbove a l
 are_above-trans a b [] less all = tt
 are_above-trans a b (c ∷ l) less all =
     (key_cmp-total.trans a b c less all.0, are_above-trans a b l less all.1)
 
+-- the order of two pairs the other way round
 key_cmp-flip : (x y : ℕ × ℕ) (r : Ordering) → key_cmp x y ≡ r → key_cmp y x ≡ ordering_reverse r
 key_cmp-flip x y r is = key_cmp-total.antisymm y x ∙ ap ordering_reverse is
 
+-- a pair below all others comes first
 merge_into-above : (a : ℕ × ℕ) (f : List (ℕ × ℕ) → List (ℕ × ℕ)) (l : List (ℕ × ℕ)) → AreAbove a l
     → merge_into a f l ≡ a ∷ f l
 merge_into-above a f [] all = refl
 merge_into-above a f (b ∷ l) all =
     ap (λ (r : Ordering). merge_step r a b (f (b ∷ l)) (f l) (merge_into a f l)) all.0
 
+-- a pair is put into the first list, or is in front of the second
 merge-put_pair : (b : ℕ × ℕ) (s l : List (ℕ × ℕ)) → AreAbove b l
     → merge (put_pair b s) l ≡ merge s (b ∷ l)
 merge-put_pair b [] l all = merge_into-above b (λ (x : List (ℕ × ℕ)). x) l all
@@ -119,6 +127,7 @@ merge-put_pair b (a ∷ s) l all =
 
 -- ---- the lowest of ascending pairs after others
 
+-- they are merged with the lowest of the others
 pub lowest-append : (qs l : List (ℕ × ℕ)) → IsStrictlySortedBy key_cmp l
     → lowest (qs ++ l) ≡ take 20 (merge (lowest qs) l)
 unfolding IsStrictlySortedBy
@@ -133,15 +142,18 @@ lowest-append qs (b ∷ l) up =
 
 -- ---- all pairs in order
 
+-- a test that passes is true
 true-from_t : (b : Bool) → T b → b ≡ true
 true-from_t true is = refl
 true-from_t false is = absurd is
 
+-- what is tested to be less is less
 less-from_is_lt : (r : Ordering) → is_lt r ≡ true → r ≡ Less
 less-from_is_lt Less is = refl
 less-from_is_lt Equal is = absurd cc
 less-from_is_lt Greater is = absurd cc
 
+-- keys above a pair
 are_above-from_below_all : (x : ℕ × ℕ) (es : List ((ℕ × ℕ) × Unit {0})) → below_all key_cmp x es ≡ true
     → AreAbove x (map (λ e. e.0) es)
 are_above-from_below_all x [] is = tt
@@ -149,6 +161,7 @@ are_above-from_below_all x (e ∷ es) is =
     let both = and_parts (is_lt (key_cmp x e.0)) (below_all key_cmp x es) is in
     (less-from_is_lt (key_cmp x e.0) both.0, are_above-from_below_all x es both.1)
 
+-- the keys of a map ascend
 is_strictly_sorted_by-from_is_sorted : (es : List ((ℕ × ℕ) × Unit {0})) → fin.is_sorted key_cmp es ≡ true
     → IsStrictlySortedBy key_cmp (map (λ e. e.0) es)
 unfolding IsStrictlySortedBy
@@ -157,12 +170,14 @@ is_strictly_sorted_by-from_is_sorted (e ∷ es) is =
     let both = and_parts (below_all key_cmp e.0 es) (fin.is_sorted key_cmp es) is in
     (are_above-from_below_all e.0 es both.0, is_strictly_sorted_by-from_is_sorted es both.1)
 
+-- so pairs in order ascend
 pub is_strictly_sorted_by-in_order : (ps : List (ℕ × ℕ)) → IsStrictlySortedBy key_cmp (in_order ps)
 is_strictly_sorted_by-in_order ps =
     let m = fin.from_entries {R = key_cmp} (as_keys ps) in
     is_strictly_sorted_by-from_is_sorted (fin.entries m)
     (true-from_t (fin.is_sorted key_cmp (fin.entries m)) (fin.entries_sorted m))
 
+-- the same is found if the same is found behind
 find-append_same_back : (q : ℕ × ℕ) (xs ys zs : List (ℕ × ℕ))
     → fin.find key_cmp q (as_keys ys) ≡ fin.find key_cmp q (as_keys zs)
     → fin.find key_cmp q (as_keys (xs ++ ys)) ≡ fin.find key_cmp q (as_keys (xs ++ zs))
@@ -170,10 +185,12 @@ find-append_same_back q [] ys zs same = same
 find-append_same_back q (x ∷ xs) ys zs same =
     ap (cond (eq_by_cmp key_cmp q x) (Some (tt {0}))) (find-append_same_back q xs ys zs same)
 
+-- what is found in the first, or else in the second
 abbrev found_in_either : Option (Unit {0}) → Option (Unit {0}) → Option (Unit {0})
 found_in_either None other = other
 found_in_either (Some x) other = Some x
 
+-- in two lists it is found in either
 find-as_keys_append : (q : ℕ × ℕ) (xs ys : List (ℕ × ℕ)) → fin.find key_cmp q (as_keys (xs ++ ys))
     ≡ found_in_either (fin.find key_cmp q (as_keys xs)) (fin.find key_cmp q (as_keys ys))
 find-as_keys_append q [] ys = refl
@@ -186,6 +203,7 @@ find-as_keys_append q (x ∷ xs) ys =
       | false ↦ find-as_keys_append q xs ys
     ]
 
+-- the same is found if the same is found in front
 find-append_same_front : (q : ℕ × ℕ) (xs ys zs : List (ℕ × ℕ))
     → fin.find key_cmp q (as_keys xs) ≡ fin.find key_cmp q (as_keys ys)
     → fin.find key_cmp q (as_keys (xs ++ zs)) ≡ fin.find key_cmp q (as_keys (ys ++ zs))
@@ -203,6 +221,7 @@ in_order-same_keys xs ys same =
     fin.get-from_entries key_cmp-total (as_keys xs) q ∙ same q
     ∙ sym (fin.get-from_entries key_cmp-total (as_keys ys) q)))
 
+-- it doesn't matter whether the second part is in order
 pub in_order-append_in_order : (xs ys : List (ℕ × ℕ)) → in_order (xs ++ in_order ys) ≡ in_order (xs ++ ys)
 in_order-append_in_order xs ys =
     in_order-same_keys (xs ++ in_order ys) (xs ++ ys) (λ q. find-append_same_back q xs (in_order ys) ys
@@ -210,6 +229,7 @@ in_order-append_in_order xs ys =
 
 -- ---- the lowest of parts
 
+-- of the second part the lowest are enough
 lowest-append_lowest : (xs ys : List (ℕ × ℕ)) → lowest (xs ++ lowest ys) ≡ lowest (xs ++ ys)
 lowest-append_lowest xs ys =
     lowest-append xs (lowest ys) (is_strictly_sorted_by-lowest ys)
@@ -217,6 +237,7 @@ lowest-append_lowest xs ys =
     ∙ sym (lowest-append xs (in_order ys) (is_strictly_sorted_by-in_order ys))
     ∙ ap (take 20) (in_order-append_in_order xs ys)
 
+-- and of the first
 lowest-append_same_front : (xs ys zs : List (ℕ × ℕ)) → lowest xs ≡ lowest ys
     → lowest (xs ++ zs) ≡ lowest (ys ++ zs)
 lowest-append_same_front xs ys [] same = ap lowest (append-nil xs) ∙ same ∙ ap lowest (sym (append-nil ys))
@@ -227,6 +248,7 @@ lowest-append_same_front xs ys (z ∷ zs) same =
     ∙ sym (take_in_order-push ys z))
     ∙ ap lowest (append_assoc ys (z ∷ []) zs)
 
+-- so they are of each part
 lowest-of_parts : {A B : Type 0} (part : B → List (ℕ × ℕ)) (kept : A → List (ℕ × ℕ)) (summarize : B → A)
     → ((x : B) → kept (summarize x) ≡ lowest (part x)) → (qs : List (ℕ × ℕ)) (xs : List B)
     → lowest (qs ++ flat_map kept (map summarize xs)) ≡ lowest (qs ++ flat_map part xs)
@@ -241,6 +263,7 @@ lowest-of_parts part kept summarize is qs (x ∷ xs) =
 
 -- ---- all of parts
 
+-- it doesn't matter whether a part in the middle is in order
 in_order-append_in_order_append : (xs ys zs : List (ℕ × ℕ)) → in_order (xs ++ (in_order ys ++ zs))
     ≡ in_order (xs ++ (ys ++ zs))
 in_order-append_in_order_append xs ys zs =
@@ -248,6 +271,7 @@ in_order-append_in_order_append xs ys zs =
     find-append_same_back q xs (in_order ys ++ zs) (ys ++ zs) (find-append_same_front q (in_order ys) ys zs
     (find-in_order q ys)))
 
+-- so it doesn't of each part
 in_order-of_parts : {A B : Type 0} (part : B → List (ℕ × ℕ)) (kept : A → List (ℕ × ℕ)) (summarize : B → A)
     → ((x : B) → kept (summarize x) ≡ in_order (part x)) → (qs : List (ℕ × ℕ)) (xs : List B)
     → in_order (qs ++ flat_map kept (map summarize xs)) ≡ in_order (qs ++ flat_map part xs)

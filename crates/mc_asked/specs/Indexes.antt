@@ -19,7 +19,8 @@ use Rattle.mc_filter.specs.FilterBuilding.{has_exclude}
 abbrev pub IsIndexOfExcludes : List Record → List ℕ → Type 0
 IsIndexOfExcludes records index = (group : ℕ) → Contains index group ↔ IsTrue (has_exclude records group)
 
--- whether the merged filter of the want's group asks for it, where these are the groups of EXCLUDE records
+-- is_of_merged_filter, with an index in place of the search: where an EXCLUDE record is for the
+-- group, the merged filter is EXCLUDE (RFC 3376, section 3.2), so single sources aren't asked for.
 abbrev pub is_of_merged_filter_by : (excluded : List ℕ) → Want → Bool
 is_of_merged_filter_by excluded want =
     is_forwarded_group want.0 && not (not (want.1 == any_source) && has excluded want.0)
@@ -35,13 +36,14 @@ abbrev pub IsIndexOfWantedGroups : (flows : List (ℕ × ℕ)) → List Record �
 IsIndexOfWantedGroups flows records index =
     (group : ℕ) → Contains index group ↔ IsTrue (is_wanted_group flows records group)
 
--- The index has exactly these pairs, as numbers.
+-- The index has the number of each of these pairs of a source and a group, and no other pair's.
+-- It is said of pairs that pair_of gives back, as it does those of 32-bit numbers.
 abbrev pub IsIndexOfPairs : List (ℕ × ℕ) → List ℕ → Type 0
 IsIndexOfPairs pairs index = (pair : ℕ × ℕ) → pair_of (pair_number pair) ≡ pair →
     Contains index (pair_number pair)
     ↔ IsTrue (list_any (λ p. (p.0 == pair.0) && (p.1 == pair.1)) pairs)
 
--- The index has exactly the second parts of these pairs.
+-- The index has exactly the groups of these pairs of a source and a group.
 abbrev pub IsIndexOfGroups : List (ℕ × ℕ) → List ℕ → Type 0
 IsIndexOfGroups pairs index = (group : ℕ) →
     Contains index group ↔ IsTrue (list_any (λ p. p.1 == group) pairs)

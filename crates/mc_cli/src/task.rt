@@ -63,14 +63,19 @@ pub enum Task<'a> {
     Version,
 }
 
+/// The rule for the group of `wants`.
 const GROUP_RULE: &str = "<group> is an address from 224.0.1.0 to 239.255.255.255, as 239.1.2.3";
 
+/// The rule for the flow of `replay`.
 const FLOW_RULE: &str = "<flow> is a number from 1 to 4096";
 
+/// The rule for the TTL of `replay`.
 const TTL_RULE: &str = "<ttl> is a number from 1 to 255";
 
+/// The rule for the order of `replay`.
 const ORDER_RULE: &str = "--order is first or last";
 
+/// The rule for the source of `wants`.
 const SOURCE_RULE: &str =
     "<source> is an address whose first number is 1 to 223 and not 127, as 10.0.0.5";
 
@@ -200,6 +205,7 @@ fn named_task<'a>(
             word_of(words, "order"),
         ),
         "wants" => wants_task(alloc, word_of(words, "group"), word_of(words, "source")),
+        // Of any other name no command is given: clap finds only these.
         _ => Err(missing_command_refusal(alloc)),
     }
 }
@@ -266,6 +272,7 @@ fn audit_task<'a>(alloc: Global, words: &'a [&'a str]) -> Result<Task<'a>, Words
     Ok(Task::Audit(audit_words_of(alloc, words_from(words, 2), words)?))
 }
 
+/// The rule for the words after `help`.
 const HELP_RULE: &str =
     "help takes no word or a command's name: audit, check, make, pack, replay or wants";
 

@@ -36,6 +36,7 @@ record EndsLine (text : List ℕ) : Type 0 where
   feedless : HasNoByte 10 line
   is : text ≡ line ++ codes "\n"
 
+-- a line feed alone
 ends_line-feed : EndsLine (codes "\n")
 ends_line-feed = record { line = []; feedless = tt; is = refl }
 
@@ -66,6 +67,7 @@ are_asked_lines-line rest ends = record {
 
 -- ---- what is said of a want
 
+-- addresses
 no_feed-addresses_text : (addresses : List ℕ) → HasNoByte 10 (addresses_text addresses)
 no_feed-addresses_text addresses =
     no_feed-append _ (more_text (length addresses - 8))
@@ -73,12 +75,14 @@ no_feed-addresses_text addresses =
     (λ a. no_feed-append_front (codes " ") _ refl (no_feed-dotted a)))
     (no_feed-more_text (length addresses - 8))
 
+-- routers and words, or other words if there are none
 no_feed-routers_or : (t : TopologyValue) (routers words otherwise : List ℕ) → IsValidTopology t
     → HasNoByte 10 words → HasNoByte 10 otherwise → HasNoByte 10 (routers_or t routers words otherwise)
 no_feed-routers_or t [] words otherwise ok begin rest = rest
 no_feed-routers_or t (router ∷ routers) words otherwise ok begin rest =
     no_feed-append words _ begin (no_feed-routers_text t (router ∷ routers) ok)
 
+-- what routers have for the want
 no_feed-forwarding_text : (t : TopologyValue) (are_excluded : Bool) (states : List RouterState)
     → IsValidTopology t → HasNoByte 10 (forwarding_text t are_excluded states)
 no_feed-forwarding_text t are_excluded states ok =
@@ -93,17 +97,20 @@ no_feed-forwarding_text t are_excluded states ok =
     (no_feed-from_list_all (codes "no router with known tables forwards it") refl)
     (no_feed-from_list_all (codes "no router forwards it") refl))))
 
+-- the sources that are listed for its group
 no_feed-listed_text : (sources : List ℕ) → HasNoByte 10 (listed_text sources)
 no_feed-listed_text [] = tt
 no_feed-listed_text (source ∷ sources) =
     no_feed-append_front (codes "; listed for the group:") (addresses_text (source ∷ sources)) refl
     (no_feed-addresses_text (source ∷ sources))
 
+-- the words on a group of single sources
 no_feed-ssm_text : (want : Want) → HasNoByte 10 (ssm_text want)
 no_feed-ssm_text want =
     no_feed-cond (is_ignored_by_routers want) (codes "; SSM: routers ignore it") []
     (no_feed-from_list_all (codes "; SSM: routers ignore it") refl) tt
 
+-- the line of a want, with these words at its end
 are_asked_lines-asked_line_text : (t : TopologyValue) (line : Want × List ℕ) (what : List ℕ)
     → IsValidTopology t → HasNoByte 10 what → AreLines IsAskedLine (asked_line_text t line what)
 are_asked_lines-asked_line_text t line what ok none =
@@ -157,9 +164,11 @@ no_feed-found_name group (s ∷ names) none =
       | false ↦ no_feed-found_name group names parts.1
     ]
 
+-- so it is for a service of the table
 no_feed-service_name : (group : ℕ) → HasNoByte 10 (unwrap_or (service_name group) [])
 no_feed-service_name group = no_feed-found_name group services refl
 
+-- several services
 no_feed-some_services : (lines : List (Want × List ℕ)) → HasNoByte 10 (some_services_text lines)
 no_feed-some_services lines =
     no_feed-append _ (more_text (length lines - 8))

@@ -27,11 +27,13 @@ append-push_then_rest hops h rest = append_assoc hops (h ∷ []) rest
 
 -- ---- to the source's LAN
 
+-- one hop more in front
 hops_back-more : (n : Net) (cs : List Copy) (k onto : ℕ) (x : Option Interface) (h : Hop) →
     hop_sent n x onto ≡ Some h →
     hops_back n cs (suc k) onto x ≡ h ∷ hops_back n cs k h.from (sender_on cs h.from)
 hops_back-more n cs k onto x h e = ap (hop_then (λ h. hops_back n cs k h.from (sender_on cs h.from))) e
 
+-- one hop more, as the loop follows it
 pub hops_back-more_pushed : (n : Net) (first_copies : List (Option Copy)) (cs : List Copy) (i onto : ℕ)
     (x next : Option Interface) (c : Copy) (h : Hop) (hops now all : List Hop) →
     HoldsFirstOfEachKey (λ (c : Copy). c.lan) first_copies cs → i < length cs → hop_sent n x onto ≡ Some h →
@@ -51,6 +53,7 @@ hops_back-more_pushed n first_copies cs i onto x next c h hops now all are lt e 
 
 -- ---- to LAN l
 
+-- one hop more in front, which comes from LAN l or not
 hops_until-more : (n : Net) (cs : List Copy) (l k onto : ℕ) (x : Option Interface) (h : Hop)
     (test : Bool) → hop_sent n x onto ≡ Some h → (h.from == l) ≡ test →
     hops_until n cs l (suc k) onto x
@@ -59,6 +62,7 @@ hops_until-more n cs l k onto x h test e q =
     ap (hop_then (λ h. cond (h.from == l) [] (hops_until n cs l k h.from (sender_on cs h.from)))) e ∙
     ap (λ (b : Bool). h ∷ cond b [] (hops_until n cs l k h.from (sender_on cs h.from))) q
 
+-- one hop more at the end of those so far
 hops_until-push : (n : Net) (cs : List Copy) (l i onto : ℕ) (x : Option Interface) (c : Copy) (h : Hop)
     (hops now all : List Hop) (test : Bool) → i < length cs → hop_sent n x onto ≡ Some h →
     (h.from == l) ≡ test → now ≡ hops ++ h ∷ [] →
@@ -74,6 +78,7 @@ hops_until-push n cs l i onto x c h hops now all test lt e q push so_far =
     ap (λ (hs : List Hop). hs ++ rest) push ∙
     (append-push_then_rest hops h rest ∙ (ap (λ (hs : List Hop). hops ++ hs) (sym step) ∙ so_far))
 
+-- one hop more, as the loop follows it
 pub hops_until-more_pushed : (n : Net) (first_copies : List (Option Copy)) (cs : List Copy) (l i onto : ℕ)
     (x next : Option Interface) (c : Copy) (h : Hop) (hops now all : List Hop) →
     HoldsFirstOfEachKey (λ (c : Copy). c.lan) first_copies cs → i < length cs → hop_sent n x onto ≡ Some h →

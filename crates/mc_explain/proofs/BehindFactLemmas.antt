@@ -52,6 +52,7 @@ sender_on-first : (cs : List Copy) (l : ℕ) (a : Copy) → first_copy_on cs l �
     → sender_on cs l ≡ a.sender
 sender_on-first cs l a on = sym (sender-copy_on cs l) ∙ ap (option_and_then (λ (c : Copy). c.sender)) on
 
+-- a duplicate has senders, which its causes name
 has_senders-of_duplicate : (n : Net) (g : Flight) (lan : ℕ) (causes : List Cause)
     → FirstDoubleWalk n g lan → causes ≡ second_causes n g.carried (first_double [] g.carried)
     → second_copy_finding n g.carried ≡ Some (Duplicate lan) → HasSenders g.carried lan causes
@@ -73,6 +74,7 @@ has_senders-of_duplicate n g lan causes d are found =
     } in
     subst (λ (l : ℕ). HasSenders cs l causes) d.lan here
 
+-- a loop has a circle, which its causes name
 has_circle-of_loop : (d : DomainValue) (flow : ℕ) (g : Flight) (lan : ℕ) (causes : List Cause) → IsDomain d
     → EndsPastStrays (net_of d flow) (start (net_of d flow) 255) g → FirstDoubleWalk (net_of d flow) g lan
     → causes ≡ second_causes (net_of d flow) g.carried (first_double [] g.carried)
@@ -106,6 +108,7 @@ shown_from-is_need greatest n cs o c k is double =
     by true e = absurd cc
     by false e = cc
 
+-- what a second copy shows is of the first double copy
 double-of_finding : (n : Net) (cs : List Copy) (x : Finding) → second_copy_finding n cs ≡ Some x
     → (c : Copy) × (first_double [] cs ≡ Some c) × (finding_of_double n cs c ≡ x)
 double-of_finding n cs x e = by (first_double [] cs) refl e
@@ -115,6 +118,7 @@ double-of_finding n cs x e = by (first_double [] cs) refl e
     by None q e = absurd cc
     by (Some c) q e = (c, q, cc)
 
+-- each complete run with such a TTL has the fault
 second_is_shown : (d : DomainValue) (flow : ℕ) (greatest : Bool) (g : Flight) (x : Finding) (k t : ℕ)
     → IsDomain d → EndsPastStrays (net_of d flow) (start (net_of d flow) 255) g
     → second_copy_finding (net_of d flow) g.carried ≡ Some x
@@ -132,6 +136,7 @@ second_is_shown d flow greatest g x k t ok past found is le =
 
 -- ---- strays, and LANs that are missed
 
+-- what was picked passes the test
 in_filter-passes : {A : Type 0} (p : A → Bool) (x : A) (xs : List A) → In x (filter p xs) → p x ≡ true
 in_filter-passes p x [] h = absurd h
 in_filter-passes p x (y ∷ ys) h = by (p y) refl (in_filter-passes p x ys) h
@@ -142,17 +147,20 @@ in_filter-passes p x (y ∷ ys) h = by (p y) refl (in_filter-passes p x ys) h
     by true q rest (inr k) = rest k
     by false q rest k = rest k
 
+-- the strays that are said are strays of the run
 strays-of_run : (n : Net) (own : Interface) (o : Option Copy) (strays : List Interface) (i : Interface)
     → In i (unless_second o (filter (is_other_leak n own) strays)) → In i strays
 strays-of_run n own None strays i h = in_filter-in_list (is_other_leak n own) i strays h
 strays-of_run n own (Some c) strays i h = absurd h
 
+-- the LANs that are said are missed
 in_missed-unless_open : (whole : Bool) (rs lans : List ℕ) (l : ℕ) → In l (missed_unless_open whole rs lans)
     → In l lans
 in_missed-unless_open true [] lans l h = h
 in_missed-unless_open true (r ∷ rs) lans l h = absurd h
 in_missed-unless_open false rs lans l h = absurd h
 
+-- a missed LAN wants the flow, and carries no copy
 missed-carries_none : (n : Net) (cs : List Copy) (l : ℕ) → is_missed n cs l ≡ true
     → (n.wants l ≡ true) × (In l (lans cs) → ⊥)
 missed-carries_none n cs l is =
@@ -165,6 +173,7 @@ missed-carries_none n cs l is =
     by None none some = absurd cc
     by (Some c) none some = absurd cc
 
+-- so it is in a run that is complete
 missed-in_run : (t : TopologyValue) (n : Net) (whole : Bool) (f g : Flight) (o : Option Copy) (l : ℕ)
     → first_double [] g.carried ≡ o → EndsPastStrays n f g
     → In l (unless_second o (missed_unless_open whole (open_routers n g.strays) (missed_lans t n g.carried)))
@@ -178,6 +187,7 @@ missed-in_run t n whole f g None l double past h =
 
 -- ---- all of it
 
+-- all that is said is true
 pub is_true-behind : (whole : Bool) (d : DomainValue) (flow : ℕ) (own : Interface) (b : Behind) → IsDomain d
     → IsBehind whole d flow own b → IsTrueBehind d flow b
 is_true-behind whole d flow own b ok h =

@@ -17,12 +17,14 @@ use Rattle.mc_explain.proofs.LineFeedLemmas.{no_feed-append, no_feed-append_fron
 use Rattle.mc_explain.proofs.LineFeedLemmas.{no_feed-flat_map, no_feed-router_name}
 use Rattle.mc_explain.proofs.NameListLemmas.{no_feed-lans_text, no_feed-more_text, no_feed-routers_text}
 
+-- a vif by which copies leave
 no_feed-leak_text : (d : DomainFacts) (i : Interface) → IsValidTopology d.topology
     → HasNoByte 10 (leak_text d i)
 no_feed-leak_text d i ok =
     no_feed-append (router_name d.topology i.0) _ (no_feed-router_name d.topology i.0 ok)
     (no_feed-append_front (codes " ") (device_text d i.0 i.1) refl (no_feed-device_text d i.0 i.1))
 
+-- several such vifs
 no_feed-leaks_text : (d : DomainFacts) (is : List Interface) → IsValidTopology d.topology
     → HasNoByte 10 (leaks_text d is)
 no_feed-leaks_text d [] ok = tt
@@ -34,6 +36,7 @@ no_feed-leaks_text d (i ∷ is) ok =
     (λ j. no_feed-append_front (codes ", ") _ refl (no_feed-leak_text d j ok)))
     (no_feed-more_text (length is - 7))))
 
+-- the line on other such vifs
 are_indented-also_leaves_text : (d : DomainFacts) (is : List Interface) → IsValidTopology d.topology
     → AreIndented (also_leaves_text d is)
 are_indented-also_leaves_text d [] ok = are_indented-none
@@ -42,6 +45,7 @@ are_indented-also_leaves_text d (i ∷ is) ok =
     (is_line_rest-append_front (codes "behind it: also leaves by") _ refl
     (is_line_rest-append (leaks_text d (i ∷ is)) _ (no_feed-leaks_text d (i ∷ is) ok) is_line_rest-feed))
 
+-- the line on routers past which nothing is known
 are_indented-not_known_past_text : (t : TopologyValue) (routers : List ℕ) → IsValidTopology t
     → AreIndented (not_known_past_text t routers)
 are_indented-not_known_past_text t [] ok = are_indented-none
@@ -50,6 +54,7 @@ are_indented-not_known_past_text t (r ∷ rs) ok =
     (is_line_rest-append_front (codes "behind it: not known past") _ refl
     (is_line_rest-append (routers_text t (r ∷ rs)) _ (no_feed-routers_text t (r ∷ rs) ok) is_line_rest-feed))
 
+-- the line on LANs that are missed
 are_indented-missed_behind_text : (t : TopologyValue) (lans : List ℕ) → IsValidTopology t
     → AreIndented (missed_behind_text t lans)
 are_indented-missed_behind_text t [] ok = are_indented-none
@@ -59,6 +64,7 @@ are_indented-missed_behind_text t (lan ∷ lans) ok =
     (is_line_rest-append (lans_text t (lan ∷ lans)) _ (no_feed-lans_text t (lan ∷ lans) ok)
     is_line_rest-feed))
 
+-- all of these lines
 pub are_indented-leaks_behind_text : (d : DomainFacts) (strays : List Interface)
     (open_routers missed : List ℕ)
     → IsValidTopology d.topology → AreIndented (leaks_behind_text d strays open_routers missed)

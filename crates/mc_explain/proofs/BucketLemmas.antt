@@ -66,6 +66,7 @@ are_buckets-more {A} f number lists ks k q own next at within read more holds b 
 
 -- ---- the first number that passes a test
 
+-- the next number fails too
 pub find_below-none_more : (p : ℕ → Bool) (k : ℕ) → find p (below k) ≡ None → p k ≡ false
     → find p (below (k + 1)) ≡ None
 find_below-none_more p k none fails =
@@ -73,6 +74,7 @@ find_below-none_more p k none fails =
     ∙ ap (λ (o : Option ℕ). option_or o (find p (k ∷ []))) none
     ∙ ap (λ (b : Bool). cond b (Some k) None) fails
 
+-- the next number is the first to pass
 find_below-found_next : (p : ℕ → Bool) (k : ℕ) → find p (below k) ≡ None → p k ≡ true
     → find p (below (k + 1)) ≡ Some k
 find_below-found_next p k none passes =
@@ -80,11 +82,13 @@ find_below-found_next p k none passes =
     ∙ ap (λ (o : Option ℕ). option_or o (find p (k ∷ []))) none
     ∙ ap (λ (b : Bool). cond b (Some k) None) passes
 
+-- one number more changes nothing
 find_below-more : (p : ℕ → Bool) (k n : ℕ) → find p (below n) ≡ Some k → find p (below (n + 1)) ≡ Some k
 find_below-more p k n found =
     ap (find p) (below-more n) ∙ find-append p (below n) (n ∷ [])
     ∙ ap (λ (o : Option ℕ). option_or o (find p (n ∷ []))) found
 
+-- nor do several
 find_below-add : (p : ℕ → Bool) (k m : ℕ) → find p (below (k + 1)) ≡ Some k
     → find p (below ((k + 1) + m)) ≡ Some k
 find_below-add p k zero found =
@@ -105,10 +109,12 @@ find_below-first p k n none passes lt =
 
 -- ---- lists of lists
 
+-- the images under the identity
 pub map-identity : (ks : List ℕ) → map (λ k. k) ks ≡ ks
 map-identity [] = refl
 map-identity (k ∷ ks) = ap (λ (xs : List ℕ). k ∷ xs) (map-identity ks)
 
+-- lists by one number more
 pub flat_map-below_push : {A : Type 0} (f : ℕ → List A) (k : ℕ)
     → flat_map f (below (k + 1)) ≡ flat_map f (below k) ++ f k
 flat_map-below_push {A} f k =

@@ -65,6 +65,7 @@ pub record IsLeastTtl (n : Net) (lan least : ℕ) : Type 0 where
   pub above : n.ttl < least
   pub high : least ≤ 255
 
+-- what a cause says is true of the net, beside these causes
 abbrev pub CauseHolds : Net → List Cause → Cause → Type 0
 CauseHolds n causes (SentOnto lan router vif) = SendsOnto n router vif lan
 CauseHolds n causes (Circle from onto router vif) =
@@ -75,14 +76,17 @@ CauseHolds n causes (OnlyEverySource router vif) = ReachesEverySourceRow n route
 CauseHolds n causes (LeastTtl lan least) = IsLeastTtl n lan least
 CauseHolds n causes (StoppedAt router vif threshold left) = StopsShortOfLan n causes router vif threshold left
 
+-- each of these lines is true, beside these causes
 abbrev pub CausesHold : Net → List Cause → List Cause → Type 0
 CausesHold n causes lines = (t : Cause) → In t lines → CauseHolds n causes t
 
+-- lines of two lists
 causes_hold-append : (n : Net) (causes xs ys : List Cause) → CausesHold n causes xs → CausesHold n causes ys →
     CausesHold n causes (xs ++ ys)
 causes_hold-append n causes xs ys all more t h = elim (in-append_cases t xs ys h)
     [ inl k ↦ all t k | inr k ↦ more t k ]
 
+-- one line
 causes_hold-one : (n : Net) (causes : List Cause) (t : Cause) → CauseHolds n causes t
     → CausesHold n causes (t ∷ [])
 causes_hold-one n causes t is u (inl e) = subst (CauseHolds n causes) e is
@@ -106,6 +110,7 @@ sends_onto-from_sender f ttl x j c i e c_in q =
       placed = s.onto;
     }
 
+-- the lines on the sender of a copy
 causes_hold-senders : (n : Net) (causes : List Cause) (lan : ℕ) (x : Option Interface) →
     ((i : Interface) → x ≡ Some i → SendsOnto n i.0 i.1 lan) → CausesHold n causes (sender_causes lan x)
 causes_hold-senders n causes lan None sends = λ t h. absurd h
@@ -137,6 +142,7 @@ is_harmless_remedy-from_spare f x j second i hs ok e s' =
           (k.0, k.1, (k.2 r.2).0));
     }
 
+-- the line on a remedy is true
 cause_holds-remedy : (f : FlowOfDomain) (x : Finding) (j : FlightInDomain) (causes : List Cause) (lan : ℕ)
     (second : Copy)
     (remedy : Cause) → IsFlowOfDomain f → EndsTravel f 255 x j →
@@ -147,6 +153,7 @@ cause_holds-remedy f x j causes lan second remedy ok e out =
     (subst (λ (l : ℕ). IsHarmlessRemedy n out.sender.0 out.sender.1 l (need out.path)) out.on
     (is_harmless_remedy-from_spare f x j second out.sender out.path ok e out.spare))
 
+-- the causes of a duplicate are true
 causes_hold-duplicate : (f : FlowOfDomain) (lan : ℕ) (j : FlightInDomain) (causes : List Cause)
     → IsFlowOfDomain f →
     EndsTravel f 255 (Duplicate lan) j → ExplainsDuplicate (net_in f) j.flight lan causes →
@@ -172,11 +179,13 @@ causes_hold-duplicate f lan j causes ok e d =
 
 -- ---- a circle
 
+-- a hop of a path is a hop of the net
 is_hop-from_path : (n : Net) (a b : ℕ) (hs : List Hop) (h : Hop) → IsPath n a hs b → In h hs → IsHop n h
 is_hop-from_path n a b [] h path k = absurd k
 is_hop-from_path n a b (g ∷ hs) h path (inl e) = subst (IsHop n) e path.1
 is_hop-from_path n a b (g ∷ hs) h path (inr k) = is_hop-from_path n a g.from hs h path.2 k
 
+-- a line of a reversed list is in the list
 in-from_reverse : (t : Cause) (ts : List Cause) → In t (reverse ts) → In t ts
 in-from_reverse t [] h = h
 in-from_reverse t (u ∷ ts) h =
@@ -187,11 +196,13 @@ in-from_reverse t (u ∷ ts) h =
       | inr (inr k) ↦ absurd k
     ]
 
+-- the hops of the circle are a path from its LAN to itself
 is_path-of_circle : (n : Net) (g : Flight) (lan : ℕ) (causes : List Cause) →
     (l : ExplainsLoop n g lan causes) → IsPath n lan l.circle lan
 is_path-of_circle n g lan causes l = subst (IsPath n lan l.circle) l.take_out.on
     (is_path-from_came_from_lan n g.carried lan l.second l.circle l.came_by_hops)
 
+-- the causes of a loop are true
 causes_hold-loop : (f : FlowOfDomain) (lan : ℕ) (j : FlightInDomain) (causes : List Cause)
     → IsFlowOfDomain f →
     EndsTravel f 255 (Loop lan) j → ExplainsLoop (net_in f) j.flight lan causes →
@@ -209,6 +220,7 @@ causes_hold-loop f lan j causes ok e l =
 
 -- ---- a stray
 
+-- the line on the row by which copies leave
 causes_hold-stray_row : (n : Net) (causes : List Cause) (row : Row) (router vif : ℕ) → n.row router ≡ row →
     IsStrayAt n (router, vif) → CausesHold n causes (stray_causes row router vif)
 causes_hold-stray_row n causes (Exact incoming pairs) router vif e left =
@@ -219,6 +231,7 @@ causes_hold-stray_row n causes Open router vif e left =
     (router, vif) e left)
 causes_hold-stray_row n causes NoRow router vif e left = λ t h. absurd h
 
+-- the causes of a stray are true
 causes_hold-stray : (f : FlowOfDomain) (router vif : ℕ) (j : FlightInDomain) (causes : List Cause)
     → IsFlowOfDomain f →
     EndsTravel f 255 (Stray router vif) j →
@@ -232,6 +245,7 @@ causes_hold-stray f router vif j causes ok e is =
 
 -- ---- a least TTL
 
+-- the causes of a LAN that is missed at the flow's TTL alone are true
 causes_hold-least_ttl : (f : FlowOfDomain) (lan : ℕ) (j : FlightInDomain) (causes : List Cause)
     → IsFlowOfDomain f →
     EndsTravel f 255 Clean j → ExplainsLeastTtl (net_in f) j.flight lan causes →
@@ -279,6 +293,7 @@ causes_hold-least_ttl f lan j causes ok e l =
 
 -- ---- if a packet with TTL 255 has no finding
 
+-- copies on distinct LANs have no double one
 not_double-if_distinct : (cs : List Copy) (c : Copy) → Distinct (lans cs) → IsFirstDouble cs c → ⊥
 not_double-if_distinct cs c once d =
     let lan : Copy → ℕ = λ x. x.lan in
@@ -297,6 +312,7 @@ is_clean-last_flight f ttl x j k ok high e =
     tree e.low
     e.high (in_range-travel n count [] false e.picks (start n ttl) x e.travel)).clean
 
+-- so a packet with the flow's TTL shows no duplicate,
 not_duplicate-if_clean_at_255 : (f : FlowOfDomain) (lan : ℕ) (j k : FlightInDomain) → IsFlowOfDomain f
     → EndsTravel f 255 Clean j →
     EndsTravel f (net_in f).ttl (Duplicate lan) k → ⊥
@@ -305,6 +321,7 @@ not_duplicate-if_clean_at_255 f lan j k ok high e =
     not_double-if_distinct (last_flight f (net_in f).ttl (Duplicate lan) k e).carried d.copy
     (is_clean-last_flight f (net_in f).ttl (Duplicate lan) j k ok high e).once d.first
 
+-- no loop,
 not_loop-if_clean_at_255 : (f : FlowOfDomain) (lan : ℕ) (j k : FlightInDomain) → IsFlowOfDomain f
     → EndsTravel f 255 Clean j →
     EndsTravel f (net_in f).ttl (Loop lan) k → ⊥
@@ -313,6 +330,7 @@ not_loop-if_clean_at_255 f lan j k ok high e =
     not_double-if_distinct (last_flight f (net_in f).ttl (Loop lan) k e).carried d.copy
     (is_clean-last_flight f (net_in f).ttl (Loop lan) j k ok high e).once d.first
 
+-- and no stray
 not_stray-if_clean_at_255 : (f : FlowOfDomain) (router vif : ℕ) (j k : FlightInDomain) → IsFlowOfDomain f →
     EndsTravel f 255 Clean j → EndsTravel f (net_in f).ttl (Stray router vif) k → ⊥
 not_stray-if_clean_at_255 f router vif j k ok high e =
@@ -321,6 +339,7 @@ not_stray-if_clean_at_255 f router vif j k ok high e =
     let both : [] ≡ (router, vif) ∷ others.0 = sym none ∙ others.1 in
     cc
 
+-- so the causes of what it shows are true
 causes_hold-at_flow_ttl : (f : FlowOfDomain) (x : Finding) (j k : FlightInDomain) (causes : List Cause)
     → IsFlowOfDomain f →
     EndsTravel f 255 Clean j → EndsTravel f (net_in f).ttl x k →
@@ -337,6 +356,7 @@ causes_hold-at_flow_ttl f (Stray router vif) j k causes ok high e is =
 
 -- ---- all causes
 
+-- the causes of a finding at TTL 255
 causes_hold-finding : (f : FlowOfDomain) (x : Finding) (j : FlightInDomain) (causes : List Cause)
     → IsFlowOfDomain f →
     EndsTravel f 255 x j → ExplainsFinding (net_in f) j.flight x causes →
@@ -347,6 +367,7 @@ causes_hold-finding f (Duplicate lan) j causes ok e is = causes_hold-duplicate f
 causes_hold-finding f (Loop lan) j causes ok e is = causes_hold-loop f lan j causes ok e is
 causes_hold-finding f (Stray router vif) j causes ok e is = causes_hold-stray f router vif j causes ok e is
 
+-- the causes of what was found, at either TTL
 causes_hold-examined : (d : DomainValue) (flow : ℕ) (examined_flights : ExaminedFlights)
     (causes : List Cause) →
     IsFlowOfDomain (record { domain = d; flow = flow }) → HasExaminedFlights d flow examined_flights →
@@ -364,6 +385,7 @@ causes_hold-examined d flow (FoundAtFlowTtl greatest least) causes ok examined_f
     (ends_travel-from_finished d flow f 255 greatest refl examined_flights.0 (omega arith) (omega arith)))
     (ends_travel-at_flow_ttl d flow f least ok refl examined_flights.2) is
 
+-- each cause of a flow is true
 pub causes_hold-all : (d : DomainValue) (flow : ℕ) (examined_flights : ExaminedFlights)
     (causes : List Cause) →
     AreCausesOf d flow examined_flights causes → CausesHold (net_of d flow) causes causes
@@ -372,6 +394,7 @@ causes_hold-all d flow examined_flights causes is = causes_hold-examined d flow 
 
 -- ---- the whole circle
 
+-- the lines of a loop are those of a circle that closes
 is_closed_circle-from_loop : (n : Net) (g : Flight) (lan : ℕ) (causes : List Cause) (circle : List Hop) →
     (l : ExplainsLoop n g lan causes) → l.circle ≡ circle → IsClosedCircle n lan causes
 is_closed_circle-from_loop n g lan causes [] l e =
@@ -384,6 +407,7 @@ is_closed_circle-from_loop n g lan causes (h ∷ hs) l e = record {
   closed = subst (λ (ks : List Hop). IsPath n lan ks lan) e (is_path-of_circle n g lan causes l);
 }
 
+-- so are those that are printed
 pub is_closed_circle-from_explained : (d : DomainValue) (flow : ℕ) (examined_flights : ExaminedFlights)
     (causes : List Cause) (lan : ℕ) →
     IsExplained d flow examined_flights causes → final_finding examined_flights ≡ Loop lan
@@ -401,6 +425,7 @@ is_closed_circle-from_explained d flow (FoundAtFlowTtl greatest least) causes la
 
 -- ---- what the flow's TTL can show
 
+-- if TTL 255 shows nothing, the flow's TTL shows nothing or a missed LAN
 is_missed_or_clean-if_clean_at_255 : (f : FlowOfDomain) (x : Finding) (j k : FlightInDomain)
     → IsFlowOfDomain f →
     EndsTravel f 255 Clean j → EndsTravel f (net_in f).ttl x k → IsMissedOrClean x
@@ -413,6 +438,7 @@ is_missed_or_clean-if_clean_at_255 f (Loop lan) j k ok high e =
 is_missed_or_clean-if_clean_at_255 f (Stray router vif) j k ok high e =
     absurd (not_stray-if_clean_at_255 f router vif j k ok high e)
 
+-- so it is for the finding that is known of a flow
 pub is_missed_or_clean-at_flow_ttl : (d : DomainValue) (flow : ℕ) (greatest least : FinishedTravel)
     → IsDomain d →
     flow < length d.topology.flows → HasExaminedFlights d flow (FoundAtFlowTtl greatest least) →

@@ -16,6 +16,7 @@ use Rattle.mc_explain.proofs.NameListLemmas.{no_feed-routers_text}
 
 -- ---- how they begin
 
+-- the line of one
 are_excluded_lines-line : (t : TopologyValue) (router : ℕ) → IsValidTopology t
     → AreExcludedLines (excluded_line t router)
 are_excluded_lines-line t router ok = record {
@@ -33,12 +34,14 @@ are_excluded_lines-line t router ok = record {
   spelled = sym (append-nil (excluded_line t router));
 }
 
+-- the lines of all
 pub are_excluded_lines-excluded_lines : (t : TopologyValue) (marks : List Bool) → IsValidTopology t
     → AreExcludedLines (excluded_lines t marks)
 are_excluded_lines-excluded_lines t marks ok =
     are_lines-flat_map IsExcludedLine (excluded_line t) (excluded_routers t marks)
     (λ router. are_excluded_lines-line t router ok)
 
+-- the line on why the verdict isn't yes
 are_indented-verdict_reason : (t : TopologyValue) (routers : List ℕ) → IsValidTopology t
     → AreIndented (verdict_reason t routers)
 are_indented-verdict_reason t [] ok = are_indented-none
@@ -49,6 +52,7 @@ are_indented-verdict_reason t (r ∷ rs) ok =
     (is_line_rest-append_front (codes ": the verdict is no; a yes requires all routers") _
     refl is_line_rest-feed)))
 
+-- so it is for marked routers
 pub are_indented-excluded_text : (t : TopologyValue) (marks : List Bool) → IsValidTopology t
     → AreIndented (excluded_text t marks)
 are_indented-excluded_text t marks ok = are_indented-verdict_reason t (excluded_routers t marks) ok

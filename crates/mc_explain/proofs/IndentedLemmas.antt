@@ -11,9 +11,11 @@ use Rattle.mc_explain.proofs.LineFeedLemmas.{no_feed-from_list_all, no_feed-appe
 
 -- ---- sequences of lines
 
+-- no lines
 pub are_indented-none : AreIndented []
 are_indented-none = record { lines = []; feedless = λ line h. absurd h; spelled = refl }
 
+-- lines after lines
 pub are_indented-append : (xs ys : List ℕ) → AreIndented xs → AreIndented ys → AreIndented (xs ++ ys)
 are_indented-append xs ys p q = record {
   lines = p.lines ++ q.lines;
@@ -25,6 +27,7 @@ are_indented-append xs ys p q = record {
       ∙ sym (flat_map-append indented p.lines q.lines);
 }
 
+-- lines of each item
 pub are_indented-flat_map : {A : Type 0} (f : A → List ℕ) (xs : List A) → ((x : A) → AreIndented (f x))
     → AreIndented (flat_map f xs)
 are_indented-flat_map f [] each = are_indented-none
@@ -41,6 +44,7 @@ pub record IsLineRest (text : List ℕ) : Type 0 where
   pub lines : AreIndented after
   pub is : text ≡ line ++ (10 ∷ after)
 
+-- the line feed, and lines after it
 pub is_line_rest-feed_then_lines : (after : List ℕ) → AreIndented after → IsLineRest (10 ∷ after)
 is_line_rest-feed_then_lines after lines = record {
   line = [];
@@ -50,9 +54,11 @@ is_line_rest-feed_then_lines after lines = record {
   is = refl;
 }
 
+-- the line feed alone
 pub is_line_rest-feed : IsLineRest (codes "\n")
 is_line_rest-feed = is_line_rest-feed_then_lines [] are_indented-none
 
+-- a piece of the line in front of its rest
 pub is_line_rest-append : (xs ys : List ℕ) → HasNoByte 10 xs → IsLineRest ys → IsLineRest (xs ++ ys)
 is_line_rest-append xs ys none g = record {
   line = xs ++ g.line;
@@ -68,10 +74,12 @@ pub is_line_rest-append_front : (front ys : List ℕ) → list_all (λ b. not (b
     → IsLineRest (front ++ ys)
 is_line_rest-append_front front ys none g = is_line_rest-append front ys (no_feed-from_list_all front none) g
 
+-- a text without the byte has no line feed
 pub has_no_line_feed-from_no_byte : (xs : List ℕ) → HasNoByte 10 xs → HasNoLineFeed xs
 has_no_line_feed-from_no_byte [] none = refl
 has_no_line_feed-from_no_byte (x ∷ xs) none = rw (none.0, has_no_line_feed-from_no_byte xs none.1) refl
 
+-- the rest of a line, after two spaces
 pub are_indented-from_line_rest : (ys : List ℕ) → IsLineRest ys → AreIndented (codes "  " ++ ys)
 are_indented-from_line_rest ys g = record {
   lines = g.line ∷ g.lines.lines;

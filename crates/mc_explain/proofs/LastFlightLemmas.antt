@@ -34,6 +34,7 @@ use Rattle.mc_explain.specs.LastFlights.{HasLoop, EndsTravel, HasSecondCopy, Has
 
 -- ---- the first duplicate is found
 
+-- a copy on a LAN without an earlier one is passed over
 first_double-skip : (earlier : List Copy) (d : Copy) (cs : List Copy) (c : Copy) (test : Bool) →
     is_some (first_copy_on earlier d.lan) ≡ test → (In d.lan (lans earlier) → ⊥) →
     first_double (earlier ++ d ∷ []) cs ≡ Some c →
@@ -41,6 +42,7 @@ first_double-skip : (earlier : List Copy) (d : Copy) (cs : List Copy) (c : Copy)
 first_double-skip earlier d cs c true q other e = absurd (other (in_lans-from_first_copy_on earlier d.lan q))
 first_double-skip earlier d cs c false q other e = e
 
+-- a copy on a LAN with an earlier one is found
 first_double-here : (earlier : List Copy) (c : Copy) (cs : List Copy) (test : Bool) →
     is_some (first_copy_on earlier c.lan) ≡ test → In c.lan (lans earlier) →
     cond test (Some c) (first_double (earlier ++ c ∷ []) cs) ≡ Some c
@@ -48,6 +50,7 @@ first_double-here earlier c cs true q again = refl
 first_double-here earlier c cs false q again = absurd (let y = first_copy_on-from_in_lans earlier c.lan
     again in cc)
 
+-- so the first one after distinct ones is found
 first_double-after_distinct : (earlier before : List Copy) (c : Copy) (later : List Copy) →
     Distinct (lans (earlier ++ before)) → In c.lan (lans (earlier ++ before)) →
     first_double earlier (before ++ c ∷ later) ≡ Some c
@@ -65,6 +68,7 @@ first_double-after_distinct earlier (d ∷ before) c later once again =
     (subst (λ xs. Distinct (lans xs)) (sym same) once)
     (subst (λ xs. In c.lan (lans xs)) (sym same) again))
 
+-- the first double copy is the one that is found
 pub first_double-from_is_first_double : (cs : List Copy) (c : Copy) → IsFirstDouble cs c → first_double [] cs
     ≡ Some c
 first_double-from_is_first_double cs c d = ap (first_double []) d.split ∙ first_double-after_distinct []
@@ -72,6 +76,7 @@ first_double-from_is_first_double cs c d = ap (first_double []) d.split ∙ firs
 
 -- ---- the last flight
 
+-- the net of a flow of a domain has the laws of nets
 pub is_net-from_is_flow_in : (f : FlowOfDomain) → IsFlowOfDomain f → IsNet (net_in f)
 is_net-from_is_flow_in f ok = is_net-net_of f.domain f.flow ok.domain
 
@@ -80,6 +85,7 @@ abbrev pub last_flight : (f : FlowOfDomain) (ttl : ℕ) (x : Finding) (j : Fligh
     → EndsTravel f ttl x j → Flight
 last_flight f ttl x j e = run (net_in f) (handles e.picks) (start (net_in f) ttl)
 
+-- it shows the travel's finding
 pub shows-last_flight : (f : FlowOfDomain) (ttl : ℕ) (x : Finding) (j : FlightInDomain) → IsFlowOfDomain f →
     (e : EndsTravel f ttl x j) → Shows (net_in f) (last_flight f ttl x j e) x
 shows-last_flight f ttl x j ok e = shows-travel_finding (net_in f) (length f.domain.topology.lans) ttl []
@@ -107,6 +113,7 @@ has_path-last_flight f ttl x j lan first ok e on =
 
 -- ---- a second copy
 
+-- a LAN with a double copy has a second copy
 has_second_copy-last_flight : (f : FlowOfDomain) (ttl : ℕ) (x : Finding) (j : FlightInDomain) (lan : ℕ)
     → IsFlowOfDomain f →
     (e : EndsTravel f ttl x j) → FirstDoubleWalk (net_in f) (last_flight f ttl x j e) lan →
@@ -131,6 +138,7 @@ has_second_copy-last_flight f ttl x j lan ok e d =
       on = d.lan;
     }
 
+-- so has the LAN of a duplicate
 pub has_second_copy-from_duplicate : (f : FlowOfDomain) (ttl lan : ℕ) (j : FlightInDomain)
     → IsFlowOfDomain f →
     EndsTravel f ttl (Duplicate lan) j → HasSecondCopy (net_in f) j.flight.carried lan
@@ -139,6 +147,7 @@ has_second_copy-from_duplicate f ttl lan j ok e = subst (λ (g : Flight). HasSec
     (sym e.ends) (has_second_copy-last_flight f ttl (Duplicate lan) j lan ok e
     (shows-last_flight f ttl (Duplicate lan) j ok e).0)
 
+-- the first double copy of a loop came from its own LAN
 pub has_loop-from_loop : (f : FlowOfDomain) (ttl lan : ℕ) (j : FlightInDomain) → IsFlowOfDomain f →
     EndsTravel f ttl (Loop lan) j → HasLoop (net_in f) j.flight.carried lan
 has_loop-from_loop f ttl lan j ok e =
@@ -153,6 +162,7 @@ has_loop-from_loop f ttl lan j ok e =
 
 -- ---- a LAN that is missed only with the flow's TTL
 
+-- what is something has a copy
 some-from_is_some : (o : Option Copy) → is_some o ≡ true → (c : Copy) × (o ≡ Some c)
 some-from_is_some None e = absurd cc
 some-from_is_some (Some c) e = (c, refl)
@@ -177,6 +187,7 @@ no_path_passes-to_missed f ttl lan j ok e hs path passes =
     (in_range-travel n (length f.domain.topology.lans) [] false e.picks (start n ttl) (Missed lan)
     e.travel) (is_lossless-handles e.picks) shows.1 path passes)
 
+-- such a LAN is out of reach of the flow's TTL
 pub is_out_of_reach-from_missed : (f : FlowOfDomain) (lan : ℕ) (j k : FlightInDomain) → IsFlowOfDomain f →
     EndsTravel f 255 Clean j → EndsTravel f (net_in f).ttl (Missed lan) k →
     IsOutOfReach (net_in f) j.flight.carried (net_in f).ttl lan
@@ -199,6 +210,7 @@ is_out_of_reach-from_missed f lan j k ok high low =
 
 -- ---- finished travels
 
+-- a finished travel ends with its finding
 pub ends_travel-from_finished : (d : DomainValue) (flow : ℕ) (f : FlowOfDomain) (ttl : ℕ)
     (ended : FinishedTravel) →
     f ≡ record { domain = d; flow = flow } → IsFinishedTravelOf d flow ttl ended → 1 ≤ ttl → ttl ≤ 255 →

@@ -16,6 +16,7 @@ use Rattle.mc_explain.proofs.IndentedLemmas.{is_line_rest-feed}
 
 -- ---- lists of names
 
+-- how many more there are
 pub no_feed-more_text : (more : ℕ) → HasNoByte 10 (more_text more)
 no_feed-more_text more =
     no_feed-cond (more == 0) [] (codes " and " ++ (decimal more ++ codes " more")) tt
@@ -31,6 +32,7 @@ no_feed-lans_text t lans ok =
     (no_feed-lan_name t l ok)))
     (no_feed-more_text (length lans - 8))
 
+-- and of routers
 pub no_feed-routers_text : (t : TopologyValue) (routers : List ℕ) → IsValidTopology t
     → HasNoByte 10 (routers_text t routers)
 no_feed-routers_text t routers ok =
@@ -41,6 +43,7 @@ no_feed-routers_text t routers ok =
 
 -- ---- lines
 
+-- the line of the LANs that want a flow
 pub are_indented-wanted_text : (t : TopologyValue) (lans : List ℕ) → IsValidTopology t
     → AreIndented (wanted_text t lans)
 are_indented-wanted_text t [] ok =
@@ -54,6 +57,7 @@ are_indented-wanted_text t (lan ∷ lans) ok =
     (is_line_rest-append (lans_text t (lan ∷ lans)) _ (no_feed-lans_text t (lan ∷ lans) ok)
     is_line_rest-feed))))
 
+-- the line of the LANs that are missed too
 pub are_indented-also_missed_text : (t : TopologyValue) (lans : List ℕ) → IsValidTopology t
     → AreIndented (also_missed_text t lans)
 are_indented-also_missed_text t [] ok = are_indented-none

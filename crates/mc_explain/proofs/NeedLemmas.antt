@@ -15,6 +15,7 @@ pub record NeedSoFar (hops : List Hop) (i before least : ℕ) : Type 0 where
   pub low : 1 ≤ least
   pub all : max least (need (drop i hops)) ≡ need hops
 
+-- before the first hop the need is 1
 pub need_so_far-none : (hops : List Hop) → NeedSoFar hops 0 (length hops) 1
 need_so_far-none hops =
     let low = need-at_least_one hops in
@@ -41,11 +42,13 @@ drop-next_hop hops before h lt at =
     (ap (λ (g : Hop). g ∷ drop (j + 1) hops) (sym at) ∙
     ap (λ (k : ℕ). h ∷ drop k hops) after))
 
+-- the hops that were gone through
 length-drop_before : (hops : List Hop) (before : ℕ) → before < length hops →
     length (drop (length hops - before) hops) ≡ before
 length-drop_before hops before lt =
     let long = length-drop (length hops - before) hops in omega (arith, long, lt)
 
+-- a hop whose threshold isn't below the TTL that is left stops the packet
 pub stopping_hop-there : (t : ℕ) (hops : List Hop) (before left : ℕ) (h : Hop) →
     ThroughSoFar t hops before left → before < length hops →
     h ≡ get_or hops (length hops - 1 - before) h → left ≤ h.threshold →

@@ -30,6 +30,7 @@ abbrev pub PlacesInside : Search → Type 0
 PlacesInside s = (router vif : ℕ) →
     IfSome ((net s).placed router vif) (λ lan. lan < length s.domain.topology.lans)
 
+-- it is so in a search of a domain
 pub places_inside-from_is_domain : (d : DomainValue) (s : Search) → IsDomain d → s.domain ≡ facts d
     → PlacesInside s
 places_inside-from_is_domain d s ok same router vif =
@@ -41,14 +42,17 @@ places_inside-from_is_domain d s ok same router vif =
 abbrev pub NextLanIsInside : Search → SearchLine → Type 0
 NextLanIsInside s line = IfSome (next_lan s line) (λ lan. lan < length s.domain.topology.lans)
 
+-- it is so for each of these lines
 abbrev pub NextLansAreInside : Search → List SearchLine → Type 0
 NextLansAreInside s lines = (line : SearchLine) → In line lines → NextLanIsInside s line
 
+-- for one line
 next_lans_are_inside-one : (s : Search) (line : SearchLine) → NextLanIsInside s line
     → NextLansAreInside s (line ∷ [])
 next_lans_are_inside-one s line h x (inl e) = subst (NextLanIsInside s) e h
 next_lans_are_inside-one s line h x (inr none) = absurd none
 
+-- for lines of two lists
 next_lans_are_inside-append : (s : Search) (xs ys : List SearchLine) → NextLansAreInside s xs
     → NextLansAreInside s ys
     → NextLansAreInside s (xs ++ ys)
@@ -57,17 +61,20 @@ next_lans_are_inside-append s xs ys f g line h = elim (in-append_cases line xs y
   | inr right ↦ g line right
 ]
 
+-- for lines of each item
 next_lans_are_inside-flat_map : {A : Type 0} (s : Search) (f : A → List SearchLine) (xs : List A)
     → ((x : A) → NextLansAreInside s (f x)) → NextLansAreInside s (flat_map f xs)
 next_lans_are_inside-flat_map s f xs each line h =
     let found = in-flat_map_cases f line xs h in
     each found.0 line found.2
 
+-- for a line that may be there
 next_lans_are_inside-if : (s : Search) (b : Bool) (line : SearchLine) → NextLanIsInside s line
     → NextLansAreInside s (cond b (line ∷ []) [])
 next_lans_are_inside-if s true line h = next_lans_are_inside-one s line h
 next_lans_are_inside-if s false line h = λ x none. absurd none
 
+-- for lines that may be left out
 next_lans_are_inside-unless : (s : Search) (b : Bool) (lines : List SearchLine) → NextLansAreInside s lines
     → NextLansAreInside s (cond b [] lines)
 next_lans_are_inside-unless s true lines h = λ x none. absurd none
@@ -83,17 +90,20 @@ if_missed-inside s (Some lan) h = by (carried s lan)
     by true = tt
     by false = h
 
+-- the LAN that a (*,G) entry takes from
 every_source_from-inside : (s : Search) (router : ℕ) → PlacesInside s → (o : Option (ℕ × EntryValue))
     → IfSome (every_source_from s router o) (λ lan. lan < length s.domain.topology.lans)
 every_source_from-inside s router ok None = tt
 every_source_from-inside s router ok (Some row) = ok router row.1.iif
 
+-- the line of a vif by which a row sends: the copy is stopped, or the row waits for one
 stopped_or_waiting-inside : (s : Search) (copy : Option Copy) (lan router vif from threshold : ℕ)
     → from < length s.domain.topology.lans → NextLanIsInside s (stopped_or_waiting copy lan router vif from
     threshold)
 stopped_or_waiting-inside s None lan router vif from threshold h = h
 stopped_or_waiting-inside s (Some copy) lan router vif from threshold h = tt
 
+-- the line of a vif
 vif_line-inside : (s : Search) (lan router from : ℕ) (pairs : List (ℕ × ℕ)) (vif : ℕ)
     → from < length s.domain.topology.lans → NextLanIsInside s (vif_line s lan router from pairs vif)
 vif_line-inside s lan router from pairs vif h =
@@ -106,6 +116,7 @@ vif_line-inside s lan router from pairs vif h =
     by true line inside = inside
     by false line inside = tt
 
+-- the line of an interface's vif, if it has one
 vif_lines-inside : (s : Search) (lan router from : ℕ) (pairs : List (ℕ × ℕ)) (o : Option ℕ)
     → from < length s.domain.topology.lans → NextLansAreInside s (vif_lines s lan router from pairs o)
 vif_lines-inside s lan router from pairs None h = λ x none. absurd none
@@ -113,6 +124,7 @@ vif_lines-inside s lan router from pairs (Some vif) h =
     next_lans_are_inside-if s (is_lan ((net s).placed router vif) lan) (vif_line s lan router from pairs vif)
     (vif_line-inside s lan router from pairs vif h)
 
+-- the lines of an exact row, by the LAN that it takes from
 incoming_lines-inside : (s : Search) (lan router : ℕ) (pairs : List (ℕ × ℕ)) (is : List ListedInterface)
     (o : Option ℕ) → IfSome o (λ l. l < length s.domain.topology.lans)
     → NextLansAreInside s (incoming_lines s lan router pairs is o)
@@ -123,6 +135,7 @@ incoming_lines-inside s lan router pairs is (Some from) h =
     (next_lans_are_inside-flat_map s (λ (i : ListedInterface). vif_lines s lan router from pairs i.vif) is
     (λ i. vif_lines-inside s lan router from pairs i.vif h))
 
+-- the lines of a router by its row
 row_lines-inside : (s : Search) (lan router : ℕ) (is : List ListedInterface) → PlacesInside s
     → (row : Row) → NextLansAreInside s (row_lines s lan router is row)
 row_lines-inside s lan router is ok (Exact incoming pairs) =
@@ -138,11 +151,13 @@ row_lines-inside s lan router is ok no_row = by (is_unresolved s router)
     by true = next_lans_are_inside-one s (Unresolved lan router) tt
     by false = next_lans_are_inside-one s (NoRow lan router) tt
 
+-- the lines on a device
 device_lines-inside : (s : Search) (lan : ℕ) (i : ListedInterface) (o : Option ℕ)
     → NextLansAreInside s (device_lines s lan i o)
 device_lines-inside s lan i None = next_lans_are_inside-one s _ tt
 device_lines-inside s lan i (Some vif) = next_lans_are_inside-if s _ _ tt
 
+-- the lines that end those of a LAN
 closing_lines-inside : (s : Search) (lan : ℕ) (gs : List (ℕ × List ListedInterface)) (lines : List SearchLine)
     → NextLansAreInside s (closing_lines s lan gs lines)
 closing_lines-inside s lan gs [] = next_lans_are_inside-one s _ tt
@@ -150,6 +165,7 @@ closing_lines-inside s lan gs (line ∷ lines) =
     next_lans_are_inside-unless s (list_any (may_send_here s) gs) (NoSender lan ∷ [])
     (next_lans_are_inside-one s (NoSender lan) tt)
 
+-- the lines of a router by its tables
 table_lines-inside : (s : Search) (lan : ℕ) (g : ℕ × List ListedInterface) → PlacesInside s
     → NextLansAreInside s (table_lines s lan g)
 table_lines-inside s lan g ok =
@@ -157,6 +173,7 @@ table_lines-inside s lan g ok =
     (next_lans_are_inside-flat_map s (λ (i : ListedInterface). device_lines s lan i i.vif) g.1
     (λ i. device_lines-inside s lan i i.vif))
 
+-- the lines of a router
 router_lines-inside : (s : Search) (lan : ℕ) (g : ℕ × List ListedInterface) → PlacesInside s
     → NextLansAreInside s (router_lines s lan g)
 router_lines-inside s lan g ok = by (is_excluded s.excluded g.0)

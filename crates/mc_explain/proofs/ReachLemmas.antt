@@ -105,6 +105,7 @@ routers_of_lans-more s lans i lan old now lt read before more =
     ∙ ap (append_new []) (flat_map_more own [] (take i lans) lan
     ∙ ap (flat_map own) (sym (take_more lans i lan lt ∙ ap (λ (x : ℕ). take i lans ++ x ∷ []) (sym read))))
 
+-- a number of both is one of the old or of the new
 in-from_append_new : (visited_lans more : List ℕ) (x : ℕ) → In x (append_new visited_lans more)
     → In x visited_lans ⊎ In x more
 in-from_append_new visited_lans [] x h = inl h
@@ -139,11 +140,13 @@ routers_of_lans-inside s lans r h = elim (in-from_append_new [] _ r h) [
       (group_router-of_topology s.domain on.0 at.0 at.1))
 ]
 
+-- an item at a place is in the list
 in-get_or : (xs : List ℕ) (k d : ℕ) → k < length xs → In (get_or xs k d) xs
 in-get_or [] k d lt = absurd (omega (arith, lt))
 in-get_or (x ∷ xs) zero d lt = inl refl
 in-get_or (x ∷ xs) (suc k) d lt = inr (in-get_or xs k d (omega (arith, lt)))
 
+-- so each is below their number
 pub routers_of_lans-all_below : (s : Search) (lans rs : List ℕ) (n : ℕ) → rs ≡ routers_of_lans s lans
     → length s.domain.topology.routers ≤ n → All (λ r. r < n) rs
 routers_of_lans-all_below s lans rs n e le k d lt =
@@ -161,6 +164,7 @@ are_marks_of-has_event events handling old now count none marks r lt =
     marks r (subst (λ (n : ℕ). r < n) count lt)
     ∙ ap (λ (b : Bool). b || has_event handling events r) (none r)
 
+-- and the marks of routers that took none and sent none on
 pub are_marks_of-took_none : (events : List Event) (old now : List Bool) → length now ≡ length old
     → AreMarksOf (has_event TookNone events) old
     → ((r : ℕ) → r < length old

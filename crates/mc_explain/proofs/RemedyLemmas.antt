@@ -36,6 +36,7 @@ row_without-has_no_pair v threshold incoming pairs (Exact w ps) e pair =
 row_without-has_no_pair v threshold incoming pairs Open e pair = absurd cc
 row_without-has_no_pair v threshold incoming pairs NoRow e pair = absurd cc
 
+-- no copy is sent on by an interface that was taken out
 is_sent_on-not_by_taken_out : (n : Net) (i : Interface) (b c : Copy) → IsSentOn (take_out i n) b c i → ⊥
 is_sent_on-not_by_taken_out n i b c s =
     let own : (i.0 == i.0) ≡ true = eq-eqb i.0 i.0 refl in
@@ -47,6 +48,7 @@ is_sent_on-not_by_taken_out n i b c s =
 abbrev AreNotSentBy : Interface → List Copy → Type 0
 AreNotSentBy i cs = (c : Copy) → In c cs → c.sender ≢ Some i
 
+-- a step adds no copy that it sent
 are_not_sent_by-grows : (n : Net) (i : Interface) (f g : Flight) → StepGrows (take_out i n) f g →
     AreNotSentBy i f.carried → AreNotSentBy i g.carried
 are_not_sent_by-grows n i f g (inr e) none = subst (AreNotSentBy i) (sym e) none
@@ -59,6 +61,7 @@ are_not_sent_by-grows n i f g (inl s) none = subst (AreNotSentBy i) (sym s.2.1) 
           is_sent_on-not_by_taken_out n i s.0 c (subst (IsSentOn (take_out i n) s.0 c) same z.2))
     ])
 
+-- so no copy of a run is sent by it
 pub are_not_sent_by-run : (n : Net) (i : Interface) (t : ℕ) (ps : List Pick) (c : Copy) →
     In c (run (take_out i n) ps (start (take_out i n) t)).carried → c.sender ≢ Some i
 are_not_sent_by-run n i t ps c h =

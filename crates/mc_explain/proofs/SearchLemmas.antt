@@ -30,6 +30,7 @@ use Rattle.mc_explain.specs.SearchLine.{visited_after}
 
 -- ---- visited LANs
 
+-- a LAN is visited exactly if there is a first one with its number
 list_any-first_by : (lans : List ℕ) (lan : ℕ)
     → list_any (λ m. m == lan) lans ≡ is_some (first_with_key (λ (l : ℕ). l) lans lan)
 list_any-first_by [] lan = refl
@@ -41,18 +42,21 @@ list_any-first_by (m ∷ lans) lan = by (m == lan) (list_any-first_by lans lan)
     by true rest = refl
     by false rest = rest
 
+-- a LAN without a mark isn't visited
 pub list_any-from_not_held : (marks : List (Option ℕ)) (lans : List ℕ) (lan : ℕ)
     → HoldsFirstOfEachKey (λ (l : ℕ). l) marks lans → item_on_lan marks lan ≡ None
     → list_any (λ m. m == lan) lans ≡ false
 list_any-from_not_held marks lans lan marked none =
     list_any-first_by lans lan ∙ ap is_some (sym (marked lan) ∙ none)
 
+-- a LAN with a mark is visited
 pub list_any-from_held : (marks : List (Option ℕ)) (lans : List ℕ) (lan : ℕ)
     → HoldsFirstOfEachKey (λ (l : ℕ). l) marks lans → IsSome (item_on_lan marks lan)
     → list_any (λ m. m == lan) lans ≡ true
 list_any-from_held marks lans lan marked some =
     list_any-first_by lans lan ∙ ap is_some (sym (marked lan)) ∙ some
 
+-- a LAN of the list is visited
 list_any-from_in : (lans : List ℕ) (lan : ℕ) → In lan lans → list_any (λ m. m == lan) lans ≡ true
 list_any-from_in [] lan h = absurd h
 list_any-from_in (m ∷ lans) lan (inl e) = ap (λ (b : Bool). b || list_any (λ m. m == lan) lans)
@@ -64,12 +68,14 @@ list_any-from_in (m ∷ lans) lan (inr h) = by (m == lan) (list_any-from_in lans
     by true rest = refl
     by false rest = rest
 
+-- a LAN with a mark is within the marks
 held-within_marks : (marks : List (Option ℕ)) (lan : ℕ) → is_some (item_on_lan marks lan) ≡ true
     → lan < length marks
 held-within_marks [] lan some = absurd cc
 held-within_marks (m ∷ marks) zero some = omega arith
 held-within_marks (m ∷ marks) (suc lan) some = let h = held-within_marks marks lan some in omega (arith, h)
 
+-- so is each visited LAN
 pub visited-within_marks : (marks : List (Option ℕ)) (lans : List ℕ) (k lan : ℕ)
     → HoldsFirstOfEachKey (λ (l : ℕ). l) marks lans → slice_get lans k ≡ Some lan → lan < length marks
 visited-within_marks marks lans k lan marked at =
@@ -91,6 +97,7 @@ append_new-keeps_front lans (lan ∷ more) =
     by true old new = old
     by false old new = (lan ∷ new.0, new.1 ∙ append_assoc lans (lan ∷ []) new.0)
 
+-- the visited LANs after one more step
 pub visited-more : (s : Search) (missed k : ℕ)
     → visited_lans s missed (k + 1) ≡ visited_after s (visited_lans s missed k)
     (slice_get (visited_lans s missed k) k)
@@ -129,6 +136,7 @@ lines_so_far-same s missed k lines_so_far all before =
     before ∙ ap (flat_map (lines_of_lan s)) (take_all k lans all
     ∙ sym (take_all (k + 1) lans (omega (arith, all))) ∙ ap (take (k + 1)) (sym next))
 
+-- there is no LAN at a place past the end
 pub length-from_slice_get_none : (lans : List ℕ) (k : ℕ) → slice_get lans k ≡ None → length lans ≤ k
 length-from_slice_get_none [] k none = omega arith
 length-from_slice_get_none (m ∷ lans) zero none = absurd cc
@@ -137,6 +145,7 @@ length-from_slice_get_none (m ∷ lans) (suc k) none = let h = length-from_slice
 
 -- ---- each once
 
+-- a LAN that isn't there yet is added
 distinct-push : (lans : List ℕ) (lan : ℕ) → Distinct lans → (In lan lans → ⊥)
     → Distinct (lans ++ lan ∷ [])
 distinct-push [] lan distinct other = (λ h. h, tt)
@@ -148,6 +157,7 @@ distinct-push (m ∷ lans) lan distinct other = (
   distinct-push lans lan distinct.1 (λ h. other (inr h)),
 )
 
+-- new LANs are added, each once
 distinct-append_new : (lans more : List ℕ) → Distinct lans → Distinct (append_new lans more)
 distinct-append_new lans [] distinct = distinct
 distinct-append_new lans (lan ∷ more) distinct =
@@ -161,6 +171,7 @@ distinct-append_new lans (lan ∷ more) distinct =
     by false q old new = new (distinct-push lans lan distinct
         (λ h. absurd (false≢true (sym q ∙ list_any-from_in lans lan h))))
 
+-- each LAN is visited once
 pub distinct-visited : (s : Search) (missed k : ℕ) → Distinct (visited_lans s missed k)
 distinct-visited s missed zero = (λ h. h, tt)
 distinct-visited s missed (suc k) = by (slice_get (visited_lans s missed k) k) (distinct-visited s missed k)
@@ -170,6 +181,7 @@ distinct-visited s missed (suc k) = by (slice_get (visited_lans s missed k) k) (
     by None distinct = distinct
     by (Some lan) distinct = distinct-append_new (visited_lans s missed k) (next_lans s lan) distinct
 
+-- a LAN of the list has a place there
 slice_get-from_in : (lans : List ℕ) (lan : ℕ) → In lan lans → (k : ℕ) × (slice_get lans k ≡ Some lan)
 slice_get-from_in [] lan h = absurd h
 slice_get-from_in (m ∷ lans) lan (inl e) = (0, ap Some e)
@@ -191,6 +203,7 @@ length-visited s missed k marks lans e marked =
 
 -- ---- the lines that were added
 
+-- they are those after the old ones
 pub take_drop-added : {A : Type 0} (old now lines : List A) (n : ℕ) → now ≡ old ++ lines → n ≡ length old
     → take (length now - n) (drop n now) ≡ lines
 take_drop-added {A} old now lines n more count =
@@ -202,6 +215,7 @@ take_drop-added {A} old now lines n more count =
 
 -- ---- what a search reads
 
+-- the first copy on each LAN, by its place
 held-all_first_copies : (places : List (Option Copy)) (copies cs : List Copy)
     → HoldsFirstOfEachKey (λ (c : Copy). c.lan) places copies → copies ≡ cs → item_on_lan places
     ≡ first_copy_on cs
@@ -211,6 +225,7 @@ held-all_first_copies places copies cs first same =
     same in
     λ i lan. each lan i
 
+-- a search by a flow's view is that of the flow in its domain
 pub search-of_view : (view : FlowOfDomain) (d : DomainValue) (flow : ℕ) (summary : List SummaryValue)
     (excluded : List Bool) (places : List (Option Copy)) (copies cs : List Copy)
     → view ≡ record { domain = d; flow = flow } → HoldsFirstOfEachKey (λ (c : Copy). c.lan) places copies
@@ -246,6 +261,7 @@ search-of_view view d flow summary excluded places copies cs e first same =
       first_copy_on = f;
     }) (held-all_first_copies places copies cs first same)
 
+-- a LAN within the list is at its place
 slice_get-get_or : (xs : List ℕ) (k d : ℕ) → k < length xs → slice_get xs k ≡ Some (get_or xs k d)
 slice_get-get_or [] k d lt = absurd (omega (arith, lt))
 slice_get-get_or (x ∷ xs) zero d lt = refl

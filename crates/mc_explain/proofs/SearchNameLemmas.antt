@@ -47,18 +47,22 @@ use Rattle.mc_explain.specs.TopologyLans.{interfaces_on_lan}
 
 -- ---- lines that name a router, among others
 
+-- lines before others
 names_router-left : (lan r : ℕ) (xs ys : List SearchLine) → NamesRouter lan r xs
     → NamesRouter lan r (xs ++ ys)
 names_router-left lan r xs ys n = (n.0, (in-append_left n.0 xs ys n.1.0, n.1.1))
 
+-- lines after others
 names_router-right : (lan r : ℕ) (xs ys : List SearchLine) → NamesRouter lan r ys
     → NamesRouter lan r (xs ++ ys)
 names_router-right lan r xs ys n = (n.0, (in-append_right n.0 xs ys n.1.0, n.1.1))
 
+-- the lines of an item
 names_router-flat_map : {A : Type 0} (lan r : ℕ) (f : A → List SearchLine) (x : A) (xs : List A) → In x xs
     → NamesRouter lan r (f x) → NamesRouter lan r (flat_map f xs)
 names_router-flat_map lan r f x xs h n = (n.0, (in-flat_map f x n.0 xs h n.1.0, n.1.1))
 
+-- one line
 names_router-one : (lan r : ℕ) (line : SearchLine) → lan_and_router_of line ≡ (lan, Some r)
     → NamesRouter lan r (line ∷ [])
 names_router-one lan r line is = (line, (inl refl, is))
@@ -69,6 +73,7 @@ names_router-one lan r line is = (line, (inl refl, is))
 abbrev IsGrouped : ListedInterface → List (ℕ × List ListedInterface) → Type 0
 IsGrouped i gs = (g : ℕ × List ListedInterface) × (In g gs × ((g.0 ≡ i.router) × In i g.1))
 
+-- an interface that is added is in a group of its router
 is_grouped-own : (i : ListedInterface) (gs : List (ℕ × List ListedInterface))
     → IsGrouped i (add_to_group i gs)
 is_grouped-own i [] = ((i.router, i ∷ []), (inl refl, (refl, inl refl)))
@@ -78,6 +83,7 @@ is_grouped-own i (g ∷ gs) = by (g.0 == i.router)
     by true = ((i.router, i ∷ g.1), (inl refl, (refl, inl refl)))
     by false = ((i.router, i ∷ []), (inl refl, (refl, inl refl)))
 
+-- it is there still after another one was added
 is_grouped-later : (i j : ListedInterface) (gs : List (ℕ × List ListedInterface)) → IsGrouped i gs
     → IsGrouped i (add_to_group j gs)
 is_grouped-later i j [] (g, (h, is)) = absurd h
@@ -100,6 +106,7 @@ is_grouped-later i j (f ∷ gs) (g, (h, is)) = by (f.0 == j.router) refl
     ]
     by false e = (g, (inr h, is))
 
+-- so each interface is
 is_grouped-group_by_router : (i : ListedInterface) (is : List ListedInterface) → In i is
     → IsGrouped i (group_by_router is)
 is_grouped-group_by_router i [] h = absurd h
@@ -111,11 +118,13 @@ is_grouped-group_by_router i (j ∷ is) (inr h) = is_grouped-later i j (group_by
 
 -- ---- an interface of the topology among those on its LAN
 
+-- the interface with a number
 interface_at-from_get : (t : TopologyValue) (k : ℕ) (i : InterfaceRow) → slice_get t.interfaces k ≡ Some i
     → interface_at t k ≡ i
 interface_at-from_get t k i at =
     ap (λ (o : Option InterfaceRow). unwrap_or o (record { router = 0; device = []; lan = 0 })) at
 
+-- it is among those on its LAN
 in-interfaces_on_lan : (x : DomainFacts) (k : ℕ) (i : InterfaceRow) → slice_get x.topology.interfaces k
     ≡ Some i
     → i.router < length x.topology.routers → In (listed_interface_of x k i) (interfaces_on_lan x i.lan)
@@ -143,6 +152,7 @@ abbrev PlacedOn : DomainFacts → (flow : ℕ) → ListedInterface → (lan : �
 PlacedOn x flow i lan = (vif : ℕ) → i.vif ≡ Some vif → is_virtual (x.vifs i.router vif) ≡ false
     → (x.nets flow).placed i.router vif ≡ Some lan
 
+-- what is found passes the test
 find-passes : (p : ℕ → Bool) (xs : List ℕ) (x : ℕ) → find p xs ≡ Some x → p x ≡ true
 find-passes p [] x e = absurd cc
 find-passes p (y ∷ ys) x e = by (p y) refl (find-passes p ys x) e
@@ -152,6 +162,7 @@ find-passes p (y ∷ ys) x e = by (p y) refl (find-passes p ys x) e
     by true passes later e = let same : y ≡ x = cc in subst (λ (z : ℕ). p z ≡ true) same passes
     by false fails later e = later e
 
+-- a device's name isn't the one that stands for none
 bytes_eq-no_device : (device : List ℕ) → is_device device ≡ true → bytes_eq device no_device ≡ false
 unfolding is_device
 bytes_eq-no_device device ok =
@@ -173,6 +184,7 @@ lan_of_vif-from_device t k i distinct at ok (Some v) own real =
     ∙ ap (λ (d : List ℕ). lan_of_interface i.router d t.interfaces) device
     ∙ lan_of_interface-listed_row t.interfaces k i distinct at
 
+-- so it is in a domain
 placed_on-from_is_domain : (d : DomainValue) (flow k : ℕ) (i : InterfaceRow) → IsDomain d
     → slice_get d.topology.interfaces k ≡ Some i → PlacedOn (facts d) flow (listed_interface_of (facts d) k
     i) i.lan
@@ -183,6 +195,7 @@ placed_on-from_is_domain d flow k i ok at vif found real =
 
 -- ---- the lines of a router
 
+-- the line of a vif is about its LAN and names its router
 lan_and_router_of-vif_line : (s : Search) (lan r from : ℕ) (pairs : List (ℕ × ℕ)) (vif : ℕ)
     → lan_and_router_of (vif_line s lan r from pairs vif) ≡ (lan, Some r)
 lan_and_router_of-vif_line s lan r from pairs vif = by (sends_by vif pairs) (s.first_copy_on from)
@@ -243,6 +256,7 @@ IsNamedBy s lan g row =
     NamesRouter lan g.0 (row_lines s lan g.0 g.1 row ++ flat_map (λ j. device_lines s lan j j.vif) g.1)
     ⊎ (is_lan (taken_from (net s) g.0 row) lan ≡ true)
 
+-- so it is for each row
 is_named_by-row : (s : Search) (lan : ℕ) (g : ℕ × List ListedInterface) (i : ListedInterface) → In i g.1
     → g.0 ≡ i.router → PlacedOn s.domain s.flow i lan → (row : Row) → IsNamedBy s lan g row
 is_named_by-row s lan g i h own placed (Exact incoming pairs) = from-where ((net s).placed g.0 incoming)
@@ -274,6 +288,7 @@ is_named_by-row s lan g i h own placed no_row =
 
 -- ---- the lines of a LAN
 
+-- the lines of all routers name each of these
 names_router-lines_of_routers : (s : Search) (lan : ℕ) (gs : List (ℕ × List ListedInterface))
     (g : ℕ × List ListedInterface) (i : ListedInterface) → In g gs → In i g.1 → g.0 ≡ i.router
     → PlacedOn s.domain s.flow i lan → NamesRouter lan g.0 (lines_of_routers s lan gs)
@@ -308,6 +323,7 @@ names_router-lines_of_routers s lan gs g i h k own placed = by (is_excluded s.ex
           (sym expects) (names_router-one lan g.0 (ExpectedFromHere lan g.0) refl))))
     ]
 
+-- the lines of a LAN name the router of each interface on it
 names_router-lines_of_lan : (s : Search) (lan : ℕ) (i : ListedInterface)
     → In i (interfaces_on_lan s.domain lan)
     → PlacedOn s.domain s.flow i lan → NamesRouter lan i.router (lines_of_lan s lan)
@@ -318,6 +334,7 @@ names_router-lines_of_lan s lan i h placed =
     (subst (λ (r : ℕ). NamesRouter lan r (lines_of_routers s lan (routers_on s lan))) is.0
     (names_router-lines_of_routers s lan (routers_on s lan) g i k is.1 is.0 placed))
 
+-- so do those of a search, for each LAN that it visits
 pub names_router-search_lines : (d : DomainValue) (s : Search) (missed : ℕ) (i : InterfaceRow) → IsDomain d
     → s.domain ≡ facts d → IsIn d.topology.interfaces i → In i.lan (lans_of_search s missed)
     → NamesRouter i.lan i.router (search_lines s missed)

@@ -33,17 +33,20 @@ use Rattle.mc_explain.proofs.LastFlightLemmas.{first_double-from_is_first_double
 abbrev pub HaveFewHops : Net → List Copy → Type 0
 HaveFewHops n cs = (c : Copy) (hs : List Hop) → In c cs → CameByHops n cs c hs → length hs ≤ length cs
 
+-- so these hops are those that are followed back from the copy
 hops_of_copy-came_by_hops : (n : Net) (cs : List Copy) (c : Copy) (hs : List Hop) → IsNet n →
     HaveFewHops n cs → In c cs → CameByHops n cs c hs → hs ≡ hops_of_copy n cs c
 hops_of_copy-came_by_hops n cs c hs net few c_in came =
     sym (hops_back-came_by_hops n cs (length cs) c hs net came (few c hs c_in came))
 
+-- and from a LAN's first copy
 hops_to_lan-came_by_hops : (n : Net) (cs : List Copy) (lan : ℕ) (hs : List Hop) → IsNet n →
     HaveFewHops n cs → FirstCameByHops n cs lan hs → hs ≡ hops_to_lan n cs lan
 hops_to_lan-came_by_hops n cs lan hs net few came =
     hops_of_copy-came_by_hops n cs came.first hs net few (in-first_copy_on cs lan came.first came.first_on)
     came.came ∙ ap (hops_of_copy_if_any n cs) (sym came.first_on)
 
+-- and from that of a LAN on which a vif is placed
 hops_from_lan-came_by_hops : (n : Net) (cs : List Copy) (o : Option ℕ) (lan : ℕ) (hs : List Hop) →
     IsNet n → HaveFewHops n cs → o ≡ Some lan → FirstCameByHops n cs lan hs →
     hs ≡ hops_from_lan_if_any n cs o
@@ -52,6 +55,7 @@ hops_from_lan-came_by_hops n cs o lan hs net few same came =
 
 -- ---- needs
 
+-- the need of two copies
 pub need_of_two_copies-is_need : (n : Net) (cs : List Copy) (lan k : ℕ) → IsNet n → HaveFewHops n cs →
     RestsOnTwoCopies n cs lan k → k ≡ need_of_two_copies n cs lan
 need_of_two_copies-is_need n cs lan k net few r =
@@ -61,6 +65,7 @@ need_of_two_copies-is_need n cs lan k net few r =
     ∙ ap (hops_of_copy_if_any n cs) (sym (first_double-from_is_first_double cs r.second r.first_double)) in
     r.need_is ∙ ap₂ (λ (hs ks : List Hop). max (need hs) (need ks)) first second
 
+-- the need of a stray
 need_of_stray-is_need : (n : Net) (cs : List Copy) (r v k : ℕ) → IsNet n → HaveFewHops n cs →
     RestsOnSentCopy n cs r v k ⊎ RestsOnOpenRow n cs r v k → k ≡ need_of_stray n cs (n.row r) r v
 need_of_stray-is_need n cs r v k net few (inl q) =
@@ -80,6 +85,7 @@ pub record IsNeedUpTo (n : Net) (cs : List Copy) (x : Finding) (s : ℕ) : Type 
   pub shown : IsShownFromIfAny n cs x (need_of_finding n cs x)
   pub bounded : IfSome (need_of_finding n cs x) (λ k. k ≤ s)
 
+-- where what is worked out is the TTL from which on packets show it
 is_need_up_to-same : (n : Net) (cs : List Copy) (x : Finding) (s k m : ℕ) →
     need_of_finding n cs x ≡ Some m → k ≡ m → IsShownFrom n cs x k → k ≤ s → IsNeedUpTo n cs x s
 is_need_up_to-same n cs x s k m is same shown le =
@@ -89,6 +95,7 @@ is_need_up_to-same n cs x s k m is same shown le =
       bounded = subst (λ (o : Option ℕ). IfSome o (λ j. j ≤ s)) (sym found) le;
     }
 
+-- after a travel with TTL s
 is_need_up_to-travel : (n : Net) (count s : ℕ) (is : List ℕ) (y x : Finding) → x ≡ y → IsNet n →
     WantsBelow n count → 1 ≤ s → IsTravel n count [] false is (start n s) y →
     HaveFewHops n (run n (handles is) (start n s)).carried →
@@ -141,6 +148,7 @@ is_need_up_to-view d flow f ended same ok has =
     subst (λ (g : FlowOfDomain). IsNeedUpTo (net_in g) ended.flight.flight.carried
     (finding_value ended.travel.finding) 255) (sym same) (is_need_up_to-finished d flow ended domain has)
 
+-- so what a view gives is right for the flow
 pub is_shown_from-view : {X : Type 0} (d : DomainValue) (flow : ℕ) (f : FlowOfDomain)
     (ended : FinishedTravel) (r : Result (Option ℕ) X) → f ≡ record { domain = d; flow = flow } →
     IsFlowOfDomain f → IsFinishedTravelOf d flow 255 ended →

@@ -27,15 +27,18 @@ path-is_unique : (n : Net) (cs : List Copy) (l : ℕ) (a b : Copy) (hs ks : List
 path-is_unique n cs l a b hs ks net on on' by by' = came_by_hops-unique n cs b hs ks net
     (subst (λ (c : Copy). CameByHops n cs c hs) (copy_equal-from_some (first_copy_on cs l) a b on on') by) by'
 
+-- a copy has one sender
 interface-is_unique : (o : Option Interface) (i j : Interface) → o ≡ Some i → o ≡ Some j → i ≡ j
 interface-is_unique o i j p q =
     let both : ◌≡◌ {A = Option Interface} (Some i) (Some j) = sym p ∙ q in cc
 
+-- two remedies for one LAN are for the same second copy
 second_copy-is_unique : (n : Net) (f : Flight) (lan : ℕ) (c d : Copy) (r s : Cause) →
     IsRemedy n f lan c r → IsRemedy n f lan d s → c ≡ d
 second_copy-is_unique n f lan c d r s x y = first_double-unique f.carried c d x.spare.first_double
     y.spare.first_double
 
+-- a copy has one remedy
 remedy-is_unique : (n : Net) (f : Flight) (lan : ℕ) (c : Copy) (r s : Cause) → IsNet n →
     IsRemedy n f lan c r → IsRemedy n f lan c s → r ≡ s
 remedy-is_unique n f lan c r s net x y =
@@ -51,6 +54,7 @@ remedy-is_unique_on_lan : (n : Net) (f : Flight) (lan : ℕ) (c d : Copy) (r s :
 remedy-is_unique_on_lan n f lan c d r s net x y = remedy-is_unique n f lan d r s net
     (subst (λ (z : Copy). IsRemedy n f lan z r) (second_copy-is_unique n f lan c d r s x y) x) y
 
+-- a duplicate has one list of causes
 duplicate_causes-are_unique : (n : Net) (f : Flight) (lan : ℕ) (causes others : List Cause) → IsNet n →
     ExplainsDuplicate n f lan causes → ExplainsDuplicate n f lan others → causes ≡ others
 duplicate_causes-are_unique n f lan causes others net x y =
@@ -64,6 +68,7 @@ duplicate_causes-are_unique n f lan causes others net x y =
     (ap₂ (λ (c : Copy) (r : Cause). before (sender_causes lan c.sender ++ r ∷ [])) second remedy ∙
     sym y.causes_are))
 
+-- so has a loop
 loop_causes-are_unique : (n : Net) (f : Flight) (lan : ℕ) (causes others : List Cause) → IsNet n →
     ExplainsLoop n f lan causes → ExplainsLoop n f lan others → causes ≡ others
 loop_causes-are_unique n f lan causes others net x y =
@@ -75,6 +80,7 @@ loop_causes-are_unique n f lan causes others net x y =
     x.causes_are ∙ (ap₂ (λ (hs : List Hop) (r : Cause). reverse (map circle_cause hs) ++ r ∷ []) circle
     remedy ∙ sym y.causes_are)
 
+-- so has a LAN that is missed at the flow's TTL alone
 least_ttl_causes-are_unique : (n : Net) (f : Flight) (lan : ℕ) (causes others : List Cause) → IsNet n →
     ExplainsLeastTtl n f lan causes → ExplainsLeastTtl n f lan others → causes ≡ others
 least_ttl_causes-are_unique n f lan causes others net x y =
@@ -88,6 +94,7 @@ least_ttl_causes-are_unique n f lan causes others net x y =
     (ap₂ (λ (h : Hop) (k : ℕ). LeastTtl lan (need y.path)
     ∷ StoppedAt h.router h.vif h.threshold k ∷ []) stop.0 stop.1 ∙ sym y.causes_are))
 
+-- so has each finding at TTL 255
 finding_causes-are_unique : (n : Net) (f : Flight) (x : Finding) (causes others : List Cause) → IsNet n →
     ExplainsFinding n f x causes → ExplainsFinding n f x others → causes ≡ others
 finding_causes-are_unique n f Clean causes others net p q = p ∙ sym q
@@ -98,6 +105,7 @@ finding_causes-are_unique n f (Loop lan) causes others net p q = loop_causes-are
 finding_causes-are_unique n f (Stray router vif) causes others net p q = p ∙ sym q
 finding_causes-are_unique n f (Missed lan) causes others net p q = p ∙ sym q
 
+-- and each at the flow's TTL
 flow_ttl_causes-are_unique : (n : Net) (f g : Flight) (x : Finding) (causes others : List Cause) → IsNet n →
     ExplainsAtFlowTtl n f g x causes → ExplainsAtFlowTtl n f g x others → causes ≡ others
 flow_ttl_causes-are_unique n f g Clean causes others net p q = p ∙ sym q
@@ -109,6 +117,7 @@ flow_ttl_causes-are_unique n f g (Stray router vif) causes others net p q = p �
 flow_ttl_causes-are_unique n f g (Missed lan) causes others net p q = least_ttl_causes-are_unique n f lan
     causes others net p q
 
+-- so each flow has one list of causes
 pub causes-are_unique : (d : DomainValue) (flow : ℕ) (examined_flights : ExaminedFlights)
     (causes others : List Cause) →
     IsNet (net_of d flow) → IsExplained d flow examined_flights causes → IsExplained d flow examined_flights

@@ -23,6 +23,7 @@ use Rattle.mc_explain.proofs.NameListLemmas.{no_feed-routers_text}
 
 -- ---- sequences of lines with a common beginning
 
+-- no lines
 pub are_lines-none : (Begins : List ℕ → Type 0) → AreLines Begins []
 are_lines-none Begins = record {
   lines = [];
@@ -31,6 +32,7 @@ are_lines-none Begins = record {
   spelled = refl;
 }
 
+-- lines after lines
 pub are_lines-append : (Begins : List ℕ → Type 0) (xs ys : List ℕ) → AreLines Begins xs → AreLines Begins ys
     → AreLines Begins (xs ++ ys)
 are_lines-append Begins xs ys p q = record {
@@ -47,6 +49,7 @@ are_lines-append Begins xs ys p q = record {
       ∙ sym (flat_map-append with_line_feed p.lines q.lines);
 }
 
+-- lines of each item
 pub are_lines-flat_map : {A : Type 0} (Begins : List ℕ → Type 0) (f : A → List ℕ) (xs : List A)
     → ((x : A) → AreLines Begins (f x)) → AreLines Begins (flat_map f xs)
 are_lines-flat_map Begins f [] each = are_lines-none Begins
@@ -55,14 +58,17 @@ are_lines-flat_map Begins f (x ∷ xs) each =
 
 -- ---- lines that begin with two spaces
 
+-- a line after two spaces
 abbrev after_two_spaces : List ℕ → List ℕ
 after_two_spaces line = codes "  " ++ line
 
+-- indented lines are these with their line feeds
 flat_map-indented : (lines : List (List ℕ)) → flat_map indented lines ≡ flat_map with_line_feed
     (map after_two_spaces lines)
 flat_map-indented [] = refl
 flat_map-indented (line ∷ lines) = ap (λ (l : List ℕ). indented line ++ l) (flat_map-indented lines)
 
+-- so they are lines of unlisted rows
 are_unlisted_lines-from_indented : (text : List ℕ) → AreIndented text → AreUnlistedLines text
 are_unlisted_lines-from_indented text i = record {
   lines = map after_two_spaces i.lines;
@@ -76,6 +82,7 @@ are_unlisted_lines-from_indented text i = record {
 
 -- ---- the line of a pair, and lines after it
 
+-- the line of a pair
 are_unlisted_lines-pair_line : (rest : List ℕ) → IsLineRest rest → AreUnlistedLines (codes "unlisted "
     ++ rest)
 are_unlisted_lines-pair_line rest g =
@@ -97,6 +104,7 @@ are_unlisted_lines-pair_line rest g =
           ∙ sym (append_assoc g.line (10 ∷ []) (flat_map with_line_feed behind.lines)));
     }
 
+-- the question about a group's byte order
 are_indented-byte_order_text : (group : ℕ) → AreIndented (byte_order_text group)
 are_indented-byte_order_text group =
     elim (is_multicast group) as (λ b. AreIndented (cond b [] (codes
@@ -107,6 +115,7 @@ are_indented-byte_order_text group =
           is_line_rest-feed)
     ]
 
+-- both
 are_unlisted_lines-pair_text : (t : TopologyValue) (pair : ℕ × ℕ) (routers : List ℕ) → IsValidTopology t
     → AreUnlistedLines (unlisted_pair_text t pair routers)
 are_unlisted_lines-pair_text t pair routers ok =
@@ -120,6 +129,7 @@ are_unlisted_lines-pair_text t pair routers ok =
     (is_line_rest-append (routers_text t routers) _ (no_feed-routers_text t routers ok)
     (is_line_rest-feed_then_lines (byte_order_text pair.0) (are_indented-byte_order_text pair.0)))))))))
 
+-- the line on further pairs
 are_unlisted_lines-further_text : (more : ℕ) → AreUnlistedLines (further_text more)
 are_unlisted_lines-further_text more =
     elim (more == 0) as (λ b. AreUnlistedLines (cond b []
@@ -131,6 +141,7 @@ are_unlisted_lines-further_text more =
           (is_line_rest-append_front (codes " further rows") _ refl is_line_rest-feed)))
     ]
 
+-- all lines of unlisted rows
 pub are_unlisted_lines-unlisted_text : (all : Bool) (t : TopologyValue) (summary : List SummaryValue)
     → IsValidTopology t
     → AreUnlistedLines (unlisted_text all t summary)

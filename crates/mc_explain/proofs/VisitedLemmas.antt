@@ -13,6 +13,7 @@ use Rattle.mc_explain.specs.SearchLine.{visited_lans, visited_after}
 use Rattle.mc_explain.proofs.NextLanLemmas.{NextLansAreInside, PlacesInside, lines_of_lan-inside}
 use Rattle.mc_explain.proofs.SearchLemmas.{distinct-visited, visited-more}
 
+-- each LAN is below n
 abbrev pub AllBelow : ℕ → List ℕ → Type 0
 AllBelow n lans = (lan : ℕ) → In lan lans → lan < n
 
@@ -32,6 +33,7 @@ all_below-next_lans s (line ∷ lines) inside =
       | inr old ↦ rest lan old
     ]
 
+-- with one more
 all_below-push : (n : ℕ) (lans : List ℕ) (lan : ℕ) → AllBelow n lans → lan < n
     → AllBelow n (lans ++ lan ∷ [])
 all_below-push n lans lan all lt m h = elim (in-push_cases m lans lan h) [
@@ -39,6 +41,7 @@ all_below-push n lans lan all lt m h = elim (in-push_cases m lans lan h) [
   | inr same ↦ subst (λ (l : ℕ). l < n) same lt
 ]
 
+-- with new ones
 all_below-append_new : (n : ℕ) (lans more : List ℕ) → AllBelow n lans → AllBelow n more
     → AllBelow n (append_new lans more)
 all_below-append_new n lans [] all new = all
@@ -52,6 +55,7 @@ all_below-append_new n lans (lan ∷ more) all new =
     by true old more = old
     by false old more = more
 
+-- each visited LAN is one of the domain
 pub all_below-visited : (s : Search) (missed k : ℕ) → PlacesInside s
     → missed < length s.domain.topology.lans
     → AllBelow (length s.domain.topology.lans) (visited_lans s missed k)
@@ -69,6 +73,7 @@ all_below-visited s missed (suc k) ok lt =
         all_below-append_new (length s.domain.topology.lans) (visited_lans s missed k) (next_lans s lan) all
         (all_below-next_lans s (lines_of_lan s lan) (lines_of_lan-inside s lan ok))
 
+-- so there are no more than it has
 length-visited_at_most_lans : (s : Search) (missed k : ℕ) → PlacesInside s
     → missed < length s.domain.topology.lans
     → length (visited_lans s missed k) ≤ length s.domain.topology.lans
@@ -77,6 +82,7 @@ length-visited_at_most_lans s missed k ok lt =
     (distinct-visited s missed k)
     (all_below-visited s missed k ok lt)
 
+-- after as many steps as there are LANs, all that will be are visited
 visited-after_all_lans : (s : Search) (missed more : ℕ) → PlacesInside s
     → missed < length s.domain.topology.lans
     → visited_lans s missed (more + length s.domain.topology.lans) ≡ lans_of_search s missed
@@ -102,6 +108,7 @@ visited-at_end s missed k ok lt le =
     = omega (arith, le) in e)
     ∙ visited-after_all_lans s missed (k - length s.domain.topology.lans) ok lt
 
+-- a LAN of the front is there still
 in-append_new_front : (lans more : List ℕ) (m : ℕ) → In m lans → In m (append_new lans more)
 in-append_new_front lans [] m h = h
 in-append_new_front lans (lan ∷ more) m h =

@@ -41,6 +41,7 @@ IsPartOfFile-from_part_of_slot files slot part e =
     IsPartOfFile-from_file_part files slot part
     (map_fault_ok from_file_fault (file_part files slot) part e)
 
+-- and its part is packed
 part_of_slot-Ok : (files : List FileText) (slot : Slot) (part : PartText)
     → part.name ≡ part_name slot → file_named files (file_name slot) ≡ Some part.bytes
     → IsWithinMaxPart part → part_of_slot files slot ≡ Ok part
@@ -71,6 +72,7 @@ record ArePartsAfter (files : List FileText) (before : List PartText) (names : L
   sizes : AllByRecursion IsWithinMaxPart rest
   count : length rest ≡ length names
 
+-- what is read after them is packed in the slots' order
 ArePartsAfter-from_parts_after : (files : List FileText) (before : List PartText) (names : List Slot)
     (parts : List PartText) → parts_after files before names ≡ Ok parts
     → ArePartsAfter files before names parts
@@ -95,6 +97,7 @@ ArePartsAfter-from_parts_after files before (name ∷ names) parts e =
       count = ap suc more.count;
     }
 
+-- and what is packed so is read
 parts_after-Ok : (files : List FileText) (before : List PartText) (names : List Slot)
     (rest : List PartText) → ArePacked files names rest → AllByRecursion IsWithinMaxPart rest
     → parts_after files before names ≡ Ok (before ++ rest)
@@ -125,10 +128,12 @@ DenotesBoundedTopology-from_read_topology : (text : List ℕ) (t : TopologyValue
 DenotesBoundedTopology-from_read_topology text t e =
     parse_topology-denotes text t (map_fault_ok Topology (parse_topology text) t e)
 
+-- and the topology that it denotes is parsed
 read_topology-Ok : (text : List ℕ) (t : TopologyValue) → DenotesBoundedTopology text t
     → read_topology text ≡ Ok t
 read_topology-Ok text t denotes = rw (parse_topology-from_denotes text t denotes) refl
 
+-- what is read is packed of the files
 AreReadParts-from_Ok : (files : List FileText) (certified : Bool) (parts : List PartText)
     → parts_before_limits certified files ≡ Ok parts → AreReadParts files certified parts
 unfolding parts_before_limits
@@ -156,6 +161,7 @@ AreReadParts-from_Ok files certified parts e =
     } in
     subst (λ (ps : List PartText). AreReadParts files certified ps) (sym more.in_order) all
 
+-- and what is packed of them is read
 parts_before_limits-Ok : (files : List FileText) (certified : Bool) (text : List ℕ) (t : TopologyValue)
     (parts : List PartText) → file_named files (codes "topology") ≡ Some text
     → DenotesBoundedTopology text t → ArePacked files (slots certified t) parts
@@ -206,6 +212,7 @@ pub packed_parts-Err : (files : List FileText) (certified : Bool) (fault : PackF
 unfolding packed_parts
 packed_parts-Err files certified fault e = rw (e) refl
 
+-- so what is read within the limits is packed
 pub IsPacked-from_packed_parts : (files : List FileText) (certified : Bool) (parts : List PartText)
     → packed_parts certified files ≡ Ok parts → IsPacked files certified parts
 unfolding packed_parts within_limits
@@ -222,6 +229,7 @@ IsPacked-from_packed_parts files certified parts e =
       size = leb-true (length (bundle_spelling parts)) max_bundle small;
     })
 
+-- and what is packed is read
 pub packed_parts-Ok : (files : List FileText) (certified : Bool) (parts : List PartText)
     → IsPacked files certified parts → packed_parts certified files ≡ Ok parts
 unfolding packed_parts within_limits
@@ -230,6 +238,7 @@ packed_parts-Ok files certified parts is =
     is.limits.sizes in
     rw (read, le-leb (length (bundle_spelling parts)) max_bundle is.limits.size) refl
 
+-- the files are packed as one list of parts
 pub IsPacked-unique : (files : List FileText) (certified : Bool) (ps qs : List PartText)
     → IsPacked files certified ps → IsPacked files certified qs → ps ≡ qs
 IsPacked-unique files certified ps qs p q =
@@ -237,6 +246,7 @@ IsPacked-unique files certified ps qs p q =
 
 -- ---- the names of the parts
 
+-- the parts have the names of their slots
 IsPartName-from_ArePacked : (files : List FileText) (slots : List Slot) (parts : List PartText)
     → ArePacked files slots parts → AllByRecursion (λ slot. IsPartName (part_name slot)) slots
     → AllByRecursion (λ part. IsPartName part.name) parts
@@ -248,6 +258,7 @@ IsPartName-from_ArePacked files (slot ∷ slots) (part ∷ parts) packed named =
   IsPartName-from_ArePacked files slots parts packed.2 named.1,
 )
 
+-- so each has a part's name
 pub IsPartName-from_IsPacked : (files : List FileText) (certified : Bool) (parts : List PartText)
     → IsPacked files certified parts → AllByRecursion (λ part. IsPartName part.name) parts
 IsPartName-from_IsPacked files certified parts is =

@@ -19,6 +19,7 @@ IsWithinMaxPart part = length part.bytes ≤ max_part
 abbrev pub IsPartOfFile : Option (List ℕ) → List ℕ → PartText → Type 0
 IsPartOfFile found name part = (part.name ≡ name) × (found ≡ Some part.bytes) × IsWithinMaxPart part
 
+-- bytes that aren't too many are the file's part
 IsPartOfFile-from_bytes : (found : Option (List ℕ)) (name : List ℕ) (part : PartText)
     → (bytes_within_max_part found >>= λ bytes. Ok (record { name = name; bytes = bytes })) ≡ Ok part
     → IsPartOfFile found name part
@@ -31,6 +32,7 @@ IsPartOfFile-from_bytes (Some bytes) name part e =
     subst (λ (p : PartText). IsPartOfFile (Some bytes) name p) is
     (refl, ap Some same, leb-true (length kept.0) max_part small)
 
+-- so it is for the file of a slot
 pub IsPartOfFile-from_file_part : (files : List FileText) (slot : Slot) (part : PartText)
     → file_part files slot ≡ Ok part
     → IsPartOfFile (file_named files (file_name slot)) (part_name slot) part

@@ -8,11 +8,13 @@ use Rattle.mc_files.specs.PartMismatch.{first_mismatch}
 
 -- ---- lists without a mismatch are equal
 
+-- by whether the first names are equal
 first_mismatch-None_more : (b : Bool) (o : Option ℕ)
     → (if b then option_map (λ n. n + 1) o else Some 0) ≡ None
     → (b ≡ true) × (o ≡ None)
 first_mismatch-None_more b o e = grind (arith, e)
 
+-- names without a mismatch are the same
 pub same_names-from_first_mismatch : (names others : List (List ℕ)) → first_mismatch names others ≡ None
     → names ≡ others
 same_names-from_first_mismatch [] [] e = refl
@@ -24,6 +26,7 @@ same_names-from_first_mismatch (name ∷ names) (other ∷ others) e =
     let rest = same_names-from_first_mismatch names others here.1 in
     cc
 
+-- and the same names have none
 pub first_mismatch-same_names : (names : List (List ℕ)) → first_mismatch names names ≡ None
 first_mismatch-same_names [] = refl
 first_mismatch-same_names (name ∷ names) =

@@ -19,6 +19,7 @@ use Rattle.mc_files.proofs.PackLemmas.{packed_parts-Ok}
 
 -- ---- the files are refused
 
+-- the fault is what packing answers
 IsPackAnswer-refused : {X : Type 0} (view : X → List PartText) (certified : Bool) (files : List FileText)
     (f : PackFault) → Gives IsIoOrMemory view (Err f) (parts_before_limits certified files)
     → IsPackAnswer certified files (Err f)
@@ -30,6 +31,7 @@ IsPackAnswer-refused view certified files Read given = tt
 IsPackAnswer-refused view certified files Write given = tt
 IsPackAnswer-refused view certified files Memory given = tt
 
+-- so it is where the contents are known
 pub IsPackAnswer-from_error : {X : Type 0} (view : X → List PartText) (contents : Option (List FileText))
     (certified : Bool) (r : Result (Unit {0}) PackFault) (f : PackFault)
     → GivesFromContents IsIoOrMemory contents view (Err f) (parts_before_limits certified) → r ≡ Err f
@@ -53,6 +55,7 @@ IsIoOrMemory-from_packed view certified files parts Read given is = tt
 IsIoOrMemory-from_packed view certified files parts Write given is = tt
 IsIoOrMemory-from_packed view certified files parts Memory given is = tt
 
+-- and so is one where the files are packed
 pub IsIoOrMemory-from_IsPacked : {X : Type 0} (view : X → List PartText) (certified : Bool)
     (files : List FileText) (parts : List PartText) (r : Result (Unit {0}) PackFault)
     (f : PackFault) → Gives IsIoOrMemory view (Err f) (parts_before_limits certified files) → r ≡ Err f
@@ -67,6 +70,7 @@ IsIoOrMemory-from_IsPacked view certified files parts r f given e is =
 abbrev IsTooLargeOrWrite : PackFault → Type 0
 IsTooLargeOrWrite fault = (fault ≡ TooLarge) ⊎ (fault ≡ Write)
 
+-- parts that aren't written: the answer is right
 IsPackAnswer-unwritten : (files : List FileText) (certified : Bool) (items : List PartText) (f : PackFault)
     → parts_before_limits certified files ≡ Ok items → IsTooLargeOrWrite f
     → (f ≡ TooLarge → ¬ AreWithinLimits items) → IsPackAnswer certified files (Err f)
@@ -76,6 +80,7 @@ IsPackAnswer-unwritten files certified items f read (inl is) beyond =
 IsPackAnswer-unwritten files certified items f read (inr is) beyond =
     subst (λ (x : PackFault). IsPackAnswer certified files (Err x)) (sym is) tt
 
+-- parts that are written, or not: the answer is right
 pub IsPackAnswer-written : (contents : Option (List FileText)) (certified : Bool)
     (items texts : List PartText)
     (old new : Option (List ℕ)) (r : Result (Unit {0}) PackFault)
@@ -92,6 +97,7 @@ IsPackAnswer-written (Some files) certified items texts old new (Err f) read sam
     IsPackAnswer-unwritten files certified items f (read files refl) faults
     (λ is. subst (λ (ps : List PartText). ¬ AreWithinLimits ps) same (beyond (ap (λ x. Err x) is)))
 
+-- parts that make a bundle are refused by a failed write alone
 IsIoOrMemory-from_write_fault : (files : List FileText) (certified : Bool) (items parts : List PartText)
     (f : PackFault) → parts_before_limits certified files ≡ Ok items → packed_parts certified files ≡ Ok parts
     → IsTooLargeOrWrite f → (f ≡ TooLarge → ¬ AreWithinLimits items) → IsIoOrMemory f
@@ -101,6 +107,7 @@ IsIoOrMemory-from_write_fault files certified items parts f read packed (inl is)
 IsIoOrMemory-from_write_fault files certified items parts f read packed (inr is) beyond =
     subst (λ (x : PackFault). IsIoOrMemory x) (sym is) tt
 
+-- so a fault in the bundle's place is silent
 pub IsIoOrMemory-written : (files : List FileText) (certified : Bool) (items texts parts : List PartText)
     (r : Result (Unit {0}) PackFault) → parts_before_limits certified files ≡ Ok items → texts ≡ items
     → IfErr r IsTooLargeOrWrite → (r ≡ Err TooLarge → ¬ AreWithinLimits texts)
@@ -111,6 +118,7 @@ IsIoOrMemory-written files certified items texts parts (Err f) read same faults 
     (packed_parts-Ok files certified parts is) faults
     (λ e. subst (λ (ps : List PartText). ¬ AreWithinLimits ps) same (beyond (ap (λ x. Err x) e)))
 
+-- what is written is the bundle of the files
 pub WritesPackedBundle-written : (contents : Option (List FileText)) (certified : Bool)
     (items texts : List PartText)
     (old new : Option (List ℕ)) (r : Result (Unit {0}) PackFault)
@@ -126,6 +134,7 @@ WritesPackedBundle-written (Some files) certified items texts old new (Ok x) rea
 )
 WritesPackedBundle-written (Some files) certified items texts old new (Err f) read same ok = tt
 
+-- and what a failed write leaves is a part of it, from its front
 pub WritesPackedPrefix-cut : (contents : Option (List FileText)) (certified : Bool)
     (items texts : List PartText)
     (old new : Option (List ℕ))

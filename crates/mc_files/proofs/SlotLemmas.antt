@@ -18,10 +18,12 @@ use Rattle.mc_files.proofs.PartNames.{IsPartName-append}
 
 -- ---- how many they are
 
+-- two for each router
 length-router_slots : (rs : List RouterRow) → length (flat_map router_slots rs) ≡ 2 * length rs
 length-router_slots [] = refl
 length-router_slots (r ∷ rs) = omega (arith, length-router_slots rs)
 
+-- at most one of a certificate
 length-certificate_slots : (certified : Bool) → length (certificate_slots certified) ≤ 1
 length-certificate_slots true = lit≤ tt
 length-certificate_slots false = lit≤ tt
@@ -40,6 +42,7 @@ length-slots_after_topology certified t =
       length-router_slots t.routers,
     )
 
+-- at most 1,537, of 256 routers, 1,024 LANs and a certificate
 pub slots_after_topology-at_most_1537 : (certified : Bool) (t : TopologyValue) → IsValidTopology t
     → length (slots_after_topology certified t) ≤ 1537
 slots_after_topology-at_most_1537 certified t is =
@@ -97,6 +100,7 @@ module _ (more : List Slot) where
       let same : l ≡ lan = cc in ap (λ n. Some (reports_slot n)) same
   slice_get-reports_slot (l ∷ lans) (suc k) lan at = slice_get-reports_slot lans k lan at
 
+  -- and those after them the next
   pub slice_get-after_lans : (lans : List (List ℕ)) (k : ℕ)
       → slice_get (map reports_slot lans ++ more) (k + length lans) ≡ slice_get more k
   slice_get-after_lans [] k = let same : k + 0 ≡ k = omega arith in ap (slice_get more) same
@@ -152,10 +156,12 @@ slots-certificate_slot true t n past within =
 
 -- ---- their names in a bundle
 
+-- the slot's name in a bundle is one that a part may have
 abbrev HasPartName : Slot → Type 0
 HasPartName slot = IsPartName (part_name slot)
 
 module _ (P : Slot → Type 0) where
+  -- what holds of a vif's and a cache's slot of each name holds of those of routers
   AllByRecursion-router_slots : (rs : List RouterRow)
       → ((n : ℕ) (r : RouterRow) → slice_get rs n ≡ Some r → IsTrue (is_name r.name))
       → ((name : List ℕ) → IsTrue (is_name name) → P (vif_slot name) × P (cache_slot name))
@@ -165,6 +171,7 @@ module _ (P : Slot → Type 0) where
       let here = each r.name (named 0 r refl) in
       (here.0, (here.1, AllByRecursion-router_slots rs (λ n q at. named (suc n) q at) each))
 
+  -- what holds of the slot of reports of each name holds of those of LANs
   AllByRecursion-reports_slots : (lans : List (List ℕ))
       → ((n : ℕ) (lan : List ℕ) → slice_get lans n ≡ Some lan → IsTrue (is_name lan))
       → ((name : List ℕ) → IsTrue (is_name name) → P (reports_slot name))
@@ -185,33 +192,42 @@ module _ (P : Slot → Type 0) where
       (AllByRecursion-append P (map reports_slot t.lans) (certificate_slots certified)
       (AllByRecursion-reports_slots t.lans is.valid_lan_names lans) last)
 
+-- topology is a name
 is_name-topology : is_name (codes "topology") ≡ true
 unfolding is_name
 is_name-topology = refl
 
+-- certificate is a name
 is_name-certificate : is_name (codes "certificate") ≡ true
 unfolding is_name
 is_name-certificate = refl
 
+-- vif/NAME is a part's name
 pub HasPartName-vif_slot : (name : List ℕ) → is_name name ≡ true → HasPartName (vif_slot name)
 HasPartName-vif_slot name is = IsPartName-append (codes "vif/") name refl (lit≤ tt) is
 
+-- cache/NAME is a part's name
 pub HasPartName-cache_slot : (name : List ℕ) → is_name name ≡ true → HasPartName (cache_slot name)
 HasPartName-cache_slot name is = IsPartName-append (codes "cache/") name refl (lit≤ tt) is
 
+-- igmp/NAME is a part's name
 pub HasPartName-reports_slot : (name : List ℕ) → is_name name ≡ true → HasPartName (reports_slot name)
 HasPartName-reports_slot name is = IsPartName-append (codes "igmp/") name refl (lit≤ tt) is
 
+-- topology is a part's name
 pub IsPartName-topology : IsPartName (codes "topology")
 IsPartName-topology = IsPartName-append [] (codes "topology") refl (lit≤ tt) is_name-topology
 
+-- certificate is a part's name
 pub IsPartName-certificate : IsPartName (codes "certificate")
 IsPartName-certificate = IsPartName-append [] (codes "certificate") refl (lit≤ tt) is_name-certificate
 
+-- the certificate's slot, if there is one, has a part's name
 HasPartName-certificate_slots : (certified : Bool) → AllByRecursion HasPartName (certificate_slots certified)
 HasPartName-certificate_slots true = (IsPartName-certificate, tt)
 HasPartName-certificate_slots false = tt
 
+-- each slot of a domain has a part's name
 pub HasPartName-slots : (certified : Bool) (t : TopologyValue) → IsValidTopology t
     → AllByRecursion HasPartName (slots certified t)
 HasPartName-slots certified t is = (
@@ -223,6 +239,7 @@ HasPartName-slots certified t is = (
 
 -- ---- their names in a folder
 
+-- the slot's name in a folder has bytes of names alone
 abbrev HasPlainFileName : Slot → Type 0
 HasPlainFileName slot = IsTrue (list_all is_name_byte (file_name slot))
 
@@ -233,11 +250,13 @@ list_all-is_name_byte name is =
     (and_parts (nat_le 1 (length name) && nat_le (length name) 32)
     (list_all is_name_byte name) is).1
 
+-- so has that of the certificate's slot, if there is one
 HasPlainFileName-certificate_slots : (certified : Bool)
     → AllByRecursion HasPlainFileName (certificate_slots certified)
 HasPlainFileName-certificate_slots true = (refl, tt)
 HasPlainFileName-certificate_slots false = tt
 
+-- so has that of each slot of a domain
 pub HasPlainFileName-slots : (certified : Bool) (t : TopologyValue) → IsValidTopology t
     → AllByRecursion HasPlainFileName (slots certified t)
 HasPlainFileName-slots certified t is = (

@@ -16,10 +16,12 @@ use Rattle.mc_forward.proofs.DomainLemmas.{placed-below_lan_count}
 abbrev pub ArePlacedBelow : Net → ℕ → Type 0
 ArePlacedBelow n lans = (r v l : ℕ) → n.placed r v ≡ Some l → l < lans
 
+-- the vifs of a domain are placed on its LANs
 pub are_placed_below-domain : (d : DomainValue) (flow : ℕ) → IsDomain d
     → ArePlacedBelow (net_of d flow) (length d.topology.lans)
 are_placed_below-domain d flow ok r v l e = placed-below_lan_count d r v ok (Some l) e
 
+-- after a copy was put on a LAN
 pub copies_in_domain-put : (n : Net) (lans routers : ℕ) (c : Copy) (f : Flight) →
     IsCopyInDomain lans routers c
     → AreCopiesInDomain lans routers f → AreCopiesInDomain lans routers (put n c f)
@@ -28,6 +30,7 @@ copies_in_domain-put n lans routers c f own all x h = elim (in-push_cases x f.ca
   | inr same ↦ subst (IsCopyInDomain lans routers) same own
 ]
 
+-- after one was sent by a vif
 copies_in_domain-leave : (n : Net) (lans routers : ℕ) → ArePlacedBelow n lans → (t r v : ℕ) → r < routers
     → (o : Option ℕ) → n.placed r v ≡ o → (f : Flight) → AreCopiesInDomain lans routers f
     → AreCopiesInDomain lans routers (leave n t (r, v) o f)
@@ -36,11 +39,13 @@ copies_in_domain-leave n lans routers below t r v lt (Some l) e f all =
     copies_in_domain-put n lans routers (record { lan = l; ttl = t; sender = Some (r, v) }) f
     (record { lan = below r v l e; sender = lt }) all
 
+-- in one of two flights
 copies_in_domain-cond : (lans routers : ℕ) (b : Bool) (f g : Flight) → AreCopiesInDomain lans routers f
     → AreCopiesInDomain lans routers g → AreCopiesInDomain lans routers (cond b f g)
 copies_in_domain-cond lans routers true f g h k = h
 copies_in_domain-cond lans routers false f g h k = k
 
+-- after copies were sent by several vifs
 copies_in_domain-sends : (n : Net) (lans routers : ℕ) → ArePlacedBelow n lans → (r t : ℕ) → r < routers
     → (ps : List (ℕ × ℕ)) (f : Flight) → AreCopiesInDomain lans routers f
     → AreCopiesInDomain lans routers (sends n r t ps f)
@@ -50,6 +55,7 @@ copies_in_domain-sends n lans routers below r t lt (p ∷ ps) f all =
     (copies_in_domain-cond lans routers (nat_lt p.1 t) (leave n (t - 1) (r, p.0) (n.placed r p.0) f) f
     (copies_in_domain-leave n lans routers below (t - 1) r p.0 lt (n.placed r p.0) refl f all) all)
 
+-- after a copy was handled by a row
 copies_in_domain-row : (n : Net) (lans routers : ℕ) → ArePlacedBelow n lans → (w : Waiting) →
     w.router < routers
     → (row : Row) (f : Flight) → AreCopiesInDomain lans routers f
@@ -60,6 +66,7 @@ copies_in_domain-row n lans routers below w lt (Exact incoming pairs) f all =
 copies_in_domain-row n lans routers below w lt Open f all = all
 copies_in_domain-row n lans routers below w lt NoRow f all = all
 
+-- after a step
 pub copies_in_domain-step : (n : Net) (lans routers : ℕ) → ArePlacedBelow n lans → (i : ℕ) (f : Flight)
     → WaitAtRouters routers f → AreCopiesInDomain lans routers f → AreCopiesInDomain lans routers (step n i f)
 copies_in_domain-step n lans routers below i f at all = by (slice_get f.waiting i) refl
@@ -75,6 +82,7 @@ pub copies_in_domain-none : (lans routers : ℕ) (f : Flight)
     → f ≡ record { carried = []; waiting = []; strays = [] } → AreCopiesInDomain lans routers f
 copies_in_domain-none lans routers f e = subst (AreCopiesInDomain lans routers) (sym e) (λ c h. absurd h)
 
+-- an item at a place is in the list
 in-at_index : {A : Type 0} (xs : List A) (k : ℕ) (d : A) → k < length xs → In (get_or xs k d) xs
 in-at_index [] k d lt = absurd (omega (arith, lt))
 in-at_index (x ∷ xs) zero d lt = inl refl

@@ -67,12 +67,14 @@ placed_in-below_lan_count t vifs router vif ok (Some lan) e = by_vif t router la
     by_vif t router lan ok (Some v) e = by_kind t router lan ok v
         ((v.tunnel || v.register) || bytes_eq v.device no_device) e
 
+-- so it is in a domain
 pub placed-below_lan_count : (d : DomainValue) (router vif : ℕ) → IsDomain d → (o : Option ℕ)
     → placed_of d router vif ≡ o → IfSome o (λ lan. lan < length d.topology.lans)
 placed-below_lan_count d router vif ok = placed_in-below_lan_count d.topology d.vifs router vif ok.topology
 
 -- ---- rows
 
+-- later ones of ascending numbers are above the first
 increasing-above_first : (x : ℕ) (xs : List ℕ) → IsStrictlyIncreasing (x ∷ xs) → (y : ℕ) → In y xs → x < y
 increasing-above_first x [] h y k = absurd k
 increasing-above_first x (z ∷ zs) h y k = (
@@ -91,6 +93,7 @@ distinct-from_increasing (x ∷ xs) h = (
   distinct-from_increasing xs (tail-ascends x xs h),
 )
 
+-- pairs as outgoing vifs have the same vifs
 map_vif-to_oif : (pairs : List (ℕ × ℕ)) → map (λ (o : Oif). o.vif) (map to_oif pairs)
     ≡ map (λ (p : ℕ × ℕ). p.0) pairs
 map_vif-to_oif [] = refl
@@ -103,6 +106,7 @@ is_valid_row-at_flow [] flow all = tt
 is_valid_row-at_flow (row ∷ own) zero all = all.0
 is_valid_row-at_flow (row ∷ own) (suc flow) all = is_valid_row-at_flow own flow all.1
 
+-- so are those of a router
 are_valid_rows-at_router : (rows : List (List Row)) (router : ℕ)
     → ((r : ℕ) (own : List Row) → slice_get rows r ≡ Some own → AllByRecursion IsValidRow own)
     → AllByRecursion IsValidRow (slice_index_or rows router [])
@@ -127,6 +131,7 @@ row_of-vifs_ascend d flow router v pairs ok e =
 
 -- ---- the laws
 
+-- the net of a flow has the laws of nets
 pub is_net-net_of : (d : DomainValue) (flow : ℕ) → IsDomain d → IsNet (net_of d flow)
 is_net-net_of d flow ok = record {
   router = λ r v l e. (let own = vif_exists-from_placed d.topology d.vifs r v l e in let lt =
@@ -137,6 +142,7 @@ is_net-net_of d flow ok = record {
       (row_of-vifs_ascend d flow r v pairs ok e);
 }
 
+-- a row with something true is one of the rows
 index-below_from_true : (rows : List (List Bool)) (i j : ℕ)
     → slice_index_or (slice_index_or rows i []) j false ≡ true → i < length rows
 index-below_from_true [] i j e = absurd cc
@@ -156,6 +162,7 @@ flow-exists_at_index [] i h = absurd (omega arith)
 flow-exists_at_index (f ∷ flows) zero h = (f, refl)
 flow-exists_at_index (f ∷ flows) (suc i) h = flow-exists_at_index flows i (omega arith)
 
+-- its source is on a LAN of the topology
 pub source-below_lan_count : (d : DomainValue) (flow : ℕ) → IsDomain d → flow < length d.topology.flows
     → source_of d flow < length d.topology.lans
 source-below_lan_count d flow ok h =
@@ -163,6 +170,7 @@ source-below_lan_count d flow ok h =
     subst (λ (o : Option Flow). unwrap_or (option_map (λ (f : Flow). f.lan) o) 0 < length
     d.topology.lans) (sym f.1) (ok.topology.valid_flows flow f.0 f.1).lan
 
+-- its TTL is 1 at least
 pub ttl-at_least_1 : (d : DomainValue) (flow : ℕ) → IsDomain d → flow < length d.topology.flows
     → 1 ≤ ttl_of d flow
 ttl-at_least_1 d flow ok h =
@@ -170,6 +178,7 @@ ttl-at_least_1 d flow ok h =
     subst (λ (o : Option Flow). 1 ≤ unwrap_or (option_map (λ (f : Flow). f.ttl) o) 0) (sym f.1)
     (ok.topology.valid_flows flow f.0 f.1).ttl_from
 
+-- and 255 at most
 pub ttl-at_most_255 : (d : DomainValue) (flow : ℕ) → IsDomain d → flow < length d.topology.flows
     → ttl_of d flow ≤ 255
 ttl-at_most_255 d flow ok h =
@@ -179,10 +188,12 @@ ttl-at_most_255 d flow ok h =
 
 -- ---- the look-up tables
 
+-- a row for each router
 pub length-vif_lans_of : (d : DomainValue) → length (vif_lans_of d) ≡ length d.topology.routers
 length-vif_lans_of d = length-map (below (length d.topology.routers))
     (λ (router : ℕ). map (placed_of d router) (below 32)) ∙ length-below (length d.topology.routers)
 
+-- a list for each LAN
 pub length-interfaces_of : (d : DomainValue) → length (interfaces_of d) ≡ length d.topology.lans
 length-interfaces_of d = length-map (below (length d.topology.lans)) (interfaces (net_of d 0))
     ∙ length-below (length d.topology.lans)

@@ -11,6 +11,7 @@ use Rattle.mc_theory.specs.Flights.{handle, without_waiting, step, waits_at, hea
 use Rattle.mc_theory.specs.Events.{Event, Outcome, outcome_by_row, event_of}
 use Rattle.mc_forward.specs.FlightsInDomain.{flight_of}
 
+-- one of the first list is taken away before or after a second is added
 remove-append : {A : Type 0} (xs ys : List A) (i : ℕ) → i < length xs
     → remove (xs ++ ys) i ≡ remove xs i ++ ys
 remove-append [] ys i lt = absurd (omega arith)
@@ -21,6 +22,7 @@ remove-append (x ∷ xs) ys (suc i) lt = ap (λ zs. x ∷ zs) (remove-append xs 
 abbrev LeavesWaitingInPlace : ℕ → (Flight → Flight) → Flight → Type 0
 LeavesWaitingInPlace i F f = (without_waiting i (F f) ≡ F (without_waiting i f)) × (i < length (F f).waiting)
 
+-- a copy that is put on a LAN
 leaves_waiting-put : (n : Net) (c : Copy) (i : ℕ) (f : Flight) → i < length f.waiting →
     LeavesWaitingInPlace i (put n c) f
 leaves_waiting-put n c i f lt = (
@@ -29,23 +31,27 @@ leaves_waiting-put n c i f lt = (
   omega (arith, length-append f.waiting (map (waits_at c.ttl) (hearers n c))),
 )
 
+-- one that is sent by a vif
 leaves_waiting-leave : (n : Net) (t : ℕ) (x : Interface) (o : Option ℕ) (i : ℕ) (f : Flight)
     → i < length f.waiting → LeavesWaitingInPlace i (leave n t x o) f
 leaves_waiting-leave n t x None i f lt = (refl, lt)
 leaves_waiting-leave n t x (Some l) i f lt =
     leaves_waiting-put n (record { lan = l; ttl = t; sender = Some x }) i f lt
 
+-- what is done under a condition
 leaves_waiting-cond : (b : Bool) (F : Flight → Flight) (i : ℕ) (f : Flight) → i < length f.waiting
     → LeavesWaitingInPlace i F f → LeavesWaitingInPlace i (λ g. cond b (F g) g) f
 leaves_waiting-cond true F i f lt h = h
 leaves_waiting-cond false F i f lt h = (refl, lt)
 
+-- what one pair sends
 leaves_waiting-send : (n : Net) (r t : ℕ) (p : ℕ × ℕ) (i : ℕ) (f : Flight) → i < length f.waiting
     → LeavesWaitingInPlace i (send n r t p) f
 leaves_waiting-send n r t p i f lt =
     leaves_waiting-cond (nat_lt p.1 t) (leave n (t - 1) (r, p.0) (n.placed r p.0)) i f lt
     (leaves_waiting-leave n (t - 1) (r, p.0) (n.placed r p.0) i f lt)
 
+-- what all pairs send
 leaves_waiting-sends : (n : Net) (r t : ℕ) (ps : List (ℕ × ℕ)) (i : ℕ) (f : Flight) → i < length f.waiting
     → LeavesWaitingInPlace i (sends n r t ps) f
 leaves_waiting-sends n r t [] i f lt = (refl, lt)
@@ -54,6 +60,7 @@ leaves_waiting-sends n r t (p ∷ ps) i f lt =
     let rest = leaves_waiting-sends n r t ps i (send n r t p f) one.1 in
     (rest.0 ∙ ap (sends n r t ps) one.0, rest.1)
 
+-- a copy that is handled by a row
 leaves_waiting-row : (n : Net) (w : Waiting) (row : Row) (i : ℕ) (f : Flight) → i < length f.waiting
     → LeavesWaitingInPlace i (handle_by_row n w row) f
 leaves_waiting-row n w (Exact incoming pairs) i f lt =

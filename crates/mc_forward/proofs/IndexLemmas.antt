@@ -30,9 +30,11 @@ each_by_index-push {A} R xs now y k more size here each i z at =
       | inr last ↦ subst (R i) last.1 (subst (λ n. R n y) (sym size ∙ last.0) here)
     ]
 
+-- an option has one item
 item_equal-from_some : {A : Type 0} (o : Option A) (x z : A) → o ≡ Some x → o ≡ Some z → x ≡ z
 item_equal-from_some o x z a b = cc
 
+-- the next items of both lists
 pub related_at_each_index-push : {A B : Type 0} (R : A → B → Type 0) (xs : List A) (ys : List B)
     (x : A) (y : B)
     → RelatedAtEachIndex R xs ys
@@ -58,6 +60,7 @@ take-one_more xs i x e =
     take_more xs i x (slice_get_within xs i x e)
     ∙ ap (λ y. take i xs ++ y ∷ []) (get_or_from_slice_get xs i x x e)
 
+-- the front of a list whose items are known by their places
 take-map_below : {A : Type 0} (xs : List A) (f : ℕ → A) (d : A)
     → ((i : ℕ) → i < length xs → get_or xs i d ≡ f i)
     → (k : ℕ) → k ≤ length xs → take k xs ≡ map f (below k)
@@ -87,6 +90,7 @@ pub length-push : {A : Type 0} (ys now : List A) (y : A) (k : ℕ) → now ≡ y
 length-push ys now y k more size = ap length more ∙ length-append ys (y ∷ [])
     ∙ (let e : length ys + 1 ≡ k + 1 = omega (arith, size) in e)
 
+-- and so are both lists related
 pub related_at_each_index-pushed_list : {A B : Type 0} (R : A → B → Type 0) (xs : List A)
     (ys now : List B) (x : A)
     (y : B) (k : ℕ) → now ≡ ys ++ y ∷ []
@@ -101,6 +105,7 @@ pub slice_get-from_read : {A : Type 0} (xs : List A) (i : ℕ) (x : A) → i < l
     → slice_get xs i ≡ Some x
 slice_get-from_read xs i x lt read = slice_get_read xs (length xs) i x refl lt read
 
+-- a number below k + 1 is below k, or is k
 below_or_last : (i k : ℕ) → i < k + 1 → (i < k) ⊎ (k ≡ i)
 below_or_last i k h = grind arith
 

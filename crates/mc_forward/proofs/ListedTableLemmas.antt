@@ -12,6 +12,7 @@ use Rattle.mc_forward.specs.RouterTables.{RouterTablesValue, kept_of_tables, rou
 use Rattle.mc_forward.specs.RouterTables.{with_router}
 use Rattle.mc_forward.proofs.BelowLemmas.{map-push}
 
+-- one of two is true if the second is
 or-true : (b : Bool) → (b || true) ≡ true
 or-true b = grind arith
 
@@ -32,6 +33,7 @@ row_in_cache-of_listed_part flows part whole listed k f at =
     rw (listed.cache.entries (f.source, f.group) (is_listed-of_flow flows k f at), listed.cache.wildcards)
     refl
 
+-- images are the same if they are at each place
 map-equal_at_each_index : {A B : Type 0} (xs : List A) (f g : A → B)
     → ((k : ℕ) (x : A) → slice_get xs k ≡ Some x → f x ≡ g x) → map f xs ≡ map g xs
 map-equal_at_each_index [] f g each = refl
@@ -65,12 +67,14 @@ module _ {A B : Type 0} (R : A → B → Type 0) where
   pairwise-more (z ∷ xs) [] x y are one = absurd are
   pairwise-more (z ∷ xs) (w ∷ ys) x y are one = (are.0, pairwise-more xs ys x y are.1 one)
 
+  -- both have as many items
   pub pairwise-count : (xs : List A) (ys : List B) → Pairwise R xs ys → length xs ≡ length ys
   pairwise-count [] [] are = refl
   pairwise-count [] (y ∷ ys) are = absurd are
   pairwise-count (x ∷ xs) [] are = absurd are
   pairwise-count (x ∷ xs) (y ∷ ys) are = ap suc (pairwise-count xs ys are.1)
 
+  -- those at the same place are related
   pub pairwise-each : (xs : List A) (ys : List B) → Pairwise R xs ys → RelatedAtEachIndex R xs ys
   pairwise-each [] [] are k x y at here = absurd cc
   pairwise-each [] (w ∷ ys) are k x y at here = absurd are

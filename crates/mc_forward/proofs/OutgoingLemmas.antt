@@ -8,13 +8,16 @@ use Rattle.mc_tables.specs.CacheTable.{EntryValue, IsValidEntry}
 use Rattle.mc_tables.specs.declared.cache.entry.Oif.{Oif}
 use Rattle.mc_tables.proofs.EntryLemmas.{tail-ascends}
 
+-- vifs and thresholds are those that a kernel may have
 abbrev AreInRange : List Oif → Type 0
 AreInRange oifs =
     AllByRecursion (λ oif. (oif.vif ≤ 31) × (1 ≤ oif.threshold) × (oif.threshold ≤ 254)) oifs
 
+-- vifs ascend
 abbrev Ascend : List Oif → Type 0
 Ascend oifs = IsStrictlyIncreasing (map (λ (o : Oif). o.vif) oifs)
 
+-- a vif leaves room for those after it, up to 31
 vif_plus_length-at_most_32 : (oif : Oif) (oifs : List Oif) → Ascend (oif ∷ oifs) → AreInRange (oif ∷ oifs)
     → oif.vif + length (oif ∷ oifs) ≤ 32
 vif_plus_length-at_most_32 oif [] up within = omega (arith, within.0.0)
@@ -25,6 +28,7 @@ vif_plus_length-at_most_32 oif (next ∷ oifs) up within =
     within.1 in
     omega (arith, first, rest)
 
+-- the first k are lower than a vif if that leaves too little room for the others
 take-lower_vifs : (oifs : List Oif) (k vif : ℕ) → Ascend oifs → AreInRange oifs → k ≤ length oifs
     → k + 32 ≤ vif + length oifs → AllByRecursion (λ (o : Oif). o.vif < vif) (take k oifs)
 take-lower_vifs oifs zero vif up within few here = tt
@@ -36,6 +40,7 @@ take-lower_vifs (oif ∷ oifs) (suc k) vif up within few here =
           (omega (arith, few)) (omega (arith, here)),
     )
 
+-- so are those of an entry, or there are none
 take-lower_vifs_of_entry : (entry : EntryValue) (k vif : ℕ) → IsValidEntry entry → k ≤ length entry.oifs
     → (k ≡ 0) ⊎ (k + 32 ≤ vif + length entry.oifs)
     → AllByRecursion (λ (o : Oif). o.vif < vif) (take k entry.oifs)
@@ -44,6 +49,7 @@ take-lower_vifs_of_entry entry k vif ok few (inl e) =
 take-lower_vifs_of_entry entry k vif ok few (inr here) =
     take-lower_vifs entry.oifs k vif ok.ascending ok.ranges few here
 
+-- a front and the rest are the whole
 append-take_and_drop : (k : ℕ) (oifs : List Oif)
     → take k oifs ++ take (length oifs - k) (drop k oifs) ≡ oifs
 append-take_and_drop k oifs =
@@ -56,6 +62,7 @@ append-take_and_drop k oifs =
     take-drop (suc k) [] = refl
     take-drop (suc k) (o ∷ oifs) = ap (λ (os : List Oif). o ∷ os) (take-drop k oifs)
 
+-- how many are in front: none, or as many as are lower for certain
 none_or_fits : (vif n k : ℕ) → k ≡ min (vif + n - 32) n → (k ≡ 0) ⊎ (k + 32 ≤ vif + n)
 none_or_fits vif n k e = grind arith
 

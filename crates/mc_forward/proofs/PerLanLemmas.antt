@@ -13,6 +13,7 @@ use Rattle.mc_forward.specs.PerLan.{item_on_lan, first_with_key, HoldsFirstOfEac
 
 -- ---- the first of a key, with one item more
 
+-- an item is the first one if there was none
 first_with_key-push : {A : Type 0} (key : A → ℕ) (xs : List A) (x : A) (n : ℕ) →
     first_with_key key xs n ≡ None
     → first_with_key key (xs ++ x ∷ []) n ≡ first_with_key key (x ∷ []) n
@@ -26,6 +27,7 @@ first_with_key-push {A} key (y ∷ xs) x n none = by (key y == n) none (first_wi
     by true none rest = absurd cc
     by false none rest = rest none
 
+-- an item of another key changes nothing
 first_with_key-push_other_key : {A : Type 0} (key : A → ℕ) (xs : List A) (x : A) (n : ℕ) →
     (key x == n) ≡ false
     → first_with_key key (xs ++ x ∷ []) n ≡ first_with_key key xs n
@@ -33,6 +35,7 @@ first_with_key-push_other_key key [] x n other = ap (λ (b : Bool). cond b (Some
 first_with_key-push_other_key key (y ∷ xs) x n other =
     ap (cond (key y == n) (Some y)) (first_with_key-push_other_key key xs x n other)
 
+-- nor does an item after the first one
 first_with_key-push_again : {A : Type 0} (key : A → ℕ) (xs : List A) (x y : A) (n : ℕ)
     → first_with_key key xs n ≡ Some y → first_with_key key (xs ++ x ∷ []) n ≡ Some y
 first_with_key-push_again key [] x y n some = absurd cc
@@ -47,6 +50,7 @@ first_with_key-push_again {A} key (z ∷ xs) x y n some =
 
 -- ---- what is held, once an item was put
 
+-- the item is held where it was put
 item_on_lan-slice_set_same : {A : Type 0} (places : List (Option A)) (x : A) (n : ℕ) → n < length places
     → item_on_lan (slice_set places n (Some x)) n ≡ Some x
 item_on_lan-slice_set_same [] x n lt = absurd (omega (arith, lt))
@@ -54,6 +58,7 @@ item_on_lan-slice_set_same (p ∷ places) x zero lt = refl
 item_on_lan-slice_set_same (p ∷ places) x (suc n) lt =
     item_on_lan-slice_set_same places x n (omega (arith, lt))
 
+-- what was held elsewhere is held still
 item_on_lan-slice_set_other : {A : Type 0} (places : List (Option A)) (x : A) (n m : ℕ) → n ≢ m
     → item_on_lan (slice_set places n (Some x)) m ≡ item_on_lan places m
 item_on_lan-slice_set_other [] x n m other = refl
@@ -65,6 +70,7 @@ item_on_lan-slice_set_other (p ∷ places) x (suc n) (suc m) other =
 
 -- ---- item by item
 
+-- nothing is held at first
 item_on_lan-replicate_none : {A : Type 0} (lans n : ℕ) → item_on_lan {A = A} (replicate lans None) n ≡ None
 item_on_lan-replicate_none zero n = refl
 item_on_lan-replicate_none (suc lans) zero = refl
@@ -138,11 +144,13 @@ length-after_put places now n x false is kept = ap length (kept refl)
 
 -- ---- entries and copies
 
+-- the first entry of a LAN
 pub first_with_key-entry_on : (es : List Entry) (l : ℕ) →
     first_with_key (λ (e : Entry). e.lan) es l ≡ entry_on es l
 first_with_key-entry_on [] l = refl
 first_with_key-entry_on (e ∷ es) l = ap (cond (e.lan == l) (Some e)) (first_with_key-entry_on es l)
 
+-- the first copy on a LAN
 pub first_with_key-first_copy_on : (cs : List Copy) (l : ℕ) →
     first_with_key (λ (c : Copy). c.lan) cs l ≡ first_copy_on cs l
 first_with_key-first_copy_on [] l = refl

@@ -46,6 +46,7 @@ row_of-rows_of_router d router flow own r rows row =
 
 -- ---- the entry of a row is one that a kernel may have
 
+-- outgoing vifs are got back from their pairs
 map_to_oif-oif_pairs : (oifs : List Oif) → map to_oif (oif_pairs oifs) ≡ oifs
 map_to_oif-oif_pairs [] = refl
 map_to_oif-oif_pairs (o ∷ oifs) = ap (λ (os : List Oif). o ∷ os) (map_to_oif-oif_pairs oifs)
@@ -53,6 +54,7 @@ map_to_oif-oif_pairs (o ∷ oifs) = ap (λ (os : List Oif). o ∷ os) (map_to_oi
 abbrev entry_with : ℕ → List Oif → EntryValue
 entry_with iif oifs = record { iif = iif; oifs = oifs }
 
+-- a row is valid if its entry is
 pub is_valid_row-row_value : (r : RowFor) → HasValidEntry r → IsValidRow (row_value r)
 is_valid_row-row_value row.Open ok = tt
 is_valid_row-row_value row.NoRow ok = tt
@@ -60,6 +62,7 @@ is_valid_row-row_value (row.Exact entry) ok =
     subst (λ (oifs : List Oif). IsValidEntry (entry_with entry.iif oifs))
     (sym (map_to_oif-oif_pairs entry.oifs)) ok
 
+-- and only then
 has_valid_entry-row_value : (r : RowFor) → IsValidRow (row_value r) → HasValidEntry r
 has_valid_entry-row_value row.Open ok = tt
 has_valid_entry-row_value row.NoRow ok = tt
@@ -67,6 +70,7 @@ has_valid_entry-row_value (row.Exact entry) ok =
     subst (λ (oifs : List Oif). IsValidEntry (entry_with entry.iif oifs))
     (map_to_oif-oif_pairs entry.oifs) ok
 
+-- so it is for a row of a domain
 pub has_valid_entry-from_row_value : (d : DomainValue) (flow router : ℕ) (r : RowFor) → IsDomain d
     → row_value r ≡ row_of d flow router → HasValidEntry r
 has_valid_entry-from_row_value d flow router r ok same =
@@ -74,6 +78,7 @@ has_valid_entry-from_row_value d flow router r ok same =
 
 -- ---- loops
 
+-- the images under the identity
 pub map-same : {A : Type 0} (xs : List A) → map (λ x. x) xs ≡ xs
 map-same [] = refl
 map-same (x ∷ xs) = let rest = map-same xs in cc

@@ -23,12 +23,14 @@ row_at None flow = NoRow
 row_at (Some own) None = NoRow
 row_at (Some own) (Some flow) = row_in_cache own.cache flow
 
+-- a router's row for a flow, by its cache
 rows_of_cache-at_flow : (own : TablesValue) (flows : List Flow) (flow : ℕ)
     → get_or (map (row_in_cache own.cache) flows) flow NoRow ≡ row_at (Some own) (slice_get flows flow)
 rows_of_cache-at_flow own [] flow = refl
 rows_of_cache-at_flow own (f ∷ flows) zero = refl
 rows_of_cache-at_flow own (f ∷ flows) (suc flow) = rows_of_cache-at_flow own flows flow
 
+-- so it is for each router
 pub rows_by_tables-at_router : (flows : List Flow) (tables : List TablesValue) (flow router : ℕ)
     → get_or (get_or (rows_by_tables flows tables) router []) flow NoRow
     ≡ row_at (slice_get tables router) (slice_get flows flow)

@@ -5,6 +5,7 @@ use Rattle.mc_tables.specs.declared.cache.entry.Oif.{Oif}
 use Rattle.mc_theory.specs.CertificateOfCopies.{threshold_of}
 use Rattle.mc_forward.specs.Domains.{oif_pairs}
 
+-- lower vifs in front don't change a vif's threshold
 threshold_of-append_lower_more : (vif : ℕ) (lower rest : List Oif)
     → AllByRecursion (λ (o : Oif). o.vif < vif) lower
     → threshold_of vif (oif_pairs rest) ≡ threshold_of vif (oif_pairs (lower ++ rest))
@@ -14,6 +15,7 @@ threshold_of-append_lower_more vif (o ∷ lower) rest are =
     ∙ (let other : (o.vif == vif) ≡ false = grind arith in
     ap (λ b. cond b o.threshold (threshold_of vif (oif_pairs (lower ++ rest)))) (sym other))
 
+-- so it is the same with what is in front of the rest
 pub threshold_of-append_lower : (vif : ℕ) (rest oifs : List Oif)
     → (lower : List Oif) × (lower ++ rest ≡ oifs)
     × AllByRecursion (λ (o : Oif). o.vif < vif) lower

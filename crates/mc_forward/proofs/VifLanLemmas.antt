@@ -25,6 +25,7 @@ use Rattle.mc_forward.proofs.UnknownRouterLemmas.{placed_of-none_past_last_route
 
 -- ---- one vif more
 
+-- the vifs on a LAN, with the next one
 vifs_on-more : (vif_lans : List (Option ℕ)) (router lan k : ℕ)
     → vifs_on vif_lans router lan (below (k + 1)) ≡ vifs_on vif_lans router lan
     (below k) ++ vifs_on vif_lans router lan (k ∷ [])
@@ -35,11 +36,13 @@ vifs_on-more vif_lans router lan k =
     ∙ ap (map pair) (filter-append test (below k) (k ∷ []))
     ∙ map-append pair (filter test (below k)) (filter test (k ∷ []))
 
+-- one vif, if it is there
 map-filter_of_one : (router k : ℕ) (b : Bool) → map {B = Interface} (λ (vif : ℕ). (router, vif))
     (cond b (k ∷ []) []) ≡ cond b ((router, k) ∷ []) []
 map-filter_of_one router k true = refl
 map-filter_of_one router k false = refl
 
+-- of one vif: it is on the LAN, or nothing is
 vifs_on-single : (vif_lans : List (Option ℕ)) (router lan k : ℕ) (b : Bool)
     → is_lan (slice_index_or vif_lans k None) lan ≡ b
     → vifs_on vif_lans router lan (k ∷ []) ≡ cond b ((router, k) ∷ []) []
@@ -65,6 +68,7 @@ vifs_on-more_unplaced vif_lans router lan k old now e h =
     (sym (vifs_on-single vif_lans router lan k false e))
     ∙ sym (vifs_on-more vif_lans router lan k))
 
+-- this vif on this LAN
 vifs_on-more_placed : (vif_lans : List (Option ℕ)) (router lan k : ℕ) (old now : List Interface)
     → is_lan (slice_index_or vif_lans k None) lan ≡ true
     → now ≡ old ++ vifs_on vif_lans router lan (below k)
@@ -110,6 +114,7 @@ have_vifs-more_placed start lists vif_lans router k q own next within read is at
 
 -- ---- one router more
 
+-- items are picked before they are mapped, or after
 filter-map : {A B : Type 0} (p : B → Bool) (f : A → B) (xs : List A)
     → filter p (map f xs) ≡ map f (filter (λ x. p (f x)) xs)
 filter-map p f [] = refl
@@ -122,6 +127,7 @@ filter-map p f (x ∷ xs) = step p f x xs (p (f x)) (filter-map p f xs)
     step p f x xs true e = ap (λ ys. f x ∷ ys) e
     step p f x xs false e = e
 
+-- the vifs of one router more come after the others
 router_vif_pairs-more : (r : ℕ) →
     router_vif_pairs 32 (r + 1) ≡ router_vif_pairs 32 r ++ map {B = Interface} (λ (v : ℕ). (r, v))
     (below 32)
@@ -131,6 +137,7 @@ router_vif_pairs-more r =
     (r ∷ [])
     ∙ ap (λ is. router_vif_pairs 32 r ++ is) (append-nil (map {B = Interface} (λ (v : ℕ). (r, v)) (below 32)))
 
+-- so do its interfaces on a LAN
 pub interfaces_by_vif_lans-more : (vif_lans : List (List (Option ℕ))) (r lan : ℕ)
     → interfaces_by_vif_lans vif_lans (r + 1) lan ≡ interfaces_by_vif_lans vif_lans r lan ++ vifs_on
     (slice_index_or vif_lans r []) r lan (below 32)
@@ -143,6 +150,7 @@ interfaces_by_vif_lans-more vif_lans r lan =
 
 -- ---- the table of a domain
 
+-- the table has the LAN of each vif
 vif_lan_in-placed_of : (d : DomainValue) (vif_lans : List (List (Option ℕ)))
     → AreVifs d.topology d.vifs → vif_lans ≡ vif_lans_of d → (router vif : ℕ)
     → vif_lan_in vif_lans router vif ≡ placed_of d router vif
@@ -160,6 +168,7 @@ vif_lan_in-placed_of d vif_lans ok e router vif = elim (cases_lt router (length 
       ∙ sym (placed_of-none_past_last_router d ok router vif past))
 ]
 
+-- these are LANs of the topology
 pub vif_lan_in-below_lan_count : (d : DomainValue) (vif_lans : List (List (Option ℕ)))
     → IsValidTopology d.topology → AreVifs d.topology d.vifs → vif_lans ≡ vif_lans_of d
     → (router vif lan : ℕ) → vif_lan_in vif_lans router vif ≡ Some lan → lan < length d.topology.lans
@@ -167,6 +176,7 @@ vif_lan_in-below_lan_count d vif_lans rules ok e router vif lan at =
     placed_in-below_lan_count d.topology d.vifs router vif rules (Some lan)
     (sym (vif_lan_in-placed_of d vif_lans ok e router vif) ∙ at)
 
+-- the interfaces of each LAN, by where vifs are placed
 filter-by_placed_of : (d : DomainValue) (place : ℕ → ℕ → Option ℕ) (routers : ℕ) → place ≡ placed_of d
     → routers ≡ length d.topology.routers
     → map (λ lan. filter (λ (i : Interface). is_lan (place i.0 i.1) lan) (router_vif_pairs 32 routers))
@@ -179,6 +189,7 @@ filter-by_placed_of d place routers e size =
     ∙ ap (λ (n : ℕ). map (λ lan. filter (λ (i : Interface). is_lan (placed_of d i.0 i.1) lan)
     (router_vif_pairs 32 n)) lans) size
 
+-- so by the table they are those of the domain
 pub interfaces_by_vif_lans-interfaces_of : (d : DomainValue) (vif_lans : List (List (Option ℕ)))
     → AreVifs d.topology d.vifs → vif_lans ≡ vif_lans_of d
     → map (interfaces_by_vif_lans vif_lans (length vif_lans)) (below (length d.topology.lans))
@@ -207,6 +218,7 @@ map_below-push f xs ys k x done more is =
     more ∙ ap (λ zs. zs ++ x ∷ []) done ∙ ap (λ y. map f (below k) ++ y ∷ []) is
     ∙ sym (map_below-more f k)
 
+-- a list by no numbers
 pub map_below-none : {A : Type 0} (f : ℕ → A) (xs : List A) → xs ≡ [] → xs ≡ map f (below 0)
 unfolding below
 map_below-none f xs e = e

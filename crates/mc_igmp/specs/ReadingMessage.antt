@@ -1,4 +1,6 @@
--- What the bytes of a message are read as, from the front: the message, or the first fault.
+-- What the bytes of a message are read as: the message, or the first fault. Types (RFC 3376,
+-- section 4): 0x22 is a Version 3 report, 0x12 a Version 1 and 0x16 a Version 2 report; every other
+-- message is kept by its type.
 use Rattle.std.specs.Prelude.{ℕ, ◌==◌, ◌%◌, ◌&&◌, ◌||◌, nat_lt, List, [], ◌∷◌, length, drop}
 use Rattle.std.specs.Prelude.{slice_index, Result, Ok, Err, if◌then◌else◌}
 use Rattle.mc_igmp.specs.declared.message.Message.{Message}

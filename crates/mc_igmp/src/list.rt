@@ -188,8 +188,8 @@ impl ReportList {
         Ok(list)
     }
 
-    // Appends the records of the message on a line. `message` is a buffer for the bytes of the message,
-    // of which the first `decoded` are decoded already.
+    /// Appends the records of the message on a line. `message` is a buffer for the bytes of the message,
+    /// of which the first `decoded` are decoded already.
     pub(crate) fn push_line(
         &mut self,
         line: &Line<'_>,
@@ -211,7 +211,7 @@ impl ReportList {
         Ok(())
     }
 
-    // Appends the records of a report.
+    /// Appends the records of a report.
     fn append(&mut self, records: &Records<'_>) -> Result<(), AllocError>
         ensures { OnOk result (self.new ≡ self.old ++ records.now) }
     {
@@ -223,7 +223,7 @@ impl ReportList {
         self.append_bytes(count, bytes)
     }
 
-    // Appends the `count` group records that the bytes are.
+    /// Appends the `count` group records that the bytes are.
     fn append_bytes(&mut self, count: usize, bytes: &[u8]) -> Result<(), AllocError>
         requires whole { AreWholeRecords count bytes.now }
         ensures appended { OnOk result (self.new ≡ self.old ++ records_in count bytes.now) }

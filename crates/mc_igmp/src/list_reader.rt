@@ -55,7 +55,7 @@ struct LineReader {
 }
 
 impl LineReader {
-    // Decodes the digits at the front of the bytes, if a line begins there.
+    /// Decodes the digits at the front of the bytes, if a line begins there.
     fn decode_ahead(&mut self, rest: &[u8])
         ensures ahead { IsDecodedAhead rest.now self.new.message.items self.new.decoded }
         ensures split { (self.new.begun.items ≡ []) ⊎ (self.new.decoded ≡ 0) }
@@ -70,8 +70,8 @@ impl LineReader {
         }
     }
 
-    // The place where the line ends, if it does. Its digits are decoded on the way, so that they aren't
-    // searched for the line's end.
+    /// The place where the line ends, if it does. Its digits are decoded on the way, so that they aren't
+    /// searched for the line's end.
     fn find_line_end(&mut self, rest: &[u8]) -> Option<usize>
         ensures end { result ≡ position (λ b. b == 10) rest.now }
         ensures ahead { IfSome result (λ end. IsDecodedAhead
@@ -84,8 +84,8 @@ impl LineReader {
         line_feed_after_digits(2 * self.decoded, rest)
     }
 
-    // Reads the line that ends here: the bytes that have begun it, if it is split between pieces, and
-    // these.
+    /// Reads the line that ends here: the bytes that have begun it, if it is split between pieces, and
+    /// these.
     fn end_line(&mut self, bytes: &[u8]) -> Result<(), ListFault>
         requires few { self.old.ended < u32.MAX }
         requires ahead { IsDecodedAhead
@@ -109,7 +109,7 @@ impl LineReader {
         Ok(())
     }
 
-    // Reads the lines that end in a piece, and keeps the bytes after them.
+    /// Reads the lines that end in a piece, and keeps the bytes after them.
     fn read_piece(&mut self, piece: &[u8]) -> Result<(), ListFault>
         requires few { self.old.ended + (length self.old.begun.items + length piece.now)
             < u32.MAX }

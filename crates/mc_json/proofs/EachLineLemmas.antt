@@ -28,6 +28,7 @@ use Rattle.mc_json.specs.RowData.{line_of, list_data}
 use Rattle.mc_json.proofs.ObjectLemmas.{are_object_lines-append, are_object_lines-flat_map}
 use Rattle.mc_json.proofs.ObjectLemmas.{are_object_lines-none, are_object_lines-one}
 
+-- the first line, on the domain
 pub are_object_lines-domain : (d : DomainFacts) (words : List (List ℕ))
     → AreObjectLines (line_of (domain_data d words))
 unfolding escape_byte
@@ -35,11 +36,13 @@ are_object_lines-domain d words = are_object_lines-one (domain_data d words) ref
 
 -- ---- flows
 
+-- a tree
 pub are_object_lines-tree : (t : TopologyValue) (n : Net) (es : List Entry) (tree : ℕ)
     → AreObjectLines (line_of (tree_data t n es tree))
 unfolding escape_byte
 are_object_lines-tree t n es tree = are_object_lines-one (tree_data t n es tree) refl refl
 
+-- a right flow
 pub are_object_lines-right : (whole : Bool) (number : ℕ) (f : Flow) (copies tree : ℕ) (wanted : List Data)
     → AreObjectLines (line_of (right_data whole number f copies tree wanted))
 unfolding escape_byte
@@ -48,11 +51,13 @@ are_object_lines-right true number f copies tree wanted =
 are_object_lines-right false number f copies tree wanted =
     are_object_lines-one (right_data false number f copies tree wanted) refl refl
 
+-- a flow with a finding, of given members
 pub are_object_lines-wrong_flow : (number : ℕ) (f : Flow) (w : WrongFlow)
     → AreObjectLines (line_of (wrong_data number f w))
 unfolding escape_byte
 are_object_lines-wrong_flow number f w = are_object_lines-one (wrong_data number f w) refl refl
 
+-- so it is for the line that is written
 pub are_object_lines-wrong : (d : DomainFacts) (number : ℕ) (f : Flow) (certainty : Certainty) (found_ttl : ℕ)
     (finding : Finding) (events : List Event) (also : List ℕ) (behind : Data) (why : List Data)
     (events_asked : Bool)
@@ -64,18 +69,21 @@ are_object_lines-wrong d number f certainty found_ttl finding events also behind
 
 -- ---- after the flows
 
+-- a source and a group that aren't listed
 are_object_lines-unlisted : (t : TopologyValue) (source group : ℕ) (routers : List ℕ)
     → AreObjectLines (line_of (unlisted_data t source group routers))
 unfolding escape_byte
 are_object_lines-unlisted t source group routers =
     are_object_lines-one (unlisted_data t source group routers) refl refl
 
+-- how many further ones there are, if any
 are_object_lines-unlisted_more : (rows : ℕ) (none : Bool)
     → AreObjectLines (cond none [] (line_of (unlisted_more_data rows)))
 unfolding escape_byte
 are_object_lines-unlisted_more rows true = are_object_lines-none
 are_object_lines-unlisted_more rows false = are_object_lines-one (unlisted_more_data rows) refl refl
 
+-- all lines on unlisted ones
 pub are_object_lines-all_unlisted : (all : Bool) (t : TopologyValue) (summary : List SummaryValue)
     → AreObjectLines (unlisted_lines all t summary)
 are_object_lines-all_unlisted all t summary =
@@ -86,6 +94,7 @@ are_object_lines-all_unlisted all t summary =
     pair.0.0 pair.1))
     (are_object_lines-unlisted_more more (more == 0))
 
+-- the routers that are excluded, if any
 are_object_lines-without_line_of : (t : TopologyValue) (routers : List ℕ)
     → AreObjectLines (without_line_of t routers)
 unfolding escape_byte
@@ -93,10 +102,12 @@ are_object_lines-without_line_of t [] = are_object_lines-none
 are_object_lines-without_line_of t (router ∷ routers) = are_object_lines-one
     (single_member (codes "without") (routers_data t (router ∷ routers))) refl refl
 
+-- so it is for marked routers
 pub are_object_lines-without : (t : TopologyValue) (excluded : List Bool)
     → AreObjectLines (without_line t excluded)
 are_object_lines-without t excluded = are_object_lines-without_line_of t (excluded_routers t excluded)
 
+-- the summary
 pub are_object_lines-summary : (asked right unknown unwanted wrong : ℕ)
     → AreObjectLines (line_of (summary_data asked right unknown unwanted wrong))
 unfolding escape_byte
@@ -105,6 +116,7 @@ are_object_lines-summary asked right unknown unwanted wrong =
 
 -- ---- what hosts ask for
 
+-- a want that no flow answers
 pub are_object_lines-asked : (t : TopologyValue) (line : Want × List ℕ)
     (listed none_out forwards star : List ℕ)
     → AreObjectLines (line_of (asked_object t line listed none_out forwards star))
@@ -112,15 +124,18 @@ unfolding escape_byte
 are_object_lines-asked t line listed none_out forwards star =
     are_object_lines-one (asked_object t line listed none_out forwards star) refl refl
 
+-- how many further wants there are, if any
 are_object_lines-asked_more_if : (more : ℕ) (none : Bool)
     → AreObjectLines (cond none [] (line_of (asked_more_data more)))
 unfolding escape_byte
 are_object_lines-asked_more_if more true = are_object_lines-none
 are_object_lines-asked_more_if more false = are_object_lines-one (asked_more_data more) refl refl
 
+-- so it is for the line that is written
 pub are_object_lines-asked_more : (more : ℕ) → AreObjectLines (asked_more_line more)
 are_object_lines-asked_more more = are_object_lines-asked_more_if more (more == 0)
 
+-- the services
 pub are_object_lines-asked_services : (t : TopologyValue) (lines : List (Want × List ℕ))
     → AreObjectLines (asked_services_line t lines)
 unfolding escape_byte

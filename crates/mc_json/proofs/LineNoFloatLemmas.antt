@@ -36,6 +36,7 @@ use Rattle.mc_json.proofs.NoFloatLemmas.{no_float-shown_from}
 
 -- ---- members
 
+-- whichever of three members an order picks
 no_float-match_ordering : (o : Ordering) (a b c : Members) → members_have_float a ≡ false
     → members_have_float b ≡ false → members_have_float c ≡ false
     → members_have_float (match_ordering o a b c) ≡ false
@@ -43,6 +44,7 @@ no_float-match_ordering Less a b c x y z = x
 no_float-match_ordering Equal a b c x y z = y
 no_float-match_ordering Greater a b c x y z = z
 
+-- members with one more
 no_float-put : (k : List ℕ) (d : Data) (ms : Members) → has_float d ≡ false
     → members_have_float ms ≡ false → members_have_float (put k d ms) ≡ false
 no_float-put k d no_members value none = rw value
@@ -54,6 +56,7 @@ no_float-put k d (member l e ms) value none =
 
 -- ---- a line
 
+-- a fact
 no_float-fact_data : (c : FlowContext) (fact : FactValue) → has_float (fact_data c fact) ≡ false
 no_float-fact_data c (Lan lan) = refl
 no_float-fact_data c (Router router) = refl
@@ -68,6 +71,7 @@ no_float-fact_data c (Flag flag) = refl
 no_float-fact_data c (Number n) = refl
 no_float-fact_data c (Routers routers) = no_float-routers c.domain.topology routers
 
+-- members with the facts of a line
 no_float-with_facts : (c : FlowContext) (facts : List (List ℕ × FactValue)) (ms : Members)
     → members_have_float ms ≡ false → members_have_float (with_facts c facts ms) ≡ false
 no_float-with_facts c [] ms none = none
@@ -75,6 +79,7 @@ no_float-with_facts c (f ∷ fs) ms none =
     no_float-with_facts c fs (put f.0 (fact_data c f.1) ms)
     (no_float-put f.0 (fact_data c f.1) ms (no_float-fact_data c f.1) none)
 
+-- a line
 no_float-line_data : (c : FlowContext) (l : Line) → has_float (line_data c l) ≡ false
 no_float-line_data c l =
     let kind = put (codes "kind") (string l.kind) no_members in
@@ -83,19 +88,23 @@ no_float-line_data c l =
 
 -- ---- lines
 
+-- values of each item
 no_float-flat_map : {A : Type 0} (f : A → List Data) → ((x : A) → HaveNoFloat (f x)) → (xs : List A)
     → HaveNoFloat (flat_map f xs)
 no_float-flat_map f each [] = refl
 no_float-flat_map f each (x ∷ xs) =
     no_float-append (f x) (flat_map f xs) (each x) (no_float-flat_map f each xs)
 
+-- the values of a line
 no_float-line_values : (c : FlowContext) (l : Line) → HaveNoFloat (line_values c l)
 no_float-line_values c l = rw (no_float-line_data c l) refl
 
+-- the values of a cause
 no_float-cause_items : (c : FlowContext) (cause : Cause) → HaveNoFloat (cause_items line_values c cause)
 no_float-cause_items c cause =
     no_float-flat_map (line_values c) (no_float-line_values c) (cause_lines c cause)
 
+-- those of a search, if there is one
 no_float-search_data_if_any : (d : DomainFacts) (summary : List SummaryValue) (flow : ℕ)
     (search : Option LanSearch) → HaveNoFloat (search_data_if_any d summary flow search)
 no_float-search_data_if_any d summary flow None = refl
@@ -109,6 +118,7 @@ no_float-search_data_if_any d summary flow (Some found) =
     (no_float-flat_map (shown_items line_values c) (λ l. no_float-line_values c (shown_line c l))
     (shown_lines found.lines.items))
 
+-- all of why a flow isn't right
 pub no_float-why_data : (d : DomainFacts) (summary : List SummaryValue) (flow : ℕ) (causes : List Cause)
     (search : Option LanSearch) → HaveNoFloat (why_data d summary flow causes search)
 no_float-why_data d summary flow causes search =
@@ -119,9 +129,11 @@ no_float-why_data d summary flow causes search =
 
 -- ---- what is behind a stray
 
+-- the strays behind
 no_float-strays : (t : TopologyValue) (strays : List NetInterface) → HaveNoFloat (map (stray_data t) strays)
 no_float-strays t strays = no_float-map (stray_data t) (λ i. refl) strays
 
+-- all that is behind, or null
 pub no_float-behind_data : (d : DomainFacts) (summary : List SummaryValue) (flow : ℕ) (behind : Option Behind)
     → has_float (behind_data d summary flow behind) ≡ false
 no_float-behind_data d summary flow None = refl

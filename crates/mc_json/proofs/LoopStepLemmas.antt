@@ -8,6 +8,7 @@ use Rattle.mc_forward.proofs.IndexLemmas.{take-one_more}
 use Rattle.mc_explain.proofs.BucketLemmas.{flat_map-below_push}
 use Rattle.serde_json.specs.Data.{Data}
 
+-- values by one number more
 pub flat_map-below_more : (f : ℕ → List Data) (old so_far now : List Data) (n : ℕ)
     → so_far ≡ old ++ flat_map f (below n) → now ≡ so_far ++ f n
     → now ≡ old ++ flat_map f (below (n + 1))
@@ -15,6 +16,7 @@ flat_map-below_more f old so_far now n before more =
     more ∙ ap (λ ds. ds ++ f n) before ∙ append_assoc old (flat_map f (below n)) (f n)
     ∙ ap (λ ds. old ++ ds) (sym (flat_map-below_push f n))
 
+-- values of one item more
 pub flat_map-take_more : {A B : Type 0} (f : A → List B) (xs : List A) (x : A) (old so_far now : List B)
     (n : ℕ) → slice_get xs n ≡ Some x → so_far ≡ old ++ flat_map f (take n xs) → now ≡ so_far ++ f x
     → now ≡ old ++ flat_map f (take (n + 1) xs)
@@ -24,6 +26,7 @@ flat_map-take_more f xs x old so_far now n found before more =
     ∙ flat_map-append f (take n xs) (x ∷ [])
     ∙ ap (λ ds. flat_map f (take n xs) ++ ds) (append-nil (f x))))
 
+-- the value of one item more
 pub map-take_more : {A : Type 0} (f : A → Data) (xs : List A) (x : A) (so_far now : List Data) (n : ℕ)
     → slice_get xs n ≡ Some x → so_far ≡ map f (take n xs) → now ≡ so_far ++ f x ∷ []
     → now ≡ map f (take (n + 1) xs)

@@ -15,12 +15,15 @@ use Rattle.serde_json.specs.Written.{comma_if, compact_text, items_text, members
 
 -- ---- strings
 
+-- a hexadecimal digit
 digit_char-is_no_feed : (d : ℕ) → eqb (digit_char d) 10 ≡ false
 digit_char-is_no_feed d = grind (arith, nat_tests)
 
+-- the letter of an escape
 escape_letter-is_no_feed : (x : ℕ) → eqb (escape_letter x) 10 ≡ false
 escape_letter-is_no_feed x = grind (arith, nat_tests)
 
+-- a byte: with a letter, by its number, or as it is
 no_feed-escape_byte_cases : (x : ℕ) (letter small : Bool) → nat_lt 0 (escape_letter x) ≡ letter
     → nat_lt x 32 ≡ small
     → HasNoByte 10 (cond letter (92 ∷ escape_letter x ∷ [])
@@ -33,10 +36,12 @@ no_feed-escape_byte_cases x false true has is = (
 no_feed-escape_byte_cases x false false has is =
     (ne_eqb x 10 (λ e. false≢true (sym has ∙ ap (λ (y : ℕ). nat_lt 0 (escape_letter y)) e)), tt)
 
+-- a byte of a string
 no_feed-escape_byte : (x : ℕ) → HasNoByte 10 (escape_byte x)
 unfolding escape_byte
 no_feed-escape_byte x = no_feed-escape_byte_cases x (nat_lt 0 (escape_letter x)) (nat_lt x 32) refl refl
 
+-- a string
 no_feed-quoted : (s : List ℕ) → HasNoByte 10 (quoted s)
 no_feed-quoted s = (
   refl,
@@ -46,14 +51,17 @@ no_feed-quoted s = (
 
 -- ---- values
 
+-- a comma, or nothing
 no_feed-comma_if : (later : Bool) → HasNoByte 10 (comma_if later)
 no_feed-comma_if true = (refl, tt)
 no_feed-comma_if false = tt
 
+-- a whole number
 no_feed-signed_decimal : (z : ℤ) → HasNoByte 10 (signed_decimal z)
 no_feed-signed_decimal (pos n) = no_feed-decimal n
 no_feed-signed_decimal (negsuc n) = (refl, no_feed-decimal (suc n))
 
+-- a number
 no_feed-number_text : (n : Num) → HasNoByte 10 (number_text n)
 no_feed-number_text (unsigned n) = no_feed-decimal n
 no_feed-number_text (negative z) = no_feed-signed_decimal z

@@ -43,6 +43,7 @@ are_object_lines-one d starts differs = record {
 
 -- ---- several
 
+-- no lines
 pub are_object_lines-none : AreObjectLines []
 are_object_lines-none = record {
   lines = [];
@@ -52,6 +53,7 @@ are_object_lines-none = record {
   spelled = refl;
 }
 
+-- lines after lines
 pub are_object_lines-append : (xs ys : List ℕ) → AreObjectLines xs → AreObjectLines ys
     → AreObjectLines (xs ++ ys)
 are_object_lines-append xs ys p q = record {
@@ -72,6 +74,7 @@ are_object_lines-append xs ys p q = record {
       ∙ sym (flat_map-append with_line_feed p.lines q.lines);
 }
 
+-- lines of each item
 pub are_object_lines-flat_map : {A : Type 0} (f : A → List ℕ) (xs : List A) → ((x : A) → AreObjectLines (f x))
     → AreObjectLines (flat_map f xs)
 are_object_lines-flat_map f [] each = are_object_lines-none

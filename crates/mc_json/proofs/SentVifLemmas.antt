@@ -15,6 +15,7 @@ use Rattle.serde_json.specs.Data.{Data}
 use Rattle.mc_json.specs.FlowData.{passed_vif, passed_vifs, sent_vifs}
 use Rattle.mc_json.specs.RowData.{count_data}
 
+-- one oif more at the end
 passed_vifs-append : (t : ℕ) (oifs : List Oif) (oif : Oif)
     → flat_map (passed_vif t) (oif_pairs (oifs ++ oif ∷ []))
     ≡ flat_map (passed_vif t) (oif_pairs oifs) ++ passed_vif t (oif.vif, oif.threshold)
@@ -41,6 +42,7 @@ vif_data-take_more t oifs d n so_far now lt before more =
 
 -- ---- one for each copy and each stray
 
+-- one vif more is one copy more, one stray more, or nothing
 length-one_more : (passes placed : Bool) (vif : ℕ) (vifs : List ℕ) (copies strays : ℕ)
     → length vifs ≡ copies + strays
     → length (cond passes (vif ∷ []) [] ++ vifs)
@@ -49,6 +51,7 @@ length-one_more true true vif vifs copies strays same = omega (arith, same)
 length-one_more true false vif vifs copies strays same = omega (arith, same)
 length-one_more false placed vif vifs copies strays same = same
 
+-- of a list of pairs
 length-passed_vifs : (n : Net) (r t : ℕ) (pairs : List (ℕ × ℕ))
     → length (flat_map (passed_vif t) pairs) ≡ onto_lan_count n r t pairs + astray_count n r t pairs
 length-passed_vifs n r t [] = refl
@@ -56,6 +59,7 @@ length-passed_vifs n r t (p ∷ pairs) =
     length-one_more (nat_lt p.1 t) (is_some (n.placed r p.0)) p.0 (flat_map (passed_vif t) pairs)
     (onto_lan_count n r t pairs) (astray_count n r t pairs) (length-passed_vifs n r t pairs)
 
+-- of the row that sent
 length-vifs_by_row : (n : Net) (w : Waiting) (row : Row) (copies strays : ℕ)
     → outcome_by_row n w row ≡ Sent copies strays → length (passed_vifs w.ttl row) ≡ copies + strays
 length-vifs_by_row n w (Exact incoming pairs) copies strays sent = by (incoming == w.vif) sent where
@@ -69,6 +73,7 @@ length-vifs_by_row n w (Exact incoming pairs) copies strays sent = by (incoming 
 length-vifs_by_row n w Open copies strays sent = absurd cc
 length-vifs_by_row n w NoRow copies strays sent = absurd cc
 
+-- so it is for the vifs of an event
 pub length-sent_vifs : (n : Net) (w : Waiting) (copies strays : ℕ)
     → (event_of n w).outcome ≡ Sent copies strays → length (sent_vifs n (event_of n w)) ≡ copies + strays
 length-sent_vifs n w copies strays sent = length-vifs_by_row n w (n.row w.router) copies strays sent

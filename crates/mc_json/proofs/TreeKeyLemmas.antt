@@ -22,6 +22,7 @@ append-parts {A} (x ∷ xs) (y ∷ ys) us vs size same =
     let rest = append-parts xs ys us vs (omega (arith, size)) more in
     (ap₂ (λ (z : A) (zs : List A). z ∷ zs) first rest.0, rest.1)
 
+-- the LANs of a tree, by its key
 map_reached_data-same_taking_entries : (t : TopologyValue) (n m : Net) (es : List Entry)
     → map (taking_entry n) es ≡ map (taking_entry m) es
     → map (reached_data t n) es ≡ map (reached_data t m) es
@@ -34,6 +35,7 @@ map_reached_data-same_taking_entries t n m (e ∷ es) same =
     let here : reached_data t n e ≡ reached_data t m e = rw vif refl in
     ap₂ (λ (d : Data) (ds : List Data). d ∷ ds) here (map_reached_data-same_taking_entries t n m es more)
 
+-- trees with one key have one value
 pub tree_data-same_key : (t : TopologyValue) (n m : Net) (es fs : List Entry) (tree : ℕ)
     → tree_key n es ≡ tree_key m fs → tree_data t n es tree ≡ tree_data t m fs tree
 tree_data-same_key t n m es fs tree same =

@@ -2,6 +2,7 @@
 use Rattle.std.proofs.Common.{◌≡◌, ℕ, suc, ◌+◌, ◌-◌, ◌<◌, ◌≤◌, List, ◌∷◌, ◌++◌, take, flat_map}
 use Rattle.std.proofs.Common.{ap, sym, ◌∙◌, append_assoc, arith}
 
+-- a line among the first 40 is written
 pub first_40_lines-more : {A : Type 0} (f : A → List ℕ) (old : List ℕ) (line : A) (rest : List A) (count : ℕ)
     → count < 40
     → (old ++ f line) ++ flat_map f (take (40 - (count + 1)) rest)
@@ -11,6 +12,7 @@ first_40_lines-more f old line rest count few =
     append_assoc old (f line) (flat_map f (take (40 - (count + 1)) rest))
     ∙ ap (λ (n : ℕ). old ++ flat_map f (take n (line ∷ rest))) one_less
 
+-- a later one isn't
 pub first_40_lines-full : {A : Type 0} (f : A → List ℕ) (old : List ℕ) (line : A) (rest : List A) (count : ℕ)
     → 40 ≤ count
     → old ++ flat_map f (take (40 - (count + 1)) rest)

@@ -31,6 +31,7 @@ use Rattle.mc_lines.proofs.WellFormedLemmas.{well_formed-shown_line}
 
 -- ---- lines with well-formed sentences
 
+-- well-formed sentences, each after two spaces
 are_indented-sentences : (c : FlowContext) (facts : List (List ℕ × FactValue)) (ss : List (List ℕ))
     → IsValidTopology c.domain.topology → list_all (is_well_formed facts) ss ≡ true
     → AreIndented (flat_map (indented_sentence c facts) ss)
@@ -42,10 +43,12 @@ are_indented-sentences c facts (s ∷ ss) ok well =
     (no_feed-filled c facts s ok parts.0) is_line_rest-feed))
     (are_indented-sentences c facts ss ok parts.1)
 
+-- a line's sentences
 pub are_indented-line_text : (c : FlowContext) (l : Line) → IsValidTopology c.domain.topology
     → has_well_formed_sentences l ≡ true → AreIndented (line_text c l)
 are_indented-line_text c l ok well = are_indented-sentences c l.facts l.sentences ok well
 
+-- several lines
 are_indented-lines : (c : FlowContext) (ls : List Line) → IsValidTopology c.domain.topology
     → list_all has_well_formed_sentences ls ≡ true → AreIndented (flat_map (line_text c) ls)
 are_indented-lines c [] ok well = are_indented-none
@@ -56,6 +59,7 @@ are_indented-lines c (l ∷ ls) ok well =
 
 -- ---- causes
 
+-- the lines of causes
 pub are_indented-causes_text : (d : DomainFacts) (summary : List SummaryValue) (flow : ℕ)
     (causes : List Cause) → IsValidTopology d.topology → AreIndented (causes_text d summary flow causes)
 are_indented-causes_text d summary flow causes ok =
@@ -76,6 +80,7 @@ are_indented-deeper_sentences c facts (s ∷ ss) ok well =
     (is_line_rest-append (sentence_text c facts s) _ (no_feed-filled c facts s ok parts.0) is_line_rest-feed)))
     (are_indented-deeper_sentences c facts ss ok parts.1)
 
+-- several lines
 are_indented-deeper_lines : (c : FlowContext) (ls : List Line) → IsValidTopology c.domain.topology
     → list_all has_well_formed_sentences ls ≡ true → AreIndented (flat_map (deeper_line_text c) ls)
 are_indented-deeper_lines c [] ok well = are_indented-none
@@ -85,6 +90,7 @@ are_indented-deeper_lines c (l ∷ ls) ok well =
     (are_indented-deeper_sentences c l.facts l.sentences ok parts.0)
     (are_indented-deeper_lines c ls ok parts.1)
 
+-- the lines of causes
 pub are_indented-deeper_causes_text : (d : DomainFacts) (summary : List SummaryValue) (flow : ℕ)
     (causes : List Cause) → IsValidTopology d.topology → AreIndented (deeper_causes_text d summary flow causes)
 are_indented-deeper_causes_text d summary flow causes ok =
@@ -94,6 +100,7 @@ are_indented-deeper_causes_text d summary flow causes ok =
 
 -- ---- a search
 
+-- the line on lines that aren't shown
 are_indented-more_lines : (more : ℕ) → AreIndented (more_lines_text more)
 are_indented-more_lines more =
     elim (more == 0) as (λ b. AreIndented (cond b []
@@ -105,6 +112,7 @@ are_indented-more_lines more =
           (is_line_rest-append_front (codes " more lines") _ refl is_line_rest-feed)))
     ]
 
+-- the text of a search
 pub are_indented-search_text : (d : DomainFacts) (summary : List SummaryValue) (flow : ℕ)
     (lines : List SearchLine) (sent_on took_none : List ℕ) → IsValidTopology d.topology
     → AreIndented (search_text d summary flow lines sent_on took_none)

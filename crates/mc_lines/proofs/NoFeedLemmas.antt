@@ -25,15 +25,18 @@ use Rattle.mc_lines.specs.Lines.FactValue.{EverySourceRow, Flag, Number, Routers
 
 -- ---- facts
 
+-- the number of a row's incoming vif
 no_feed-incoming_number_text : (row : NetRow) → HasNoByte 10 (incoming_number_text row)
 no_feed-incoming_number_text (Exact incoming pairs) = number incoming
 no_feed-incoming_number_text Open = tt
 no_feed-incoming_number_text NoRow = tt
 
+-- a flag
 no_feed-flag_text : (flag : Bool) → HasNoByte 10 (flag_text flag)
 no_feed-flag_text true = no_feed-from_list_all (codes "true") refl
 no_feed-flag_text false = no_feed-from_list_all (codes "false") refl
 
+-- the text of a fact
 no_feed-fact_text : (c : FlowContext) (fact : FactValue) → IsValidTopology c.domain.topology
     → HasNoByte 10 (fact_text c fact)
 no_feed-fact_text c (Lan lan) ok = no_feed-lan_name c.domain.topology lan ok
@@ -51,6 +54,7 @@ no_feed-fact_text c (Flag flag) ok = no_feed-flag_text flag
 no_feed-fact_text c (Number n) ok = number n
 no_feed-fact_text c (Routers routers) ok = no_feed-routers_text c.domain.topology routers ok
 
+-- the text of the fact with this key
 pub no_feed-text_of_key : (c : FlowContext) (facts : List (List ℕ × FactValue)) (key : List ℕ)
     → IsValidTopology c.domain.topology → HasNoByte 10 (text_of_key c facts key)
 no_feed-text_of_key c [] key ok = tt
@@ -59,6 +63,7 @@ no_feed-text_of_key c (f ∷ fs) key ok =
 
 -- ---- sentences
 
+-- what isn't true is false
 not-is_false : (b : Bool) → not b ≡ true → b ≡ false
 not-is_false true is = sym is
 not-is_false false is = refl
@@ -70,6 +75,7 @@ record IsFeedless (text_of : List ℕ → List ℕ) (facts : List (List ℕ × F
   after_brace : (key : List ℕ) → names_fact facts key s ≡ true
       → HasNoByte 10 (filled_from_key text_of key s)
 
+-- the next byte is one of words, or an opening brace
 no_feed-words : (text_of : List ℕ → List ℕ) (facts : List (List ℕ × FactValue)) (b : ℕ) (bs : List ℕ)
     (t : Bool) → (b == 123) ≡ t → IsFeedless text_of facts bs
     → is_well_formed facts (b ∷ bs) ≡ true → HasNoByte 10 (filled text_of (b ∷ bs))
@@ -78,6 +84,7 @@ no_feed-words text_of facts b bs false is more well =
     let parts = and_parts (not (b == 10)) (is_well_formed facts bs) (rw is at well) in
     rw is (not-is_false (b == 10) parts.0, more.words parts.1)
 
+-- the next byte is one of a key, or the brace that closes it
 no_feed-after_brace : (text_of : List ℕ → List ℕ) (facts : List (List ℕ × FactValue)) (key : List ℕ) (b : ℕ)
     (bs : List ℕ) (t : Bool) → (b == 125) ≡ t → ((k : List ℕ) → HasNoByte 10 (text_of k))
     → IsFeedless text_of facts bs → names_fact facts key (b ∷ bs) ≡ true
@@ -88,6 +95,7 @@ no_feed-after_brace text_of facts key b bs true is each more well =
 no_feed-after_brace text_of facts key b bs false is each more well =
     rw is (more.after_brace (key ++ b ∷ []) (rw is at well))
 
+-- so it is for each text
 is_feedless : (text_of : List ℕ → List ℕ) (facts : List (List ℕ × FactValue)) (s : List ℕ)
     → ((k : List ℕ) → HasNoByte 10 (text_of k)) → IsFeedless text_of facts s
 is_feedless text_of facts [] each = record { words = λ well. tt; after_brace = λ key well. tt }
@@ -98,6 +106,7 @@ is_feedless text_of facts (b ∷ bs) each =
       after_brace = λ key. no_feed-after_brace text_of facts key b bs (b == 125) refl each more;
     }
 
+-- a well-formed sentence with its facts
 pub no_feed-filled : (c : FlowContext) (facts : List (List ℕ × FactValue)) (s : List ℕ)
     → IsValidTopology c.domain.topology → is_well_formed facts s ≡ true
     → HasNoByte 10 (filled (text_of_key c facts) s)

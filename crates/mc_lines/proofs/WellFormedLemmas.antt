@@ -27,11 +27,13 @@ use Rattle.mc_lines.specs.SearchLines.{shown_line}
 
 -- ---- causes
 
+-- the line of a remedy
 well_formed-take_out_line : (reached : Bool) (lan router vif least ttl : ℕ)
     → has_well_formed_sentences (take_out_line reached lan router vif least ttl) ≡ true
 well_formed-take_out_line true lan router vif least ttl = refl
 well_formed-take_out_line false lan router vif least ttl = refl
 
+-- the line of a vif that is placed on no LAN
 well_formed-unplaced_line : (reason : UnplacedReason) (router vif : ℕ)
     → has_well_formed_sentences (unplaced_line reason router vif) ≡ true
 well_formed-unplaced_line NoVifLine router vif = refl
@@ -40,6 +42,7 @@ well_formed-unplaced_line Tunnel router vif = refl
 well_formed-unplaced_line NoDevice router vif = refl
 well_formed-unplaced_line OnNoLan router vif = refl
 
+-- the lines of each cause
 pub well_formed-cause_lines : (c : FlowContext) (cause : Cause)
     → list_all has_well_formed_sentences (cause_lines c cause) ≡ true
 well_formed-cause_lines c (SentOnto lan router vif) = refl
@@ -55,6 +58,7 @@ well_formed-cause_lines c (StoppedAt router vif threshold ttl) = refl
 
 -- ---- a search
 
+-- the line of a router whose incoming vif is placed on no LAN
 well_formed-from_unplaced_line : (reason : UnplacedReason) (lan router : ℕ)
     → has_well_formed_sentences (from_unplaced_line reason lan router) ≡ true
 well_formed-from_unplaced_line NoVifLine lan router = refl
@@ -63,6 +67,7 @@ well_formed-from_unplaced_line Tunnel lan router = refl
 well_formed-from_unplaced_line NoDevice lan router = refl
 well_formed-from_unplaced_line OnNoLan lan router = refl
 
+-- each line of a search
 well_formed-search_line : (c : FlowContext) (l : SearchLine)
     → has_well_formed_sentences (search_line c l) ≡ true
 well_formed-search_line c (Excluded lan router) = refl
@@ -81,11 +86,13 @@ well_formed-search_line c (ExpectedFromHere lan router) = refl
 well_formed-search_line c (NoRouter lan) = refl
 well_formed-search_line c (NoSender lan) = refl
 
+-- each line that is shown
 pub well_formed-shown_line : (c : FlowContext) (l : ShownLine)
     → has_well_formed_sentences (shown_line c l) ≡ true
 well_formed-shown_line c (One l) = well_formed-search_line c l
 well_formed-shown_line c (Expected lan routers) = refl
 
+-- the lines on the routers that sent on, and on those that took none
 pub well_formed-reach_lines : (sent_on took_none : List ℕ)
     → list_all has_well_formed_sentences (reach_lines sent_on took_none) ≡ true
 well_formed-reach_lines [] [] = refl

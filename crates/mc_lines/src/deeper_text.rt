@@ -1,4 +1,4 @@
-//! Lines as text behind a line that is indented itself: each sentence of a line is a line of text, after four spaces.
+//! Lines as text that explain an indented line: each sentence is a line, after four spaces.
 
 ghost use Rattle.std.specs.Prelude.{◌≡◌, ◌++◌, ℕ, OnOk, flat_map, map};
 ghost use Rattle.std.specs.String.{string_bytes};

@@ -87,8 +87,8 @@ pub fn push_causes(
     add_causes_of_flow(text, domain, summary, flow, causes)
 }
 
-/// Writes the causes of a fault as [`push_causes`] does, but after four spaces: behind a line that is indented
-/// itself.
+/// Writes the causes of a fault as [`push_causes`] does, but after four spaces, to stand below a line
+/// that is indented itself.
 ///
 /// # Errors
 ///

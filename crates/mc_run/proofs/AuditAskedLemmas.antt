@@ -26,6 +26,7 @@ use Rattle.mc_run.specs.AuditAsked.{states_of_line}
 
 -- ---- listed sources
 
+-- the listed sources of two lists
 listed_sources-append : (xs ys : List (ℕ × ℕ)) (group : ℕ)
     → listed_sources (xs ++ ys) group ≡ listed_sources xs group ++ listed_sources ys group
 listed_sources-append xs ys group =
@@ -33,6 +34,7 @@ listed_sources-append xs ys group =
     ∙ map-append (λ (f : ℕ × ℕ). f.0) (filter (λ (f : ℕ × ℕ). f.1 == group) xs)
     (filter (λ (f : ℕ × ℕ). f.1 == group) ys)
 
+-- and of one flow
 listed_sources-one : (pair : ℕ × ℕ) (group : ℕ) (is : Bool) → (pair.1 == group) ≡ is
     → listed_sources (pair ∷ []) group ≡ cond is (pair.0 ∷ []) []
 listed_sources-one pair group true same =
@@ -122,6 +124,7 @@ appended-two (Ok x) old one new a b first second =
 
 -- ---- what each router has
 
+-- there are as many states as routers
 pub few-states_of_line : (t u : TopologyValue) (states : List (List RouterState)) (number : ℕ)
     (own seen : List RouterState) → t ≡ u → IsValidTopology u → seen ≡ own
     → own ≡ states_of_line t states number → length seen < 2 ^ 32

@@ -90,10 +90,12 @@ explanation-none = record {
   certainty = record { known = true; shown_by = unsaid };
 }
 
+-- no causes are none without remedies too
 is_explanation-certified : (whole : Bool) → [] ≡ without_remedies whole []
 is_explanation-certified true = refl
 is_explanation-certified false = refl
 
+-- without a search a fault is known
 is_known_wrong-no_search : (whole : Bool) → true ≡ is_known_wrong whole None
 is_known_wrong-no_search true = refl
 is_known_wrong-no_search false = refl
@@ -257,6 +259,7 @@ found-ttl_of_view d flow ttl view travel is same =
 
 -- ---- flow by flow
 
+-- the lines of one answer more
 lines-push_answer : (answers : List FlowAnswer) (a : FlowAnswer)
     → flat_map (λ b. b.lines) (answers ++ a ∷ []) ≡ flat_map (λ b. b.lines) answers ++ a.lines
 lines-push_answer [] a = append-nil a.lines
@@ -264,16 +267,19 @@ lines-push_answer (b ∷ answers) a =
     ap (λ xs. b.lines ++ xs) (lines-push_answer answers a)
     ∙ sym (append_assoc b.lines (flat_map (λ c. c.lines) answers) a.lines)
 
+-- an item that may be counted, before others
 length-cond_cons : (b : Bool) (x : FlowAnswer) (more less : List FlowAnswer) (n : ℕ)
     → length more ≡ length less + n
     → length (cond b (x ∷ more) more) ≡ length (cond b (x ∷ less) less) + n
 length-cond_cons true x more less n same = omega (arith, same)
 length-cond_cons false x more less n same = same
 
+-- an item that may be counted, alone
 length-cond_one : (b : Bool) (a : FlowAnswer) → length (cond b (a ∷ []) []) ≡ 0 + one_if_true b
 length-cond_one true a = refl
 length-cond_one false a = refl
 
+-- a count of one answer more
 count-push : (p : FlowAnswer → Bool) (answers : List FlowAnswer) (a : FlowAnswer)
     → count p (answers ++ a ∷ []) ≡ count p answers + one_if_true (p a)
 count-push p [] a = length-cond_one (p a) a
@@ -325,6 +331,7 @@ take-before_push [] x i y at = absurd cc
 take-before_push (z ∷ xs) x zero y at = refl
 take-before_push (z ∷ xs) x (suc i) y at = ap (λ ys. z ∷ ys) (take-before_push xs x i y at)
 
+-- the items before the new one are the old list
 take-push_before : {A : Type 0} (xs : List A) (x : A) → take (length xs) (xs ++ x ∷ []) ≡ xs
 take-push_before [] x = refl
 take-push_before (z ∷ xs) x = ap (λ ys. z ∷ ys) (take-push_before xs x)
@@ -342,6 +349,7 @@ with_shown_tree-at_most_one_more o n printed (examined.Certified entries) wanted
     by false out = omega arith
 with_shown_tree-at_most_one_more o n printed (examined.Found ttl travel) wanted = omega arith
 
+-- at most one more for each answer
 trees_shown-at_most_flows_from : (o : AuditOptions) (printed : List Tree) (answers : List FlowAnswer)
     → length (fold (λ (ts : List Tree) (a : FlowAnswer). shown_trees_with o a.net ts a.examined a.wanted)
     printed answers) ≤ length printed + length answers
@@ -353,6 +361,7 @@ trees_shown-at_most_flows_from o printed (a ∷ answers) =
       with_shown_tree-at_most_one_more o a.net printed a.examined a.wanted,
     )
 
+-- so after k flows there are at most k
 pub trees_shown-at_most_flows : (v : AuditedValue) (o : AuditOptions) (k : ℕ) (s : FlowCounts)
     (printed : List Tree)
     (old new : List ℕ) → AreFlowsPushed v o k s printed old new → length printed ≤ k
@@ -415,36 +424,42 @@ length-filter_step : (b : Bool) (x : FlowAnswer) (some all : List FlowAnswer) �
 length-filter_step true x some all le = omega (arith, le)
 length-filter_step false x some all le = omega (arith, le)
 
+-- a count of answers
 count-at_most_length : (p : FlowAnswer → Bool) (answers : List FlowAnswer)
     → count p answers ≤ length answers
 count-at_most_length p [] = omega arith
 count-at_most_length p (x ∷ answers) =
     length-filter_step (p x) x (filter p answers) answers (count-at_most_length p answers)
 
+-- so a count is at most the number of flows so far
 counted-below_limit : (p : FlowAnswer → Bool) (answers : List FlowAnswer) (k counted : ℕ)
     → length answers ≡ k → counted ≡ count p answers → counted ≤ k
 counted-below_limit p answers k counted all same =
     let few = count-at_most_length p answers in
     omega (arith, few, all, same)
 
+-- of right flows
 pub count_right-below_limit : (v : AuditedValue) (o : AuditOptions) (k : ℕ) (s : FlowCounts)
     (printed : List Tree)
     (old new : List ℕ) → AreFlowsPushed v o k s printed old new → s.right ≤ k
 count_right-below_limit v o k s printed old new to =
     counted-below_limit is_right to.answers k s.right to.count_is to.right
 
+-- of wrong flows
 pub count_wrong-below_limit : (v : AuditedValue) (o : AuditOptions) (k : ℕ) (s : FlowCounts)
     (printed : List Tree)
     (old new : List ℕ) → AreFlowsPushed v o k s printed old new → s.wrong ≤ k
 count_wrong-below_limit v o k s printed old new to =
     counted-below_limit is_wrong to.answers k s.wrong to.count_is to.wrong
 
+-- of flows of which it isn't known
 pub count_unknown-below_limit : (v : AuditedValue) (o : AuditOptions) (k : ℕ) (s : FlowCounts)
     (printed : List Tree)
     (old new : List ℕ) → AreFlowsPushed v o k s printed old new → s.unknown ≤ k
 count_unknown-below_limit v o k s printed old new to =
     counted-below_limit is_unknown to.answers k s.unknown to.count_is to.unknown
 
+-- of unwanted flows
 pub count_unwanted-below_limit : (v : AuditedValue) (o : AuditOptions) (k : ℕ) (s : FlowCounts)
     (printed : List Tree)
     (old new : List ℕ) → AreFlowsPushed v o k s printed old new → s.unwanted ≤ k

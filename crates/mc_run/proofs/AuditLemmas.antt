@@ -83,11 +83,13 @@ slice_get-map f [] k y at = absurd cc
 slice_get-map f (x ∷ xs) zero y at = (x, refl, cc)
 slice_get-map f (x ∷ xs) (suc k) y at = slice_get-map f xs k y at
 
+-- all answers are right exactly if all flows are certified
 are_right-examinations : (answers : List FlowAnswer) → are_certified (examinations_of answers)
     ≡ are_right answers
 are_right-examinations [] = refl
 are_right-examinations (a ∷ answers) = ap (λ b. is_certified a.examined && b) (are_right-examinations answers)
 
+-- the answers' examinations are those of the flows
 are_examined-answers : (v : AuditedValue) (o : AuditOptions) (answers : List FlowAnswer)
     → AreFlowAnswers v o answers
     → AreExamined v.domain (examinations_of answers)
@@ -115,6 +117,7 @@ is_whole-no_names : (a b : Bool) → (a && b) ≡ true → a ≡ true
 is_whole-no_names true b both = refl
 is_whole-no_names false b both = absurd (false≢true both)
 
+-- so is the second one
 are_right-of_examined : (a b : Bool) → (a && b) ≡ true → b ≡ true
 are_right-of_examined true b both = both
 are_right-of_examined false b both = absurd (false≢true both)
@@ -144,6 +147,7 @@ keeps_headline-all_certified v o all written a is =
 
 -- ---- the lines of each flow
 
+-- the lines of the answers, one list after another
 flat_map-lines : (answers : List FlowAnswer)
     → flat_map (λ a. a.lines) answers ≡ flat_map (λ ls. ls) (map (λ a. a.lines) answers)
 flat_map-lines [] = refl
@@ -205,6 +209,7 @@ wrong_flow_lines-say_finding o whole d summary flow ttl travel e lines known is 
       is,
     )
 
+-- a flow's lines say whether it is right
 says_flow_right-answer_lines : (v : AuditedValue) (o : AuditOptions) (printed : List Tree)
     (flow : ℕ)
     (x : Examined) (e : Explanation) (wanted lines : List ℕ)
@@ -255,6 +260,7 @@ writes_which_are_right-audited v o all written a =
 
 -- ---- what each flow's lines say
 
+-- the lines of a certified flow say yes of it
 pub says_yes_of-certified : (v : AuditedValue) (o : AuditOptions) (printed : List Tree) (flow : ℕ)
     (entries : Vec Reached Global) (e : Explanation) (wanted lines : List ℕ)
     → IsChecked v.domain flow (Certified entries) → wanted ≡ lans_wanting (facts v.domain) flow
@@ -304,6 +310,7 @@ shows_from_ttl-by_flights d flow x flights shown ok has same is =
     by (FoundAtFlowTtl greatest least) has is = λ k t some le.
         absurd (let both : ◌≡◌ {A = Option ℕ} None (Some k) = sym is ∙ some in cc)
 
+-- what isn't there isn't something
 none_is_not_some : (o : Option Behind) (b : Behind) → o ≡ None → o ≡ Some b → ⊥
 none_is_not_some None b none some = absurd cc
 none_is_not_some (Some a) b none some = absurd cc
@@ -324,6 +331,7 @@ is_true-behind_if_stray whole d flow (Stray router vif) (Some a) ok is b some =
     is_true-behind whole d flow (router, vif) b ok
     (subst (λ (o : Option Behind). IsBehindIfStray whole d flow (Stray router vif) o) some is)
 
+-- so it is at TTL 255
 is_true-behind_at_255 : (whole : Bool) (d : DomainValue) (flow : ℕ) (flights : ExaminedFlights)
     (behind : Option Behind) → IsDomain d → IsBehindAt255 whole d flow flights behind → (b : Behind)
     → behind ≡ Some b → IsTrueBehind d flow b
@@ -334,6 +342,7 @@ is_true-behind_at_255 whole d flow (FoundAtTtl255 ended) behind ok is b some =
 is_true-behind_at_255 whole d flow (FoundAtFlowTtl greatest least) behind ok is b some =
     absurd (none_is_not_some behind b is some)
 
+-- a flow's lines say yes, or what is found
 says_yes_or_found-answer_lines : (v : AuditedValue) (o : AuditOptions) (printed : List Tree)
     (flow : ℕ) (x : Examined)
     (flights : ExaminedFlights) (e : Explanation) (wanted lines : List ℕ) → IsDomain v.domain
@@ -384,6 +393,7 @@ writes_of_each-audited v o all written ok a =
 
 -- ---- the same for the run's output
 
+-- it says which flows are right
 pub is_output_of-which_are_right : (contents : Option (List FileText)) (o : AuditOptions)
     (left : LeftOutValue)
     (s : Result RunOutput RunFault) → IsOutputOf contents (IsAuditText o left) s
@@ -394,6 +404,7 @@ is_output_of-which_are_right contents o left s =
     of_domain-implication (MeansAudited o left) (λ v. IsAudited v o all written)
     (λ v. WritesWhichAreRight v o all written) (λ v. writes_which_are_right-audited v o all written) files)
 
+-- and of each flow what holds of it
 pub is_output_of-each_flow : (contents : Option (List FileText)) (o : AuditOptions) (left : LeftOutValue)
     (s : Result RunOutput RunFault) → IsOutputOf contents (IsAuditText o left) s
     → IsOutputOf contents (SaysOfEach o left) s
@@ -415,6 +426,7 @@ excluded_files-no_names files (name ∷ names) d none means = absurd (not_none (
     not_none : (n : ℕ) → (suc n == 0) ≡ true → ⊥
     not_none n same = false≢true (sym (ne_eqb (suc n) 0 (λ e. omega (arith, e))) ∙ same)
 
+-- if it says yes, the headline holds for the files
 pub headline_of_files-audit_yes : (contents : Option (List FileText)) (o : AuditOptions)
     (left : LeftOutValue)
     (s : Result RunOutput RunFault) → IsOutputOf contents (IsAuditText o left) s

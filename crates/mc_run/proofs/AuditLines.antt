@@ -89,6 +89,7 @@ use Rattle.mc_run.proofs.VerdictLines.{no_yes_line-verdict_line}
 
 -- ---- lines of text
 
+-- the words of a flow have no line feed
 flow_words-no_yes : (f : Flow) → HasNoByte 10 (flow_words f)
 flow_words-no_yes f =
     let ttl = no_feed-append (codes " ttl ") (decimal f.ttl)
@@ -106,6 +107,7 @@ no_yes_line-flow_words f more none =
     (no_feed-append (flow_words f) more (flow_words-no_yes f) none)
     (sym (append_assoc (flow_words f) more (codes "\n")))
 
+-- the line of a right flow, or of one without a known fault
 no_yes_line-right_line : (whole : Bool) (t : TopologyValue) (f : Flow) (copies : ℕ) → IsValidTopology t
     → AreLinesWithoutYes (right_line whole t f copies)
 no_yes_line-right_line true t f copies ok = no_yes_line-verdict_line t f (Yes copies) ok
@@ -115,6 +117,7 @@ no_yes_line-right_line false t f copies ok =
     (no_feed-from_list_all (codes " no fault known copies ") refl)
     (number copies))
 
+-- the text of a finding has no line feed
 finding_text-no_yes : (t : TopologyValue) (x : Finding) → IsValidTopology t → HasNoByte 10 (finding_text t x)
 finding_text-no_yes t Clean ok = no_feed-from_list_all (codes "Clean") refl
 finding_text-no_yes t (Duplicate lan) ok =
@@ -126,10 +129,12 @@ finding_text-no_yes t (Stray router vif) ok =
 finding_text-no_yes t (Missed lan) ok =
     lan_name-no_line_feed (codes "Missed ") t lan (no_feed-from_list_all (codes "Missed ") refl) ok
 
+-- nor has the word before it
 no_feed-known_word : (known : Bool) → HasNoByte 10 (known_word known)
 no_feed-known_word true = no_feed-from_list_all (codes "wrong") refl
 no_feed-known_word false = no_feed-from_list_all (codes "unknown") refl
 
+-- the line of a flow with a finding
 no_yes_line-found_flow_line : (t : TopologyValue) (f : Flow) (known : Bool) (x : Finding) → IsValidTopology t
     → AreLinesWithoutYes (found_flow_line t f known x)
 no_yes_line-found_flow_line t f known x ok =
@@ -146,6 +151,7 @@ no_yes_line-found_flow_line t f known x ok =
     (append_assoc (codes ": ") text (codes "\n"))))
     (no_yes_line-flow_words f (codes " " ++ (known_word known ++ (codes ": " ++ text))) words)
 
+-- the text of an outcome has no line feed
 outcome_text-no_yes : (o : Outcome) → HasNoByte 10 (outcome_text o)
 outcome_text-no_yes Open = no_feed-from_list_all (codes "open") refl
 outcome_text-no_yes NoRow = no_feed-from_list_all (codes "no row") refl
@@ -159,6 +165,7 @@ outcome_text-no_yes (Sent copies strays) =
     (no_feed-from_list_all (codes " strayed ") refl) in
     no_feed-append (sent ++ codes " strayed ") (decimal strays) more (number strays)
 
+-- nor has that of an event
 event_text-no_yes : (t : TopologyValue) (e : Event) → IsValidTopology t → HasNoByte 10 (event_text t e)
 event_text-no_yes t e ok =
     let name = router_name t e.router in
@@ -172,6 +179,7 @@ event_text-no_yes t e ok =
     let more = no_feed-append living (codes " ") ttl (refl, tt) in
     no_feed-append (living ++ codes " ") (outcome_text e.outcome) more (outcome_text-no_yes e.outcome)
 
+-- the line of an event
 no_yes_line-event_line : (t : TopologyValue) (e : Event) → IsValidTopology t
     → AreLinesWithoutYes (event_line t e)
 no_yes_line-event_line t e ok =
@@ -179,6 +187,7 @@ no_yes_line-event_line t e ok =
     (no_feed-append (codes "event ") (event_text t e) (no_feed-from_list_all (codes "event ") refl)
     (event_text-no_yes t e ok)) refl
 
+-- the lines of events
 no_yes_line-event_lines : (t : TopologyValue) (es : List Event) → IsValidTopology t
     → AreLinesWithoutYes (event_lines t es)
 no_yes_line-event_lines t [] ok = no_yes_line-no_lines
@@ -186,6 +195,7 @@ no_yes_line-event_lines t (e ∷ es) ok =
     no_yes_line-append (event_line t e) (event_lines t es) (no_yes_line-event_line t e ok)
     (no_yes_line-event_lines t es ok)
 
+-- those of a travel, if travels are shown
 no_yes_line-events_if_shown : (travels : Bool) (t : TopologyValue) (travel : Travel) → IsValidTopology t
     → AreLinesWithoutYes (events_if_shown travels t travel)
 no_yes_line-events_if_shown true t travel ok = no_yes_line-event_lines t travel.events.items ok
@@ -202,6 +212,7 @@ indented_lines (l ∷ ls) feedless =
     (no_feed-from_list_all l (feedless l (inl refl)))) refl)
     (indented_lines ls (λ m h. feedless m (inr h)))
 
+-- so a text of such lines has no yes
 no_yes_line-indented_lines : (text : List ℕ) → AreIndented text → AreLinesWithoutYes text
 no_yes_line-indented_lines text is =
     subst AreLinesWithoutYes (sym is.spelled) (indented_lines is.lines is.feedless)
@@ -218,16 +229,19 @@ lines_indented_by Begins (l ∷ ls) other begins feedless =
     (no_feed-from_list_all l (feedless l (inl refl))) refl)
     (lines_indented_by Begins ls other (λ m h. begins m (inr h)) (λ m h. feedless m (inr h)))
 
+-- so a text of such lines has no yes
 no_yes_line-lines : (Begins : List ℕ → Type 0) (text : List ℕ)
     → ((l : List ℕ) → Begins l → BeginsWithOtherByte l) → AreLines Begins text → AreLinesWithoutYes text
 no_yes_line-lines Begins text other are =
     subst AreLinesWithoutYes (sym are.spelled) (lines_indented_by Begins are.lines other are.begins
     are.feedless)
 
+-- a line on an unlisted source and group begins otherwise than a yes
 begins-row_line : (l : List ℕ) → IsUnlistedLine l → BeginsWithOtherByte l
 begins-row_line l (rest, inl begins) = subst BeginsWithOtherByte (sym begins) (refl, refl)
 begins-row_line l (rest, inr begins) = subst BeginsWithOtherByte (sym begins) (refl, refl)
 
+-- so does one on an excluded router
 begins-excluded_line : (l : List ℕ) → IsExcludedLine l → BeginsWithOtherByte l
 begins-excluded_line l (rest, begins) = subst BeginsWithOtherByte (sym begins) (refl, refl)
 
@@ -247,6 +261,7 @@ begins_with (x ∷ xs) tail (w ∷ begin) rest none same =
     let b = begins_with xs tail begin rest none.1 more in
     (b.0, subst (λ (k : ℕ). k ∷ xs ≡ w ∷ (begin ++ b.0)) (sym here) (ap (λ zs. w ∷ zs) b.1))
 
+-- an object that is no verdict doesn't begin with the words of a yes
 first_byte-object : (xs begin tail rest : List ℕ) → BeginsObject xs → IsNotVerdict xs → AreYesWords begin
     → xs ++ (10 ∷ tail) ≡ begin ++ rest → ⊥
 first_byte-object xs begin tail rest (more, begins) other (inl is) same =
@@ -258,6 +273,7 @@ first_byte-object xs begin tail rest begins other (inr is) same =
     (same ∙ ap (λ w. w ++ rest) is) in
     other (codes ":\"yes\"}" ++ b.0) b.1
 
+-- lines of such objects
 no_yes_line-each_object : (lines : List (List ℕ)) → ((line : List ℕ) → In line lines → BeginsObject line)
     → ((line : List ℕ) → In line lines → IsNotVerdict line)
     → ((line : List ℕ) → In line lines → HasNoLineFeed line)
@@ -271,6 +287,7 @@ no_yes_line-each_object (l ∷ ls) begins other feedless =
     (no_yes_line-each_object ls (λ m h. begins m (inr h)) (λ m h. other m (inr h))
     (λ m h. feedless m (inr h)))
 
+-- so a text of such lines has no yes
 no_yes_line-objects : (text : List ℕ) → AreObjectLines text → AreLinesWithoutYes text
 no_yes_line-objects text are =
     subst AreLinesWithoutYes (sym are.spelled) (no_yes_line-each_object are.lines are.begins
@@ -278,6 +295,7 @@ no_yes_line-objects text are =
 
 -- ---- a flow
 
+-- the line of a tree, if it wasn't printed before
 no_yes_line-tree_line : (d : DomainFacts) (printed : List Tree) (flow : ℕ) (es : Tree)
     → AreLinesWithoutYes (tree_line d printed flow es)
 no_yes_line-tree_line d printed flow es =
@@ -285,6 +303,7 @@ no_yes_line-tree_line d printed flow es =
     (line_of (tree_data d.topology (d.nets flow) es (length printed))) no_yes_line-no_lines
     (no_yes_line-objects _ (are_object_lines-tree d.topology (d.nets flow) es (length printed)))
 
+-- the lines of a right flow, in text or in JSON
 no_yes_line-right_lines_or_object : (json whole : Bool) (d : DomainFacts) (printed : List Tree)
     (flow : ℕ)
     (es : Tree) (wanted : List ℕ) → IsValidTopology d.topology
@@ -299,6 +318,7 @@ no_yes_line-right_lines_or_object false whole d printed flow es wanted ok =
     (no_yes_line-right_line whole t (flow_at t flow) (length es) ok)
     (no_yes_line-indented_lines (wanted_text t wanted) (are_indented-wanted_text t wanted ok))
 
+-- the line on the TTL from which on packets show a fault
 no_yes_line-shown_from_text : (shown_from : Option ℕ) → AreLinesWithoutYes (shown_from_text shown_from)
 no_yes_line-shown_from_text None = no_yes_line-no_lines
 no_yes_line-shown_from_text (Some ttl) =
@@ -311,6 +331,7 @@ no_yes_line-shown_from_text (Some ttl) =
     (ap (λ xs. codes "  shown by packets sent with ttl " ++ xs)
     (sym (append_assoc (decimal ttl) last (codes "\n"))))
 
+-- the line on what the flow's own TTL shows
 no_yes_line-at_flow_ttl_text : (t : TopologyValue) (ttl : ℕ) (found : Option Finding) → IsValidTopology t
     → AreLinesWithoutYes (at_flow_ttl_text t ttl found)
 no_yes_line-at_flow_ttl_text t ttl None ok = no_yes_line-no_lines
@@ -326,6 +347,7 @@ no_yes_line-at_flow_ttl_text t ttl (Some found) ok =
     (ap (λ xs. begin ++ xs) (ap (λ xs. decimal ttl ++ xs) (sym (append_assoc colon words (codes "\n")))
     ∙ sym (append_assoc (decimal ttl) (colon ++ words) (codes "\n"))))
 
+-- both of these
 no_yes_line-shown_by_text : (t : TopologyValue) (ttl : ℕ) (shown_by : ShownBy) → IsValidTopology t
     → AreLinesWithoutYes (shown_by_text t ttl shown_by)
 no_yes_line-shown_by_text t ttl shown_by ok =
@@ -344,6 +366,7 @@ no_yes_line-deeper_shown_from (Some ttl) =
     (no_feed-append (decimal ttl) last (number ttl) (no_feed-from_list_all last refl)))
     (ap (λ xs. begin ++ xs) (sym (append_assoc (decimal ttl) last (codes "\n"))))
 
+-- the second copy behind a stray, with its causes
 no_yes_line-second_behind : (d : DomainFacts) (summary : List SummaryValue) (flow : ℕ) (causes : List Cause)
     (shown_from : Option ℕ) (found : Option Finding) → IsValidTopology d.topology
     → AreLinesWithoutYes (second_behind_text d summary flow causes shown_from found)
@@ -363,6 +386,7 @@ no_yes_line-second_behind d summary flow causes shown_from (Some found) ok =
     subst AreLinesWithoutYes (append_assoc begin (words ++ codes "\n") more
     ∙ ap (λ xs. begin ++ xs) (append_assoc words (codes "\n") more)) (no_yes_line-append line more first rest)
 
+-- all that is behind a stray
 no_yes_line-behind_text : (d : DomainFacts) (summary : List SummaryValue) (flow : ℕ) (behind : Option Behind)
     → IsValidTopology d.topology → AreLinesWithoutYes (behind_text d summary flow behind)
 no_yes_line-behind_text d summary flow None ok = no_yes_line-no_lines
@@ -373,6 +397,7 @@ no_yes_line-behind_text d summary flow (Some b) ok =
     (no_yes_line-indented_lines _ (are_indented-leaks_behind_text d b.strays.items b.open_routers.items
     b.missed.items ok))
 
+-- the lines of an explanation
 no_yes_line-explanation_lines : (d : DomainFacts) (summary : List SummaryValue) (flow : ℕ)
     (x : Explanation) → IsValidTopology d.topology → AreLinesWithoutYes
     (explanation_lines d summary flow x)
@@ -390,6 +415,7 @@ no_yes_line-explanation_lines d summary flow x ok =
         (are_indented-search_text d summary flow found.lines.items
         found.reach.sent_on.items found.reach.took_none.items ok)
 
+-- the lines of a flow with a finding, in text or in JSON
 no_yes_line-wrong_lines_or_object : (json travels : Bool) (d : DomainFacts)
     (summary : List SummaryValue) (flow : ℕ)
     (ttl : ℕ) (travel : Travel) (x : Explanation) → IsValidTopology d.topology
@@ -408,6 +434,7 @@ no_yes_line-wrong_lines_or_object false travels d summary flow ttl travel x ok =
     (no_yes_line-append (explanation_lines d summary flow x) (events_if_shown travels t travel)
     (no_yes_line-explanation_lines d summary flow x ok) (no_yes_line-events_if_shown travels t travel ok)))
 
+-- the lines of a flow's answer
 no_yes_line-answer_lines : (o : AuditOptions) (whole : Bool) (d : DomainFacts) (summary : List SummaryValue)
     (printed : List Tree) (flow : ℕ) (x : Examined) (e : Explanation) (wanted : List ℕ)
     → IsValidTopology d.topology
@@ -419,6 +446,7 @@ no_yes_line-answer_lines o whole d summary printed flow (Certified entries) e wa
 no_yes_line-answer_lines o whole d summary printed flow (Found ttl travel) e wanted ok =
     no_yes_line-wrong_lines_or_object o.json o.travels d summary flow ttl travel e ok
 
+-- those of all answers
 no_yes_line-all_answers : (v : AuditedValue) (o : AuditOptions) (answers : List FlowAnswer)
     → ((flow : ℕ) (a : FlowAnswer) → slice_get answers flow ≡ Some a
     → (printed : List Tree) × (number : ℕ) × IsFlowAnswer v o printed number a)
@@ -451,9 +479,11 @@ no_feed-number_after : (words : List ℕ) (n : ℕ) (more : List ℕ) → HasNoB
 no_feed-number_after words n more none rest =
     no_feed-append words _ none (no_feed-append (decimal n) more (number n) rest)
 
+-- a number after words
 no_feed-last_number : (words : List ℕ) (n : ℕ) → HasNoByte 10 words → HasNoByte 10 (words ++ decimal n)
 no_feed-last_number words n none = no_feed-append words (decimal n) none (number n)
 
+-- the numbers of flows in the summary
 no_feed-summary_of_flows : (flows right wrong unknown unwanted : ℕ)
     → HasNoByte 10 (summary_of_flows flows right wrong unknown unwanted)
 no_feed-summary_of_flows flows right wrong unknown unwanted =
@@ -464,6 +494,7 @@ no_feed-summary_of_flows flows right wrong unknown unwanted =
     (no_feed-number_after (codes " unknown ") unknown _ (no_feed-from_list_all (codes " unknown ") refl)
     (no_feed-last_number (codes " unwanted ") unwanted (no_feed-from_list_all (codes " unwanted ") refl)))))
 
+-- the summary
 no_yes_line-summary_line : (flows right wrong unknown unwanted asked : ℕ)
     → AreLinesWithoutYes (summary_line flows right wrong unknown unwanted asked)
 no_yes_line-summary_line flows right wrong unknown unwanted asked =
@@ -476,6 +507,7 @@ no_yes_line-summary_line flows right wrong unknown unwanted asked =
     (summary_line-before_line_feed (decimal flows) (decimal right) (decimal wrong) (decimal unknown)
     (decimal unwanted) (decimal asked))
 
+-- a line on what a strict audit fails for, if it is there
 no_yes_line-strict_line : (fails : Bool) (n : ℕ) (words : List ℕ) → HasNoByte 10 words
     → AreLinesWithoutYes (strict_line fails n words)
 no_yes_line-strict_line fails n words none =
@@ -491,6 +523,7 @@ no_yes_line-strict_line fails n words none =
     (ap (λ xs. codes "  strict: " ++ xs) ends))
     no_yes_line-no_lines
 
+-- both such lines
 no_yes_line-strict_lines : (strict all : Bool) (unwanted asked : ℕ)
     → AreLinesWithoutYes (strict_lines strict all unwanted asked)
 no_yes_line-strict_lines strict all unwanted asked =
@@ -502,12 +535,15 @@ no_yes_line-strict_lines strict all unwanted asked =
 
 -- ---- what hosts ask for
 
+-- a line on what hosts ask for begins otherwise than a yes
 begins-asked_line : (l : List ℕ) → IsAskedLine l → BeginsWithOtherByte l
 begins-asked_line l (rest, begins) = subst BeginsWithOtherByte (sym begins) (refl, refl)
 
+-- so a text of such lines has no yes
 no_yes_line-asked_text : (text : List ℕ) → AreLines IsAskedLine text → AreLinesWithoutYes text
 no_yes_line-asked_text text are = no_yes_line-lines IsAskedLine text begins-asked_line are
 
+-- the line of a want, in text or in JSON
 no_yes_line-asked_line_of : (json : Bool) (t : TopologyValue) (are_excluded : Bool)
     (states : List RouterState) (line : Option (Want × List ℕ)) → IsValidTopology t
     → AreLinesWithoutYes (asked_line_of json t are_excluded states line)
@@ -518,6 +554,7 @@ no_yes_line-asked_line_of true t are_excluded states (Some line) ok =
 no_yes_line-asked_line_of false t are_excluded states (Some line) ok =
     no_yes_line-asked_text _ (are_asked_lines-asked_text t are_excluded (flow_pairs t.flows) states line ok)
 
+-- the further wants and the services
 no_yes_line-asked_end : (json : Bool) (t : TopologyValue) (a : UnansweredWantsValue)
     → AreLinesWithoutYes (asked_end json t a)
 no_yes_line-asked_end true t a =
@@ -529,12 +566,14 @@ no_yes_line-asked_end false t a =
     (no_yes_line-asked_text _ (are_asked_lines-asked_more a.further))
     (no_yes_line-asked_text _ (are_asked_lines-services a.services))
 
+-- lines for each of these numbers
 no_yes_line-flat_map : (f : ℕ → List ℕ) (xs : List ℕ) → ((x : ℕ) → AreLinesWithoutYes (f x))
     → AreLinesWithoutYes (flat_map f xs)
 no_yes_line-flat_map f [] each = no_yes_line-no_lines
 no_yes_line-flat_map f (x ∷ xs) each =
     no_yes_line-append (f x) (flat_map f xs) (each x) (no_yes_line-flat_map f xs each)
 
+-- all lines on what hosts ask for
 no_yes_line-asked_lines : (json : Bool) (t : TopologyValue) (are_excluded : Bool) (a : UnansweredWantsValue)
     → IsValidTopology t → AreLinesWithoutYes (asked_lines json t are_excluded a)
 no_yes_line-asked_lines json t are_excluded a ok =
@@ -545,6 +584,7 @@ no_yes_line-asked_lines json t are_excluded a ok =
 
 -- ---- all of these
 
+-- the lines after the flows, in text
 no_yes_line-end_text : (o : AuditOptions) (t : TopologyValue) (summary : List SummaryValue)
     (asked : UnansweredWantsValue) (marks : List Bool) (whole all : Bool)
     (flows right wrong unknown unwanted : ℕ)
@@ -564,6 +604,7 @@ no_yes_line-end_text o t summary asked marks whole all flows right wrong unknown
     (no_yes_line-indented_lines _ (are_indented-excluded_text t marks ok))
     (no_yes_line-strict_lines o.strict all unwanted asked.count)))))
 
+-- in JSON
 no_yes_line-end_objects : (o : AuditOptions) (t : TopologyValue) (summary : List SummaryValue)
     (asked : UnansweredWantsValue) (marks : List Bool) (whole : Bool) (right wrong unknown unwanted : ℕ)
     → IsValidTopology t
@@ -578,6 +619,7 @@ no_yes_line-end_objects o t summary asked marks whole right wrong unknown unwant
     (no_yes_line-objects _ (are_object_lines-without t marks))
     (no_yes_line-objects _ (are_object_lines-summary asked.count right unknown unwanted wrong))))
 
+-- in either
 no_yes_line-end_lines : (o : AuditOptions) (t : TopologyValue) (summary : List SummaryValue)
     (asked : UnansweredWantsValue) (marks : List Bool) (whole all : Bool)
     (flows right wrong unknown unwanted : ℕ)
@@ -592,6 +634,7 @@ no_yes_line-end_lines o t summary asked marks whole all flows right wrong unknow
 
 -- ---- all lines but the last
 
+-- the first line, which is there in JSON alone
 no_yes_line-begin_lines : (o : AuditOptions) (d : DomainFacts) (marks : List Bool) (ignored : List (ℕ × ℕ))
     → AreLinesWithoutYes (begin_lines o d marks ignored)
 no_yes_line-begin_lines o d marks ignored =
@@ -607,6 +650,7 @@ text_before_verdict v o answers =
     ++ (flat_map (λ a. a.lines) answers
     ++ end_lines o v.domain.topology v.summary v.asked (excluded v) (is_whole v) (is_yes v answers) answers)
 
+-- it has no line that says yes
 pub no_yes_line-text_before_verdict : (v : AuditedValue) (o : AuditOptions) (answers : List FlowAnswer)
     → AreFlowAnswers v o answers → IsValidTopology v.domain.topology
     → AreLinesWithoutYes (text_before_verdict v o answers)

@@ -79,6 +79,7 @@ writes_part-run contents o left a p s r old new text no_write parts is same =
     (is_write_fault-audit_output a no_write) (is_output_of-audit contents o left a text)
     (is_output_written-parts p (output_of a) s old new parts is))
 
+-- what is written says which flows are right,
 writes_which_are_right-run : (contents : Option (List FileText)) (o : AuditOptions)
     (left : LeftOutValue)
     (a : Result AuditOutput RunFault) (p : Result RunOutput RunFault) (s : Result Bool RunFault)
@@ -91,6 +92,7 @@ writes_which_are_right-run contents o left a p s r old new text parts is same =
     (is_output_of-which_are_right contents o left (output_of a)
     (is_output_of-audit contents o left a text)) parts is same
 
+-- what holds of each flow,
 writes_of_each-run : (contents : Option (List FileText)) (o : AuditOptions) (left : LeftOutValue)
     (a : Result AuditOutput RunFault) (p : Result RunOutput RunFault) (s : Result Bool RunFault)
     (r : Result AuditAnswer RunFault) (old new : Option (List ℕ)) → HasText contents o left a
@@ -101,6 +103,7 @@ writes_of_each-run contents o left a p s r old new text parts is same =
     (is_output_of-each_flow contents o left (output_of a)
     (is_output_of-audit contents o left a text)) parts is same
 
+-- and what is found in the whole domain
 are_found_in_whole-run : (contents : Option (List FileText)) (o : AuditOptions) (left : LeftOutValue)
     (a : Result AuditOutput RunFault) (p : Result RunOutput RunFault) (s : Result Bool RunFault)
     (r : Result AuditAnswer RunFault) (old new : Option (List ℕ)) → HasText contents o left a

@@ -87,11 +87,13 @@ module _ (n : Net) (es : List Entry) (tree : IsTree n es) where
   all_bytes : All HasByteNumbers es
   all_bytes = all-each_in HasByteNumbers es (λ e h. bytes_by e.rank e (omega arith) h)
 
+-- the list of a certified flow
 certified_list-bytes : (n : Net) (x : Examined) → IfCertified (IsAccepted n) x
     → IfCertified (All HasByteNumbers) x
 certified_list-bytes n (Certified entries) accepted = all_bytes n entries.items accepted.is_tree
 certified_list-bytes n (Found ttl travel) accepted = tt
 
+-- the lists of all flows
 certified_lists-bytes : (d : DomainValue) (xs : List Examined) → AreExamined d xs
     → All (All HasByteNumbers) (certified_lists xs)
 certified_lists-bytes d xs are =
@@ -115,6 +117,7 @@ denotes_certificate-line_feed t text lists few h = record {
   denotes = h.denotes;
 }
 
+-- the text that is made denotes the lists that were found
 pub denotes_certificate-made_text : (text written : List ℕ) (m : IsMadeText text true written)
     → length written ≤ 16777216
     → DenotesCertificate m.domain.topology written (certified_lists m.holds.examined)
@@ -138,6 +141,7 @@ denotes_certificate-made_text text written m few =
           (10 ∷ []),
     )) denotes)
 
+-- so it is read as these
 pub reading_of-made_text : (text written : List ℕ) (m : IsMadeText text true written)
     → length written ≤ 16777216
     → parse_certificate m.domain.topology written ≡ Ok (certified_lists m.holds.examined)
@@ -147,6 +151,7 @@ reading_of-made_text text written m few =
 
 -- ---- each list is accepted
 
+-- what holds of each certified flow's list holds of the list at its number
 certified_list-at_flow : (P : ℕ → Tree → Type 0) (xs : List Examined) → are_certified xs ≡ true
     → ((k : ℕ) (x : Examined) → slice_get xs k ≡ Some x → IfCertified (P k) x)
     → (k : ℕ) (es : Tree) → slice_get (certified_lists xs) k ≡ Some es → P k es
@@ -158,6 +163,7 @@ certified_list-at_flow P (Certified entries ∷ xs) all each (suc k) es at =
     certified_list-at_flow (λ i. P (suc i)) xs all (λ i x here. each (suc i) x here) k es at
 certified_list-at_flow P (Found ttl travel ∷ xs) all each k es at = absurd cc
 
+-- each list of the made text is accepted
 pub is_accepted-made_list : (text written : List ℕ) (m : IsMadeText text true written) (flow : ℕ)
     (es : Tree)
     → slice_get (certified_lists m.holds.examined) flow ≡ Some es → IsAccepted (net_of m.domain flow) es
@@ -167,13 +173,16 @@ is_accepted-made_list text written m =
 
 -- ---- the verdicts
 
+-- the yes with the number of a list's entries
 abbrev yes_of_list : Tree → Verdict
 yes_of_list es = Yes (length es)
 
+-- these are all yes
 yes_of_all_lists : (lists : List Tree) → are_yes (map yes_of_list lists) ≡ true
 yes_of_all_lists [] = refl
 yes_of_all_lists (es ∷ lists) = yes_of_all_lists lists
 
+-- they are verdicts on lists that are accepted
 are_yes-yes_of_all_lists : (d : DomainValue) (lists : List Tree) → length lists ≡ length d.topology.flows
     → ((flow : ℕ) (es : Tree) → slice_get lists flow ≡ Some es → IsAccepted (net_of d flow) es)
     → AreVerdicts d lists (map yes_of_list lists)
@@ -187,17 +196,20 @@ are_yes-yes_of_all_lists d lists count each = record {
       (each flow es listed, refl);
 }
 
+-- what holds of all parts holds of the last one
 last_part-is_certificate : {A : Type 0} (P : A → Type 0) (xs : List A) (x : A)
     → AllByRecursion P (xs ++ x ∷ [])
     → P x
 last_part-is_certificate P [] x all = all.0
 last_part-is_certificate P (y ∷ xs) x all = last_part-is_certificate P xs x all.1
 
+-- the certificate is no longer than a part may be
 length-certificate_part : (bundle : List ℕ) (parts : List PartText) (text : List ℕ)
     → IsBundle bundle (with_certificate parts text) → length text ≤ 16777216
 length-certificate_part bundle parts text is =
     last_part-is_certificate (λ (part : PartText). length part.bytes ≤ max_part) parts _ is.limits.sizes
 
+-- a bundle with the made certificate has a text of verdicts that says yes
 pub is_verdict_text-made_bundle : (text written bundle : List ℕ) (parts : List PartText)
     → IsMadeText text true written
     → IsBundle text parts → IsBundle bundle (with_certificate parts written)
@@ -226,9 +238,11 @@ is_verdict_text-made_bundle text written bundle parts m is more =
 
 -- ---- one meaning
 
+-- what is in equal options is equal
 pub some_is : {A : Type 0} {x y : A} → (let o : Option A = Some x in o) ≡ Some y → x ≡ y
 some_is e = cc
 
+-- a text means at most one domain with its lists
 pub means_certified-unique : (text : List ℕ) (d e : DomainValue) (xs ys : List Tree)
     → MeansCertified text d xs → MeansCertified text e ys → (d ≡ e) × (xs ≡ ys)
 means_certified-unique text d e xs ys m n =
@@ -242,6 +256,7 @@ means_certified-unique text d e xs ys m n =
 
 -- ---- so whatever verdict text the bundle has, it says yes
 
+-- a verdict on an accepted list is a yes
 is_verdict-says_yes : (d : DomainValue) (flow : ℕ) (es : Tree) (v : Verdict) → IsDomain d
     → IsAccepted (net_of d flow) es → IsVerdict (length d.topology.lans) (net_of d flow) es v
     → is_yes v ≡ true
@@ -253,6 +268,7 @@ is_verdict-says_yes d flow es (No reason) ok accepted is =
     let never : None ≡ Some (reason_value reason) = sym none ∙ is in
     absurd cc
 
+-- verdicts are all yes if each is
 are_verdicts-each_yes : (vs : List Verdict) → ((k : ℕ) (v : Verdict) → slice_get vs k ≡ Some v
     → is_yes v ≡ true)
     → are_yes vs ≡ true
@@ -260,6 +276,7 @@ are_verdicts-each_yes [] each = refl
 are_verdicts-each_yes (v ∷ vs) each = rw (each 0 v refl)
     (are_verdicts-each_yes vs (λ k w at. each (suc k) w at))
 
+-- verdicts on accepted lists are all yes
 are_yes-accepted_lists : (d : DomainValue) (lists : List Tree) (vs : List Verdict) → IsDomain d
     → length lists ≡ length d.topology.flows → AreVerdicts d lists vs
     → ((flow : ℕ) (es : Tree) → slice_get lists flow ≡ Some es → IsAccepted (net_of d flow) es)
@@ -275,6 +292,7 @@ record AreVerdictsOfLists (d : DomainValue) (certificate : List ℕ) (lists : Li
   pub denoted : DenotesCertificate d.topology certificate lists
   pub are : AreVerdicts d lists vs
 
+-- so each text of verdicts on the made bundle says yes
 pub is_verdict_text-only_yes : (text written bundle : List ℕ) (parts : List PartText) (all : Bool)
     (printed : List ℕ)
     → IsMadeText text true written → IsBundle text parts

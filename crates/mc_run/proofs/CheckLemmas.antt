@@ -29,6 +29,7 @@ use Rattle.mc_run.specs.VerdictText.{IsVerdict, AreVerdicts, are_yes, check_text
 
 -- ---- the certificate
 
+-- the fault, by its kind
 is_refused_for-cert_fault_kind : (text : List ℕ) (f : CertFault) (k : CertFaultKind) → f.kind ≡ k
     → (f ≢ out_of_memory → HasBadCertificate text f)
     → IsRefusedFor true text (of_certificate_kind f k)
@@ -73,12 +74,14 @@ certificate_lans-of_topology t lists belongs = λ k d within j e inside.
 
 -- ---- the verdicts
 
+-- what is known of a verdict, together
 is_verdict : (lans : ℕ) (d : DomainValue) (flow : ℕ) (es : List Entry) (v : Verdict)
     → YesIffAccepted (net_of d flow) es v → YesCountsEntries (net_of d flow) es v
     → NoGivesFirstReason lans (net_of d flow) es v → IsVerdict lans (net_of d flow) es v
 is_verdict lans d flow es (Yes copies) exact count first = (exact.0 refl, count)
 is_verdict lans d flow es (No reason) exact count first = first
 
+-- what is known of all verdicts, together
 pub are_verdicts : (d : DomainValue) (lists : List Tree) (vs : List Verdict)
     → length vs ≡ length lists → BelongsTo d.topology lists → HoldsForEachFlow d lists vs YesIffAccepted
     → HoldsForEachFlow d lists vs YesCountsEntries
@@ -90,6 +93,7 @@ are_verdicts d lists vs count belongs exact copies first = record {
       (first flow es v listed verdict_at);
 }
 
+-- if all are yes, each is
 is_yes-at_flow : (vs : List Verdict) (k : ℕ) (v : Verdict) → list_all is_yes vs ≡ true
     → slice_get vs k ≡ Some v → is_yes v ≡ true
 is_yes-at_flow [] k v all there = absurd cc
@@ -98,6 +102,7 @@ is_yes-at_flow (x ∷ vs) zero v all there =
     subst (λ (w : Verdict). is_yes w ≡ true) same (and_parts _ _ all).0
 is_yes-at_flow (x ∷ vs) (suc k) v all there = is_yes-at_flow vs k v (and_parts _ _ all).1 there
 
+-- the headline holds for a yes
 headline_holds-is_yes : (d : DomainValue) (flow : ℕ) (es : List Entry) (v : Verdict) → is_yes v ≡ true
     → YesCountsEntries (net_of d flow) es v → YesKeepsHeadline (net_of d flow) es v
     → HeadlineHolds (net_of d flow) (length es)
@@ -105,6 +110,7 @@ headline_holds-is_yes d flow es (Yes copies) is count keeps =
     subst (λ (n : ℕ). HeadlineHolds (net_of d flow) n) count keeps
 headline_holds-is_yes d flow es (No reason) is count keeps = absurd cc
 
+-- so it does for the flow of the list
 headline_holds-flow_is_yes : (d : DomainValue) (lists : List Tree) (flow : ℕ) (es : List Entry)
     → slice_get lists flow ≡ Some es → HeadlineHolds (net_of d flow) (length es)
     → HeadlineHolds (net_of d flow) (length (tree_at lists flow))

@@ -70,6 +70,7 @@ pub is_finished_travel-at_255 : (d : DomainValue) (flow : ℕ) (x : ExaminedFlig
 is_finished_travel-at_255 d flow x ended same has_flights =
     subst (λ (y : ExaminedFlights). HasExaminedFlights d flow y) same has_flights
 
+-- and so is one with the flow's TTL
 pub is_finished_travel-at_flow_ttl : (d : DomainValue) (flow : ℕ) (x : ExaminedFlights)
     (greatest least : FinishedTravel)
     → x ≡ FoundAtFlowTtl greatest least → HasExaminedFlights d flow x
@@ -119,6 +120,7 @@ is_shown_from-less d flow ttl view ended (Ok shown) same is less found =
     subst (λ (b : Bool). IsShownFromUnless b (net_of d flow) ended.flight.flight.carried
     (finding_value ended.travel.finding) shown) (sym (ne_eqb (ttl_of d flow) 255 own)) found
 
+-- the parts are an explanation of a finding at TTL 255
 pub is_explanation-at_255 : (v : AuditedValue) (flow : ℕ) (x : ExaminedFlights)
     (ended : FinishedTravel) (printed : List Cause)
     (found : Option LanSearch) (behind : Option Behind) (shown_by : ShownBy) → x ≡ FoundAtTtl255 ended
@@ -148,6 +150,7 @@ is_explanation-at_255 v flow x ended printed found behind shown_by same has_flig
 abbrev pub unsaid : ShownBy
 unsaid = record { from = None; at_flow_ttl = None }
 
+-- the parts are an explanation of such a finding
 pub is_explanation-at_flow_ttl : (v : AuditedValue) (flow : ℕ) (x : ExaminedFlights)
     (greatest least : FinishedTravel)
     (printed : List Cause) → x ≡ FoundAtFlowTtl greatest least → HasExaminedFlights v.domain flow x
@@ -169,6 +172,7 @@ is_explanation-at_flow_ttl v flow x greatest least printed same has_flights why 
 
 -- ---- its lines
 
+-- texts one after another, however they are grouped
 regrouped_behind : (old begin words feed causes shown : List ℕ)
     → ((old ++ (begin ++ (words ++ feed))) ++ causes) ++ shown
     ≡ old ++ (begin ++ (words ++ (feed ++ (causes ++ shown))))
@@ -223,6 +227,7 @@ explanation_lines-pushed v flow e t (Ok a) old one two three new same first seco
     ∙ append_assoc (old ++ lines) search (missed ++ past)
     ∙ append_assoc old lines (search ++ (missed ++ past))
 
+-- all lines of a flow with a finding
 pub wrong_lines-pushed : {A X : Type 0} (v : AuditedValue) (flow : ℕ) (travels : Bool) (travel : Travel)
     (e : Explanation) (t : TopologyValue) (f : Flow) (r : Result A X) (old one two three new : List ℕ)
     → t ≡ v.domain.topology → f ≡ flow_at v.domain.topology flow

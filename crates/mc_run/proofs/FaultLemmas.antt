@@ -31,6 +31,7 @@ use Rattle.mc_run.specs.declared.fault.RunFault.TheVariants.{Certificate, Memory
 use Rattle.mc_run.specs.declared.run_output.RunOutput.{RunOutput}
 use Rattle.mc_run.proofs.RunLemmas.{fault-of_output_or_write}
 
+-- the faults of reading a source
 pub is_fault_of_make-source_fault : (fault : SourceFault) → IsFaultOfMake (from_source_fault fault)
 is_fault_of_make-source_fault source.Read = tt
 is_fault_of_make-source_fault (source.Input (input.Bundle fault)) = tt
@@ -50,11 +51,13 @@ pub is_fault_of_replay-make : (flow : ℕ) (fault : RunFault) → IsFaultOfMake 
 is_fault_of_replay-make flow (NoSuchFlow number) is = absurd is
 is_fault_of_replay-make flow fault is = is
 
+-- the faults of a certificate
 pub is_fault_of_check-cert_fault : (fault : CertFault) (kind : CertFaultKind)
     → IsFaultOfCheck (of_certificate_kind fault kind)
 is_fault_of_check-cert_fault fault certificate.Memory = tt
 is_fault_of_check-cert_fault fault kind = tt
 
+-- the faults of a list
 pub is_fault_of_wants-list_fault : (fault : ListFault) (kind : ListFaultKind)
     → IsFaultOfWants (from_list_fault_kind fault kind)
 is_fault_of_wants-list_fault fault list.Memory = tt
@@ -74,6 +77,7 @@ is_fault_of_replay-no_travel d flow fault (inr none) = subst (IsFaultOfReplay fl
 
 -- ---- audits
 
+-- the faults of leaving out routers
 pub is_fault_of_audit-exclusion_fault : (fault : ExclusionFault) → is_possible_for_files_without fault ≡ true
     → IsFaultOfAudit (from_exclusion_fault fault)
 is_fault_of_audit-exclusion_fault (exclusion.NoSuchRouter place) is = tt
@@ -89,11 +93,13 @@ is_fault_of_audit-exclusion_fault (exclusion.Source (source.Input (input.Cache p
 is_fault_of_audit-exclusion_fault (exclusion.Source (source.Input (input.Reports part fault))) is = tt
 is_fault_of_audit-exclusion_fault (exclusion.Source (source.Input input.Memory)) is = tt
 
+-- what holds of an audit's fault holds of its output's
 fault-of_output : (P : RunFault → Type 0) (a : Result AuditOutput RunFault) → IfErr a P
     → IfErr (output_of a) P
 fault-of_output P (Ok audit) own = tt
 fault-of_output P (Err fault) own = own
 
+-- and what holds of a yes's fault holds of the answer's
 fault-of_answer : (P : RunFault → Type 0) (r : Result AuditAnswer RunFault) → IfErr (yes_of r) P
     → IfErr r P
 fault-of_answer P (Ok answer) own = tt

@@ -56,10 +56,12 @@ pub record AreMadeSoFar (d : DomainValue) (k : ℕ) (lists : List Tree) (lines :
   pub lists_are : lists ≡ certified_lists examined
   pub lines_are : lines ≡ found_lines_of_flows d.topology d.topology.flows examined
 
+-- no flow has no lines
 found_lines_of_flows-none : (t : TopologyValue) (fs : List Flow) → found_lines_of_flows t fs [] ≡ []
 found_lines_of_flows-none t [] = refl
 found_lines_of_flows-none t (f ∷ fs) = refl
 
+-- of no flow there are no lists and no lines
 pub are_made_so_far-none : (d : DomainValue) → AreMadeSoFar d 0 [] []
 are_made_so_far-none d = record {
   examined = [];
@@ -69,6 +71,7 @@ are_made_so_far-none d = record {
   lines_are = sym (found_lines_of_flows-none d.topology d.topology.flows);
 }
 
+-- the lists with one flow more
 certified_lists-push : (xs : List Examined) (x : Examined)
     → certified_lists (xs ++ x ∷ []) ≡ certified_lists xs ++ certified_lists (x ∷ [])
 certified_lists-push [] x = refl
@@ -76,6 +79,7 @@ certified_lists-push (Certified entries ∷ xs) x = ap (λ lists. entries.items 
     (certified_lists-push xs x)
 certified_lists-push (Found ttl travel ∷ xs) x = certified_lists-push xs x
 
+-- the lines with one flow more
 found_lines_of_flows-push : (t : TopologyValue) (fs : List Flow) (xs : List Examined) (f : Flow)
     (x : Examined)
     → slice_get fs (length xs) ≡ Some f
@@ -155,6 +159,7 @@ certified_lists-at_most_flows [] = omega arith
 certified_lists-at_most_flows (Certified entries ∷ xs) = omega (arith, certified_lists-at_most_flows xs)
 certified_lists-at_most_flows (Found ttl travel ∷ xs) = omega (arith, certified_lists-at_most_flows xs)
 
+-- so after k flows there are at most k
 pub made_lists-at_most_flows : (d : DomainValue) (k : ℕ) (lists : List Tree) (lines : List ℕ)
     → AreMadeSoFar d k lists lines → length lists ≤ k
 made_lists-at_most_flows d k lists lines made =
@@ -171,6 +176,7 @@ certified_lists-one_per_flow [] all = refl
 certified_lists-one_per_flow (Certified entries ∷ xs) all = ap suc (certified_lists-one_per_flow xs all)
 certified_lists-one_per_flow (Found ttl travel ∷ xs) all = absurd cc
 
+-- what holds of the first and of the others holds of all
 all-cons : {A : Type 0} (P : A → Type 0) (x : A) (xs : List A) → P x → All P xs → All P (x ∷ xs)
 all-cons P x xs here rest zero d within = here
 all-cons P x xs here rest (suc k) d within = rest k d (omega (arith, within))
@@ -184,6 +190,7 @@ certified_lists-each P (Certified entries ∷ xs) each =
     (certified_lists-each P xs (λ k x at. each (suc k) x at))
 certified_lists-each P (Found ttl travel ∷ xs) each = certified_lists-each P xs (λ k x at. each (suc k) x at)
 
+-- so the lists belong to the topology
 pub certified_lists-belong : (d : DomainValue) (xs : List Examined) → AreExamined d xs
     → are_certified xs ≡ true → BelongsTo d.topology (certified_lists xs)
 certified_lists-belong d xs are all = record {
@@ -191,6 +198,7 @@ certified_lists-belong d xs are all = record {
   entries = certified_lists-each (All (IsEntryOf d.topology)) xs (λ k x at. (are.each k x at).listed);
 }
 
+-- and each can be written
 pub certified_lists-keep_headline : (d : DomainValue) (xs : List Examined) → AreExamined d xs
     → All IsWritableTree (certified_lists xs)
 certified_lists-keep_headline d xs are = certified_lists-each IsWritableTree xs
@@ -206,6 +214,7 @@ found_lines-none_if_certified t (f ∷ fs) (Certified entries ∷ xs) count none
     found_lines-none_if_certified t fs xs (omega (arith, count)) none
 found_lines-none_if_certified t (f ∷ fs) (Found ttl travel ∷ xs) count none = absurd cc
 
+-- and where a line is written, one isn't certified
 pub found_lines-some_if_found : (t : TopologyValue) (fs : List Flow) (xs : List Examined)
     → length xs ≡ length fs
     → length (found_lines_of_flows t fs xs) ≢ 0 → are_certified xs ≡ false
@@ -218,6 +227,7 @@ found_lines-some_if_found t (f ∷ fs) (Found ttl travel ∷ xs) count some = re
 
 -- ---- right flows
 
+-- if all are certified, each is
 is_certified-at_flow : (xs : List Examined) (k : ℕ) (x : Examined) → are_certified xs ≡ true
     → slice_get xs k ≡ Some x → is_certified x ≡ true
 is_certified-at_flow [] k x all at = absurd cc
@@ -226,6 +236,7 @@ is_certified-at_flow (y ∷ xs) zero x all at =
     subst (λ (z : Examined). is_certified z ≡ true) same (and_parts _ _ all).0
 is_certified-at_flow (y ∷ xs) (suc k) x all at = is_certified-at_flow xs k x (and_parts _ _ all).1 at
 
+-- and if each is, all are
 are_certified-each : (xs : List Examined)
     → ((k : ℕ) (x : Examined) → slice_get xs k ≡ Some x → is_certified x ≡ true)
     → are_certified xs ≡ true
@@ -265,6 +276,7 @@ are_certified-no_lines d lists lines made none =
     found_lines-none_if_certified d.topology d.topology.flows made.examined made.are_examined.count
     (ap (λ (ls : List ℕ). length ls) (sym made.lines_are) ∙ none)
 
+-- and one isn't if there are lines
 are_certified-some_lines : (d : DomainValue) (lists : List Tree) (lines : List ℕ)
     (made : AreMadeListsAndLines d lists lines)
     → length lines ≢ 0 → are_certified made.examined ≡ false
@@ -272,6 +284,7 @@ are_certified-some_lines d lists lines made some =
     found_lines-some_if_found d.topology d.topology.flows made.examined made.are_examined.count
     (λ none. some (ap (λ (ls : List ℕ). length ls) made.lines_are ∙ none))
 
+-- without lines the lists belong to the topology
 pub belongs_to-made_lists : (d : DomainValue) (t : TopologyValue) (lists : List Tree) (lines : List ℕ)
     → AreMadeListsAndLines d lists lines → t ≡ d.topology → length lines ≡ 0 → BelongsTo t lists
 belongs_to-made_lists d t lists lines made same none =

@@ -11,6 +11,7 @@ use Rattle.mc_theory.specs.Findings.{walk_visits, missed, missed_finding, number
 use Rattle.mc_theory.specs.Findings.Finding.{Duplicate, Loop, Missed}
 use Rattle.mc_theory.proofs.ListLemmas.{in-below_cases}
 
+-- by whether the first LAN is missed
 missed-cons : (n : Net) (cs : List Copy) (x l : ℕ) (ls : List ℕ) (w b : Bool)
     → cond w (cond b (missed n cs ls) (Some x)) (missed n cs ls) ≡ Some l
     → (missed n cs ls ≡ Some l → In l ls) → In l (x ∷ ls)
@@ -18,6 +19,7 @@ missed-cons n cs x l ls true true h more = inr (more h)
 missed-cons n cs x l ls true false h more = let same : x ≡ l = cc in inl same
 missed-cons n cs x l ls false b h more = inr (more h)
 
+-- a missed LAN is one of those that were tried
 missed-in_lans : (n : Net) (cs : List Copy) (ls : List ℕ) (l : ℕ) → missed n cs ls ≡ Some l → In l ls
 missed-in_lans n cs [] l h = absurd cc
 missed-in_lans n cs (x ∷ ls) l h =
@@ -28,23 +30,27 @@ finding-missed_lan : (o : Option ℕ) (l : ℕ) → Some (missed_finding o) ≡ 
 finding-missed_lan None l h = absurd cc
 finding-missed_lan (Some m) l h = cc
 
+-- at the end of a flight: the missed LAN is below the count
 finding-at_end_missed : (n : Net) (count : ℕ) (cs : List Copy) (ws : List Waiting) (l : ℕ)
     → end_finding n count cs ws ≡ Some (Missed l) → l < count
 finding-at_end_missed n count cs [] l h =
     in-below_cases l count (missed-in_lans n cs (below count) l (finding-missed_lan _ l h))
 finding-at_end_missed n count cs (w ∷ ws) l h = absurd cc
 
+-- after strays, of which there are none
 finding-no_strays_missed : (n : Net) (count : ℕ) (cs : List Copy) (ws : List Waiting)
     (is : List Interface) (l : ℕ)
     → stray_finding n count cs ws is ≡ Some (Missed l) → l < count
 finding-no_strays_missed n count cs ws [] l h = finding-at_end_missed n count cs ws l h
 finding-no_strays_missed n count cs ws (i ∷ is) l h = absurd cc
 
+-- a duplicate or a loop is no missed LAN
 finding-other_than_missed : (b : Bool) (m l : ℕ)
     → (let o : Option Finding = Some (cond b (Loop m) (Duplicate m)) in o) ≡ Some (Missed l) → ⊥
 finding-other_than_missed true m l h = absurd cc
 finding-other_than_missed false m l h = absurd cc
 
+-- after double copies, of which there are none
 finding-no_double_missed : (n : Net) (count : ℕ) (f : Flight) (o : Option Copy) (l : ℕ)
     → double_finding n count f o ≡ Some (Missed l) → l < count
 finding-no_double_missed n count f None l h = finding-no_strays_missed n count f.carried f.waiting

@@ -21,11 +21,13 @@ FaultResult f = Err (from_pack_fault f)
 abbrev pub IsResultOfFault : PackFault → Result (Unit {0}) RunFault → Type 0
 IsResultOfFault f r = IsErrAnd r (λ fault. fault ≡ from_pack_fault f)
 
+-- such an answer is that by the fault
 result-of_pack_fault : (f : PackFault) (r : Result (Unit {0}) RunFault) → IsResultOfFault f r → r
     ≡ FaultResult f
 result-of_pack_fault f (Ok done) e = absurd e
 result-of_pack_fault f (Err fault) e = rw e refl
 
+-- what packing answers is what the run answers
 is_pack_answer-fault_result : (certified : Bool) (files : List FileText) (f : PackFault)
     → IsPackAnswer certified files (Err f) → IsPackRunAnswer certified files (FaultResult f)
 is_pack_answer-fault_result certified files (packing.Topology f) is = is
@@ -34,6 +36,7 @@ is_pack_answer-fault_result certified files packing.Read is = tt
 is_pack_answer-fault_result certified files packing.Write is = tt
 is_pack_answer-fault_result certified files packing.Memory is = tt
 
+-- so it is for an answer that is right for the run
 pub is_pack_answer-of_result : (contents : Option (List FileText)) (certified : Bool) (f : PackFault)
     (r : Result (Unit {0}) RunFault) → IsResultOfFault f r
     → IfSome contents (λ files. IsPackAnswer certified files (Err f))
@@ -42,6 +45,7 @@ is_pack_answer-of_result None certified f r e is = tt
 is_pack_answer-of_result (Some files) certified f r e is =
     rw (result-of_pack_fault f r e) (is_pack_answer-fault_result certified files f is)
 
+-- the fault is one of packing
 is_fault_of_pack-pack_fault : (f : PackFault) → IsFaultOfPack (from_pack_fault f)
 is_fault_of_pack-pack_fault (packing.Topology f) = tt
 is_fault_of_pack-pack_fault packing.TooLarge = tt
@@ -49,10 +53,12 @@ is_fault_of_pack-pack_fault packing.Read = tt
 is_fault_of_pack-pack_fault packing.Write = tt
 is_fault_of_pack-pack_fault packing.Memory = tt
 
+-- so it is for an answer that is right for the run
 pub is_fault_of_pack-of_result : (f : PackFault) (r : Result (Unit {0}) RunFault) → IsResultOfFault f r
     → IfErr r IsFaultOfPack
 is_fault_of_pack-of_result f r e = rw (result-of_pack_fault f r e) (is_fault_of_pack-pack_fault f)
 
+-- a silent fault of packing is silent in the run
 is_device_or_memory_fault-silent : (f : PackFault) → IsIoOrMemory f
     → IsDeviceOrMemoryFault (from_pack_fault f)
 is_device_or_memory_fault-silent (packing.Topology f) none = absurd none
@@ -61,6 +67,7 @@ is_device_or_memory_fault-silent packing.Read none = tt
 is_device_or_memory_fault-silent packing.Write none = tt
 is_device_or_memory_fault-silent packing.Memory none = tt
 
+-- so it is for an answer that is right for the run
 pub is_device_or_memory_fault-of_result : (f : PackFault) (r : Result (Unit {0}) RunFault)
     → IsResultOfFault f r → IsIoOrMemory f
     → IfErr r IsDeviceOrMemoryFault
@@ -75,9 +82,11 @@ from_pack_fault-write packing.Read e = absurd cc
 from_pack_fault-write packing.Write e = refl
 from_pack_fault-write packing.Memory e = absurd cc
 
+-- the answer of packing by this fault
 abbrev PackFaultResult : PackFault → Result (Unit {0}) PackFault
 PackFaultResult f = Err f
 
+-- what follows from packing's `Write` follows from the run's
 pub write_fault-of_result : (f : PackFault) (r : Result (Unit {0}) RunFault) (P : Type 0)
     → IsResultOfFault f r
     → (PackFaultResult f ≡ PackFaultResult packing.Write → P) → r ≡ Err Write → P
@@ -86,12 +95,14 @@ write_fault-of_result f r P e packed write =
     let same : from_pack_fault f ≡ Write = cc in
     packed (ap PackFaultResult (from_pack_fault-write f same))
 
+-- and what follows where it is another
 pub no_write_fault-of_result : (f : PackFault) (r : Result (Unit {0}) RunFault) (P : Type 0)
     → IsResultOfFault f r
     → (f ≢ packing.Write → P) → IfErr r (λ fault. fault ≢ Write → P)
 no_write_fault-of_result f r P e packed =
     rw (result-of_pack_fault f r e) (λ other. packed (λ is. other (ap from_pack_fault is)))
 
+-- a failed read is counted once in both
 counted_reads-pack_fault : (f : PackFault) (before : ℕ)
     → failures_after {X = Unit {0}} is_file_read (Err f) before
     ≡ failures_after is_read (FaultResult f) before
@@ -101,6 +112,7 @@ counted_reads-pack_fault packing.Read before = refl
 counted_reads-pack_fault packing.Write before = refl
 counted_reads-pack_fault packing.Memory before = refl
 
+-- and so is a failed write
 counted_writes-pack_fault : (f : PackFault) (before : ℕ)
     → failures_after {X = Unit {0}} is_bundle_write (Err f) before
     ≡ failures_after is_write (FaultResult f) before
@@ -110,6 +122,7 @@ counted_writes-pack_fault packing.Read before = refl
 counted_writes-pack_fault packing.Write before = refl
 counted_writes-pack_fault packing.Memory before = refl
 
+-- so it is for an answer that is right for the run: reads
 pub counted_reads-of_result : (f : PackFault) (r : Result (Unit {0}) RunFault) (before after : ℕ)
     → IsResultOfFault f r
     → after ≡ failures_after {X = Unit {0}} is_file_read (Err f) before → after
@@ -117,6 +130,7 @@ pub counted_reads-of_result : (f : PackFault) (r : Result (Unit {0}) RunFault) (
 counted_reads-of_result f r before after e is = rw (result-of_pack_fault f r e)
     (is ∙ counted_reads-pack_fault f before)
 
+-- and writes
 pub counted_writes-of_result : (f : PackFault) (r : Result (Unit {0}) RunFault) (before after : ℕ)
     → IsResultOfFault f r
     → after ≡ failures_after {X = Unit {0}} is_bundle_write (Err f) before → after

@@ -41,6 +41,7 @@ is_refused_for-input_fault with text f own e same = by (input_of_bundle with tex
     by (Ok v) e = absurd cc
     by (Err fault) e = cc
 
+-- a fault of the source is why the bundle is refused
 pub is_refused_for-source_fault : (with : Bool) (text : List ℕ) (f : SourceFault)
     → (¬ IsReadOrMemory f → map_fault source.Input (input_of_bundle with text) ≡ Err f)
     → IsRefusedFor with text (from_source_fault f)
@@ -232,6 +233,7 @@ abbrev pub HasLineWith : (words text : List ℕ) → Type 0
 HasLineWith words text =
     (front rest : List ℕ) × IsLineStart front × (text ≡ front ++ (words ++ rest))
 
+-- the words of a yes aren't empty
 yes_words-not_empty : (words : List ℕ) → AreYesWords words → 0 < length words
 yes_words-not_empty words (inl is) = omega (arith, ap (λ (w : List ℕ). length w) is)
 yes_words-not_empty words (inr is) = omega (arith, ap (λ (w : List ℕ). length w) is)

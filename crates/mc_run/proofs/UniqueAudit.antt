@@ -66,6 +66,7 @@ use Rattle.mc_run.proofs.UniqueExamination.{is_explanation-unique, examined_flig
 
 -- ---- the lines of a flow that isn't right
 
+-- the lines of a search
 searched_lines-same_search : (d : DomainFacts) (summary : List SummaryValue) (flow : ℕ)
     (s t : Option LanSearch) → HaveSameSearch s t
     → searched_lines d summary flow s ≡ searched_lines d summary flow t
@@ -77,12 +78,14 @@ searched_lines-same_search d summary flow (Some a) (Some b) same =
     search_text d summary flow ls a.reach.sent_on.items a.reach.took_none.items) same.0
     ∙ ap₂ (λ (sent took : List ℕ). search_text d summary flow b.lines.items sent took) same.1 same.2
 
+-- the lines of a travel's events
 events_if_shown-same_events : (travels : Bool) (t : TopologyValue) (a b : FinishedTravel)
     → IsSameFinishedTravel a b
     → events_if_shown travels t a.travel ≡ events_if_shown travels t b.travel
 events_if_shown-same_events true t a b same = ap (event_lines t) same.events
 events_if_shown-same_events false t a b same = refl
 
+-- the text of a second copy behind a stray
 second_behind_text-same_parts : (d : DomainFacts) (summary : List SummaryValue) (flow : ℕ)
     (causes others : List Cause)
     (from to : Option ℕ) (x y : Option Finding) → causes ≡ others → from ≡ to → x ≡ y
@@ -91,6 +94,7 @@ second_behind_text-same_parts d summary flow causes others from to x y same leas
     ap₂ (λ (cs : List Cause) (k : Option ℕ). second_behind_text d summary flow cs k x) same least
     ∙ ap (second_behind_text d summary flow others to) finding
 
+-- the text of all that is behind a stray
 behind_text-same_behind : (d : DomainFacts) (summary : List SummaryValue) (flow : ℕ) (s t : Option Behind)
     → HaveSameBehind s t → behind_text d summary flow s ≡ behind_text d summary flow t
 behind_text-same_behind d summary flow None None same = refl
@@ -114,6 +118,7 @@ behind_members t finding missed open_routers shown_from strays why = object_data
     ∷ (codes "strays", list_data (map (stray_data t) strays))
     ∷ (codes "why", list_data why) ∷ [])
 
+-- the value of what is behind a stray, by its members
 found_behind_data-same_parts : (t : TopologyValue) (a b : Behind) (why because : List Data) → IsSameBehind a b
     → why ≡ because → found_behind_data t a why ≡ found_behind_data t b because
 found_behind_data-same_parts t a b why because same is =
@@ -124,6 +129,7 @@ found_behind_data-same_parts t a b why because same is =
     ∙ ap₂ (λ (is : List Interface) (ds : List Data). behind_members t b.finding b.missed.items
     b.open_routers.items b.shown_from is ds) same.strays is
 
+-- the value of what is behind a stray, or null
 behind_data-same_behind : (d : DomainFacts) (summary : List SummaryValue) (flow : ℕ) (s t : Option Behind)
     → HaveSameBehind s t → behind_data d summary flow s ≡ behind_data d summary flow t
 behind_data-same_behind d summary flow None None same = refl
@@ -133,6 +139,7 @@ behind_data-same_behind d summary flow (Some a) (Some b) same =
     found_behind_data-same_parts d.topology a b (causes_data d summary flow a.causes.items)
     (causes_data d summary flow b.causes.items) same (ap (causes_data d summary flow) same.causes)
 
+-- the lines of an explanation
 explanation_lines-same_explanation : (d : DomainFacts) (summary : List SummaryValue) (flow : ℕ)
     (x y : Explanation) → IsSameExplanation x y
     → explanation_lines d summary flow x ≡ explanation_lines d summary flow y
@@ -147,6 +154,7 @@ explanation_lines-same_explanation d summary flow x y same =
     ++ (also_missed_text d.topology y.also ++ past)))
     (behind_text-same_behind d summary flow x.behind y.behind same.behind)
 
+-- the lines of a flow with a finding
 wrong_lines-same_travel : (travels : Bool) (d : DomainFacts) (summary : List SummaryValue)
     (flow : ℕ) (a b : FinishedTravel) (x y : Explanation) → IsSameFinishedTravel a b
     → IsSameExplanation x y
@@ -163,6 +171,7 @@ wrong_lines-same_travel travels d summary flow a b x y ended same =
     (explanation_lines-same_explanation d summary flow x y same)
     (events_if_shown-same_events travels t a b ended)
 
+-- the values of a search
 found_data-same_travel : (d : DomainFacts) (summary : List SummaryValue) (flow : ℕ)
     (s t : Option LanSearch) → HaveSameSearch s t
     → search_data_if_any d summary flow s ≡ search_data_if_any d summary flow t
@@ -174,6 +183,7 @@ found_data-same_travel d summary flow (Some a) (Some b) same =
     search_data d summary flow ls a.reach.sent_on.items a.reach.took_none.items) same.0
     ∙ ap₂ (λ (sent took : List ℕ). search_data d summary flow b.lines.items sent took) same.1 same.2
 
+-- the values of causes and of a search
 why_data-same_explanation : (d : DomainFacts) (summary : List SummaryValue) (flow : ℕ)
     (x y : Explanation)
     → IsSameExplanation x y
@@ -182,6 +192,7 @@ why_data-same_explanation d summary flow x y same =
     ap₂ (λ (printed : List Cause) (found : List Data). causes_data d summary flow printed ++ found)
     same.printed (found_data-same_travel d summary flow x.search y.search same.search)
 
+-- the object of a flow with a finding
 wrong_object-same_travel : (travels : Bool) (d : DomainFacts) (summary : List SummaryValue)
     (flow ttl : ℕ) (a b : FinishedTravel) (x y : Explanation) → IsSameFinishedTravel a b
     → IsSameExplanation x y
@@ -200,6 +211,7 @@ wrong_object-same_travel travels d summary flow ttl a b x y ended same =
     same.also
     (why_data-same_explanation d summary flow x y same)
 
+-- its lines, in text or in JSON
 wrong_flow_lines-same_travel : (json travels : Bool) (d : DomainFacts) (summary : List SummaryValue)
     (flow ttl : ℕ) (a b : FinishedTravel) (x y : Explanation) → IsSameFinishedTravel a b
     → IsSameExplanation x y
@@ -270,6 +282,7 @@ is_certified-same_flights d flow (FoundAtTtl255 a) (FoundAtFlowTtl b c) same = a
 is_certified-same_flights d flow (FoundAtFlowTtl a b) (Certified ys) same = absurd same
 is_certified-same_flights d flow (FoundAtFlowTtl a b) (FoundAtTtl255 c) same = absurd same
 
+-- the trees that are printed after this flow
 shown_trees_with-same_flights : (o : AuditOptions) (d : DomainValue) (flow : ℕ)
     (a b : ExaminedFlights) (wanted : List ℕ)
     (printed : List Tree) → HaveSameFlights a b
@@ -289,6 +302,7 @@ shown_trees_with-same_flights o d flow (FoundAtFlowTtl a b) (Certified ys) wante
 shown_trees_with-same_flights o d flow (FoundAtFlowTtl a b) (FoundAtTtl255 c) wanted printed same =
     absurd same
 
+-- whether a flow is known to be right
 known_right-same : (whole : Bool) (x y : Examined) (known other : Bool) → is_certified x ≡ is_certified y
     → known ≡ other → known_right whole x known ≡ known_right whole y other
 known_right-same whole (examined_as.Certified xs) (examined_as.Certified ys) known other same is = refl
@@ -300,6 +314,7 @@ known_right-same whole (examined_as.Found ttl travel) (examined_as.Found at othe
     other same is =
     ap (λ (b : Bool). known_right whole (examined_as.Found ttl travel) b) is
 
+-- so a flow has one answer, after the same trees
 same_answer-flow_answers : (v : AuditedValue) (o : AuditOptions) (printed : List Tree) (flow : ℕ)
     (a b : FlowAnswer)
     → IsDomain v.domain → IsFlowAnswer v o printed flow a → IsFlowAnswer v o printed flow b
@@ -356,6 +371,7 @@ AreAnswersFrom v o k printed answers =
     (fold (λ (ts : List Tree) (b : FlowAnswer). shown_trees_with o b.net ts b.examined b.wanted) printed
     (take i answers)) (k + i) a
 
+-- all answers are those from the first flow on
 are_answers_from-first : (v : AuditedValue) (o : AuditOptions) (answers : List FlowAnswer)
     → ((flow : ℕ) (a : FlowAnswer) → slice_get answers flow ≡ Some a
     → IsFlowAnswer v o (trees_shown o (take flow answers)) flow a) → AreAnswersFrom v o 0 [] answers
@@ -363,6 +379,7 @@ are_answers_from-first v o answers each flow a there =
     let place : flow ≡ 0 + flow = omega arith in
     subst (λ (n : ℕ). IsFlowAnswer v o (trees_shown o (take flow answers)) n a) place (each flow a there)
 
+-- after an answer come those from the next flow on
 are_answers_from-next : (v : AuditedValue) (o : AuditOptions) (k : ℕ) (printed : List Tree) (a : FlowAnswer)
     (answers : List FlowAnswer) → AreAnswersFrom v o k printed (a ∷ answers)
     → AreAnswersFrom v o (suc k) (shown_trees_with o a.net printed a.examined a.wanted) answers
@@ -372,6 +389,7 @@ are_answers_from-next v o k printed a answers from i b there =
     (fold (λ (ts : List Tree) (c : FlowAnswer). shown_trees_with o c.net ts c.examined c.wanted)
     (shown_trees_with o a.net printed a.examined a.wanted) (take i answers)) n b) place (from (suc i) b there)
 
+-- so all flows have the same answers
 have_same_answers-flow_answers : (v : AuditedValue) (o : AuditOptions) (k : ℕ) (printed : List Tree)
     (xs ys : List FlowAnswer) → IsDomain v.domain → length xs ≡ length ys → AreAnswersFrom v o k printed xs
     → AreAnswersFrom v o k printed ys → HaveSameAnswers o xs ys
@@ -390,6 +408,7 @@ have_same_answers-flow_answers v o k printed (a ∷ xs) (b ∷ ys) ok size p q =
           (omega (arith, size)) next more,
     )
 
+-- the same answers have the same lines
 lines-same_answers : (o : AuditOptions) (xs ys : List FlowAnswer) → HaveSameAnswers o xs ys
     → flat_map (λ (a : FlowAnswer). a.lines) xs ≡ flat_map (λ (a : FlowAnswer). a.lines) ys
 lines-same_answers o [] [] same = refl
@@ -398,6 +417,7 @@ lines-same_answers o (a ∷ xs) [] same = absurd same
 lines-same_answers o (a ∷ xs) (b ∷ ys) same =
     ap₂ (λ (xs ys : List ℕ). xs ++ ys) same.0.lines (lines-same_answers o xs ys same.1)
 
+-- and are right or not together
 are_right-same_answers : (o : AuditOptions) (xs ys : List FlowAnswer) → HaveSameAnswers o xs ys
     → are_right xs ≡ are_right ys
 are_right-same_answers o [] [] same = refl
@@ -406,6 +426,7 @@ are_right-same_answers o (a ∷ xs) [] same = absurd same
 are_right-same_answers o (a ∷ xs) (b ∷ ys) same =
     ap₂ (λ (x y : Bool). x && y) same.0.certified (are_right-same_answers o xs ys same.1)
 
+-- counts stay equal where both count an answer, or neither
 count-cons_same : (x y : Bool) (a b : FlowAnswer) (xs ys : List FlowAnswer) → x ≡ y
     → length xs ≡ length ys → length (cond x (a ∷ xs) xs) ≡ length (cond y (b ∷ ys) ys)
 count-cons_same true true a b xs ys same size = ap suc size
@@ -413,6 +434,7 @@ count-cons_same true false a b xs ys same size = absurd cc
 count-cons_same false true a b xs ys same size = absurd cc
 count-cons_same false false a b xs ys same size = size
 
+-- the same answers have the same counts
 count-same_answers : (o : AuditOptions) (p : FlowAnswer → Bool) (xs ys : List FlowAnswer)
     → ((a b : FlowAnswer) → IsSameAnswer o a b → p a ≡ p b) → HaveSameAnswers o xs ys
     → count p xs ≡ count p ys
@@ -452,6 +474,7 @@ end_lines-same_answers v o xs ys flows same all =
     ∙ ap₂ (λ (k u : ℕ). end (is_yes v ys) (length ys) (count is_right ys) (count is_wrong ys) k u)
     unknown unwanted
 
+-- an audit has one text and one answer
 is_audited-unique : (v : AuditedValue) (o : AuditOptions) (all every : Bool) (text other : List ℕ)
     → IsDomain v.domain → IsAudited v o all text → IsAudited v o every other
     → (all ≡ every) × (text ≡ other)
@@ -487,6 +510,7 @@ HasOneOfAsked =
     (a b : UnansweredWantsValue)
     → IsDomain d → IsAskedOf all ignored files d a → IsAskedOf all ignored files d b → a ≡ b
 
+-- one folder's files mean at most one domain to audit
 means_audited-unique : HasOneListOfSummaries → HasOneOfAsked → (o : AuditOptions) (left : LeftOutValue)
     (files : List FileText)
     (v w : AuditedValue) → MeansAudited o left files v → MeansAudited o left files w → v ≡ w

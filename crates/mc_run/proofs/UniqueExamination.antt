@@ -60,6 +60,7 @@ use Rattle.mc_run.specs.MakeRun.{IsExamined}
 
 -- ---- entries by ascending numbers of their LANs
 
+-- numbers that ascend do so after the first one too
 is_strictly_increasing-rest : (x : ℕ) (xs : List ℕ) → IsStrictlyIncreasing (x ∷ xs) → IsStrictlyIncreasing xs
 is_strictly_increasing-rest x xs up k within =
     let next : suc k + 1 ≡ suc (k + 1) = omega arith in
@@ -79,6 +80,7 @@ strictly_increasing-later_greater x (y ∷ es) up e (inr there) =
     (map (λ (z : Entry). z.lan) (y ∷ es)) up) e there in
     omega (arith, first, more)
 
+-- two such lists with the same entries begin with the same one
 strictly_increasing-same_heads : (x y : Entry) (xs ys : List Entry)
     → IsStrictlyIncreasing (map (λ (e : Entry). e.lan) (x ∷ xs))
     → IsStrictlyIncreasing (map (λ (e : Entry). e.lan) (y ∷ ys))
@@ -98,6 +100,7 @@ strictly_increasing-same_tails x y e ys first less (inl same) =
     absurd (omega (arith, less, lan))
 strictly_increasing-same_tails x y e ys first less (inr there) = there
 
+-- two such lists with the same entries are the same
 entries_by_lan-unique : (xs ys : List Entry) → IsStrictlyIncreasing (map (λ (e : Entry). e.lan) xs)
     → IsStrictlyIncreasing (map (λ (e : Entry). e.lan) ys) → ((e : Entry) → In e xs → In e ys)
     → ((e : Entry) → In e ys → In e xs) → xs ≡ ys
@@ -117,10 +120,12 @@ entries_by_lan-unique (x ∷ xs) (y ∷ ys) up rises to from =
 
 -- ---- a travel
 
+-- what is found isn't nothing
 finding-none_before_end : (o : Option FindingValue) (x : FindingValue) → o ≡ Some x → o ≡ None → ⊥
 finding-none_before_end None x shows none = absurd cc
 finding-none_before_end (Some y) x shows none = absurd cc
 
+-- a travel has one list of picks and one finding
 is_travel-unique : (n : Net) (count : ℕ) (numbers : List ℕ) (last : Bool) (is js : List ℕ) (f : Flight)
     (x y : FindingValue) → IsTravel n count numbers last is f x
     → IsTravel n count numbers last js f y → (is ≡ js) × (x ≡ y)
@@ -156,6 +161,7 @@ finding_of_value (FindingValue.Loop lan) = Loop lan
 finding_of_value (FindingValue.Stray router vif) = Stray router vif
 finding_of_value (FindingValue.Missed lan) = Missed lan
 
+-- the finding is got back from its value
 finding_value-injective : (x : Finding) → finding_of_value (finding_value x) ≡ x
 finding_value-injective Clean = refl
 finding_value-injective (Duplicate lan) = refl
@@ -221,6 +227,7 @@ fault_at_255-not_at_flow_ttl : (d : DomainValue) (flow : ℕ) (a b : FinishedTra
 fault_at_255-not_at_flow_ttl d flow a b p q fault none =
     let same = is_finished_travel-unique d flow 255 a b p q in fault (ap finding_value same.finding ∙ none)
 
+-- so two examinations of a flow have the same result
 pub examined_flights-unique : (d : DomainValue) (flow : ℕ) (a b : ExaminedFlights)
     → HasExaminedFlights d flow a → HasExaminedFlights d flow b
     → IsExamined d flow (without_flights d flow a) → IsExamined d flow (without_flights d flow b)
@@ -249,6 +256,7 @@ examined_flights-unique d flow (FoundAtFlowTtl a b) (FoundAtFlowTtl c e) p q x y
 
 -- ---- the explanation
 
+-- the same flights have the same causes
 is_explained-same_flights : (d : DomainValue) (flow : ℕ) (a b : ExaminedFlights)
     (printed : List Cause) → HaveSameFlights a b
     → IsExplained d flow a printed → IsExplained d flow b printed
@@ -283,12 +291,14 @@ HaveSameSearch (Some a) (Some b) =
     × (a.reach.took_none.items ≡ b.reach.took_none.items)
 HaveSameSearch _ _ = ⊥
 
+-- two that aren't there
 is_search-none : (a b : Option LanSearch) → a ≡ None → b ≡ None → HaveSameSearch a b
 is_search-none None None p q = tt
 is_search-none None (Some b) p q = absurd cc
 is_search-none (Some a) None p q = absurd cc
 is_search-none (Some a) (Some b) p q = absurd cc
 
+-- two of the same finding
 is_searched-unique : (s : Search) (es : List Event) (x : Finding) (a b : Option LanSearch)
     → IsSearchIfMissed s es x a → IsSearchIfMissed s es x b → HaveSameSearch a b
 is_searched-unique s es Clean a b p q = is_search-none a b p q
@@ -300,6 +310,7 @@ is_searched-unique s es (Missed lan) (Some a) None p q = absurd q
 is_searched-unique s es (Missed lan) (Some a) (Some b) p q =
     (p.lines ∙ sym q.lines, p.sent_on ∙ sym q.sent_on, p.took_none ∙ sym q.took_none)
 
+-- two of the same flights
 is_search_if_missed-unique : (d : DomainFacts) (summary : List SummaryValue) (excluded : List Bool) (flow : ℕ)
     (a b : ExaminedFlights) (s t : Option LanSearch) → HaveSameFlights a b
     → IsSearchAt255 d summary excluded flow a s
@@ -328,12 +339,14 @@ is_search_if_missed-unique d summary excluded flow (FoundAtFlowTtl a b) (Certifi
 is_search_if_missed-unique d summary excluded flow (FoundAtFlowTtl a b) (FoundAtTtl255 c) s t same p
     q = absurd same
 
+-- the same copies miss the same LANs besides
 missed_besides-same_copies : (d : DomainFacts) (flow : ℕ) (a b : FinishedTravel) → IsSameFinishedTravel a b
     → missed_besides d flow a.flight.flight.carried a.travel.finding
     ≡ missed_besides d flow b.flight.flight.carried b.travel.finding
 missed_besides-same_copies d flow a b same =
     ap₂ (λ (f : Flight) (x : Finding). missed_besides d flow f.carried x) same.flight same.finding
 
+-- so do the same flights
 also_missed-same_flights : (d : DomainFacts) (flow : ℕ) (a b : ExaminedFlights) → HaveSameFlights a b
     → also_missed d flow a ≡ also_missed d flow b
 also_missed-same_flights d flow (Certified xs) (Certified ys) same = refl
@@ -364,6 +377,7 @@ HaveSameBehind None None = ⊤
 HaveSameBehind (Some x) (Some y) = IsSameBehind x y
 HaveSameBehind _ _ = ⊥
 
+-- a finding is known by its value
 optional_finding-same_value : (s t : Option Finding)
     → optional_finding_value s ≡ optional_finding_value t → s ≡ t
 optional_finding-same_value None None e = refl
@@ -373,6 +387,7 @@ optional_finding-same_value (Some x) (Some y) e =
     let same : finding_value x ≡ finding_value y = cc in
     ap Some (sym (finding_value-injective x) ∙ ap finding_of_value same ∙ finding_value-injective y)
 
+-- behind the same flight there is one thing
 is_behind_in-unique : (whole greatest : Bool) (t : TopologyValue) (n : Net) (own : Interface) (g : Flight)
     (double : Option Copy) (x y : Behind) → IsBehindIn whole greatest t n own g double x
     → IsBehindIn whole greatest t n own g double y → IsSameBehind x y
@@ -385,6 +400,7 @@ is_behind_in-unique whole greatest t n own g double x y p q = record {
   missed = p.missed ∙ sym q.missed;
 }
 
+-- so there is behind a stray
 is_behind-unique : (whole : Bool) (d : DomainValue) (flow : ℕ) (own : Interface) (x y : Behind)
     → IsBehind whole d flow own x → IsBehind whole d flow own y → IsSameBehind x y
 is_behind-unique whole d flow own x y p q =
@@ -395,11 +411,13 @@ is_behind-unique whole d flow own x y p q =
     (subst (λ (g : Flight). IsBehindIn whole (ttl_of d flow == 255) d.topology n own g
     (first_double [] g.carried) x) same p.shows) q.shows
 
+-- two that aren't there
 same_behind-none : (s t : Option Behind) → s ≡ None → t ≡ None → HaveSameBehind s t
 same_behind-none s t none other =
     subst (λ (o : Option Behind). HaveSameBehind o t) (sym none)
     (subst (λ (o : Option Behind). HaveSameBehind None o) (sym other) tt)
 
+-- two of the same finding
 is_behind_if_stray-unique : (whole : Bool) (d : DomainValue) (flow : ℕ) (x : Finding) (s t : Option Behind)
     → IsBehindIfStray whole d flow x s → IsBehindIfStray whole d flow x t → HaveSameBehind s t
 is_behind_if_stray-unique whole d flow Clean s t p q = same_behind-none s t p q
@@ -411,6 +429,7 @@ is_behind_if_stray-unique whole d flow (Stray router vif) (Some x) None p q = ab
 is_behind_if_stray-unique whole d flow (Stray router vif) (Some x) (Some y) p q =
     is_behind-unique whole d flow (router, vif) x y p q
 
+-- two of the same flights
 is_behind_at_255-unique : (whole : Bool) (d : DomainValue) (flow : ℕ) (a b : ExaminedFlights)
     (s t : Option Behind)
     → HaveSameFlights a b → IsBehindAt255 whole d flow a s → IsBehindAt255 whole d flow b t
@@ -438,6 +457,7 @@ pub record IsSameExplanation (x y : Explanation) : Type 0 where
   pub behind : HaveSameBehind x.behind y.behind
   pub certainty : x.certainty ≡ y.certainty
 
+-- by the same search a fault is known or not
 is_known_wrong-same_search : (whole : Bool) (s t : Option LanSearch) → HaveSameSearch s t
     → is_known_wrong whole s ≡ is_known_wrong whole t
 is_known_wrong-same_search true s t same = refl
@@ -456,6 +476,7 @@ is_shown_from-not_none n cs (FoundLoop lan) k shown = tt
 is_shown_from-not_none n cs (FoundStray router vif) k shown = tt
 is_shown_from-not_none n cs (FoundMissed lan) k shown = shown
 
+-- or there is none
 is_shown_from_if_any-unique : (n : Net) (cs : List Copy) (x : FindingValue) (s t : Option ℕ) → IsNet n
     → IsShownFromIfAny n cs x s → IsShownFromIfAny n cs x t → s ≡ t
 is_shown_from_if_any-unique n cs x None None net p q = refl
@@ -463,11 +484,13 @@ is_shown_from_if_any-unique n cs x None (Some k) net p q = absurd (p (is_shown_f
 is_shown_from_if_any-unique n cs x (Some k) None net p q = absurd (q (is_shown_from-not_none n cs x k p))
 is_shown_from_if_any-unique n cs x (Some k) (Some m) net p q = ap Some (need-unique n cs x k m net p q)
 
+-- nor is there one where the flow's TTL is the greatest
 is_shown_from_unless-unique : (greatest : Bool) (n : Net) (cs : List Copy) (x : FindingValue) (s t : Option ℕ)
     → IsNet n → IsShownFromUnless greatest n cs x s → IsShownFromUnless greatest n cs x t → s ≡ t
 is_shown_from_unless-unique true n cs x s t net p q = p ∙ sym q
 is_shown_from_unless-unique false n cs x s t net p q = is_shown_from_if_any-unique n cs x s t net p q
 
+-- so it is for the same flights
 is_shown_from-unique : (d : DomainValue) (flow : ℕ) (a b : ExaminedFlights) (s t : Option ℕ) → IsDomain d
     → HaveSameFlights a b → IsShownFromAt255 d flow a s → IsShownFromAt255 d flow b t → s ≡ t
 is_shown_from-unique d flow (FoundAtTtl255 a) (FoundAtTtl255 b) s t ok same p q =
@@ -498,17 +521,20 @@ is_found_at_flow_ttl-unique whole d flow s t p q =
     ∙ ap finding_of_value same.2 ∙ finding_value-injective q.travel.finding in
     p.certain ∙ ap (certain_finding whole) finding ∙ sym q.certain
 
+-- if it is asked for
 is_found_at_flow_ttl_if-unique : (less whole : Bool) (d : DomainValue) (flow : ℕ) (s t : Option Finding)
     → IsFoundAtFlowTtlIf less whole d flow s → IsFoundAtFlowTtlIf less whole d flow t → s ≡ t
 is_found_at_flow_ttl_if-unique true whole d flow s t p q = is_found_at_flow_ttl-unique whole d flow s t p q
 is_found_at_flow_ttl_if-unique false whole d flow s t p q = p ∙ sym q
 
+-- by the TTL from which on packets show the finding, if there is one
 is_found_below-unique : (whole : Bool) (d : DomainValue) (flow : ℕ) (from : Option ℕ) (s t : Option Finding)
     → IsFoundBelow whole d flow from s → IsFoundBelow whole d flow from t → s ≡ t
 is_found_below-unique whole d flow None s t p q = p ∙ sym q
 is_found_below-unique whole d flow (Some k) s t p q =
     is_found_at_flow_ttl_if-unique (nat_lt (ttl_of d flow) k) whole d flow s t p q
 
+-- so what is printed of the packets that show it is unique
 is_shown_by-unique : (whole : Bool) (d : DomainValue) (flow : ℕ) (a b : ExaminedFlights) (s t : ShownBy)
     → IsDomain d → HaveSameFlights a b → IsShownBy whole d flow a s → IsShownBy whole d flow b t → s ≡ t
 is_shown_by-unique whole d flow a b s t ok same p q =
@@ -517,9 +543,11 @@ is_shown_by-unique whole d flow a b s t ok same p q =
     (subst (λ (o : Option ℕ). IsFoundBelow whole d flow o s.at_flow_ttl) from p.below) q.below in
     λ i. record { from = from i; at_flow_ttl = below i }
 
+-- two are the same by their parts
 same_certainty : (x y : Certainty) → x.known ≡ y.known → x.shown_by ≡ y.shown_by → x ≡ y
 same_certainty x y known shown = λ i. record { known = known i; shown_by = shown i }
 
+-- so two explanations of a flow are the same
 pub is_explanation-unique : (d : DomainValue) (summary : List SummaryValue) (excluded : List Bool)
     (whole : Bool) (flow : ℕ) (a b : ExaminedFlights) (x y : Explanation) → IsDomain d → HaveSameFlights a b
     → IsExplanation d summary excluded whole flow a x → IsExplanation d summary excluded whole flow b y

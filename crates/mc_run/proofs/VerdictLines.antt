@@ -24,11 +24,13 @@ use Rattle.mc_run.specs.VerdictText.{flow_words, flow_line, flow_lines}
 
 -- ---- a verdict, and the words at a flow's line's start, have no line feed
 
+-- words and a LAN's name
 pub lan_name-no_line_feed : (front : List ℕ) (t : TopologyValue) (lan : ℕ) → HasNoByte 10 front
     → IsValidTopology t
     → HasNoByte 10 (front ++ lan_name t lan)
 lan_name-no_line_feed front t lan p ok = no_feed-append front (lan_name t lan) p (no_feed-lan_name t lan ok)
 
+-- words, a router's name and its vif
 pub router_and_vif-no_line_feed : (front : List ℕ) (t : TopologyValue) (router vif : ℕ) → HasNoByte 10 front
     → IsValidTopology t
     → HasNoByte 10 (front ++ router_name t router ++ codes " " ++ decimal vif)
@@ -36,6 +38,7 @@ router_and_vif-no_line_feed front t router vif p ok =
     let begun = no_feed-append front (router_name t router) p (no_feed-router_name t router ok) in
     no_feed-append _ (decimal vif) (no_feed-append _ (codes " ") begun (refl, tt)) (number vif)
 
+-- the text of a reason
 reason_text-no_line_feed : (t : TopologyValue) (r : Reason) → IsValidTopology t
     → HasNoByte 10 (reason_text t r)
 reason_text-no_line_feed t (TwoEntries lan) ok = lan_name-no_line_feed (codes "TwoEntries ") t lan
@@ -62,6 +65,7 @@ reason_text-no_line_feed t (Missed lan) ok = lan_name-no_line_feed (codes "Misse
 reason_text-no_line_feed t (Low lan) ok = lan_name-no_line_feed (codes "Low ") t lan
     (no_feed-from_list_all (codes "Low ") refl) ok
 
+-- the text of a verdict
 verdict_text-no_line_feed : (t : TopologyValue) (v : Verdict) → IsValidTopology t
     → HasNoByte 10 (verdict_text t v)
 verdict_text-no_line_feed t (Yes copies) ok = no_feed-append (codes "yes copies ") _
@@ -74,6 +78,7 @@ verdict_text-no_line_feed t (No r) ok = no_feed-append (codes "no ") _
 abbrev pub line_body : TopologyValue → Flow → Verdict → List ℕ
 line_body t f v = flow_words f ++ (codes " " ++ verdict_text t v)
 
+-- it has no line feed
 pub flow_line_body : (t : TopologyValue) (f : Flow) (v : Verdict) → IsValidTopology t
     → HasNoByte 10 (line_body t f v)
 flow_line_body t f v ok =
@@ -100,6 +105,7 @@ record AppendSplits (xs tail ys more : List ℕ) : Type 0 where
   begins : ys ≡ xs ++ (10 ∷ rest)
   goes_on : tail ≡ rest ++ (10 ∷ more)
 
+-- two line feeds of a text are the same one, or the one after xs comes first
 append-first_line_feed : (xs tail ys more : List ℕ) → HasNoByte 10 xs → xs ++ (10 ∷ tail) ≡ ys ++ (10 ∷ more)
     → (tail ≡ more) ⊎ AppendSplits xs tail ys more
 append-first_line_feed [] tail [] more none same = inl (cc)
@@ -163,6 +169,7 @@ pub record AreLinesWithoutYes (xs : List ℕ) : Type 0 where
   pub left : (begin front rest tail : List ℕ) → AreYesWords begin → IsLineStart front
       → xs ++ tail ≡ front ++ (begin ++ rest) → HasWordsAfterLines begin tail rest
 
+-- no lines
 pub no_yes_line-no_lines : AreLinesWithoutYes []
 no_yes_line-no_lines = record {
   starts = inl refl;
@@ -170,6 +177,7 @@ no_yes_line-no_lines = record {
       record { front = front; starts = starts; is = same };
 }
 
+-- lines after lines
 pub no_yes_line-append : (xs ys : List ℕ) → AreLinesWithoutYes xs → AreLinesWithoutYes ys
     → AreLinesWithoutYes (xs ++ ys)
 no_yes_line-append xs ys p q = record {
@@ -198,6 +206,7 @@ abbrev pub BeginsWithOtherByte : List ℕ → Type 0
 BeginsWithOtherByte [] = ⊥
 BeginsWithOtherByte (b ∷ xs) = (eqb b 118 ≡ false) × (eqb b 123 ≡ false)
 
+-- so the words of a yes don't begin there
 yes_words-other_first_byte : (xs begin tail rest : List ℕ) → BeginsWithOtherByte xs → AreYesWords begin
     → xs ++ (10 ∷ tail) ≡ begin ++ rest → ⊥
 yes_words-other_first_byte [] begin tail rest other are same = other
@@ -219,6 +228,7 @@ no_yes_line-text_line line xs other none is =
     (no_yes_line-line xs none (λ begin tail rest are same. yes_words-other_first_byte xs begin tail
     rest other are same))
 
+-- one of two texts
 pub no_yes_line-if : (b : Bool) (xs ys : List ℕ) → AreLinesWithoutYes xs → AreLinesWithoutYes ys
     → AreLinesWithoutYes (cond b xs ys)
 no_yes_line-if true xs ys p q = p
@@ -226,12 +236,14 @@ no_yes_line-if false xs ys p q = q
 
 -- ---- the lines of flows
 
+-- the line of a flow
 pub no_yes_line-verdict_line : (t : TopologyValue) (f : Flow) (v : Verdict) → IsValidTopology t
     → AreLinesWithoutYes (flow_line t f v)
 no_yes_line-verdict_line t f v ok =
     no_yes_line-text_line (flow_line t f v) (line_body t f v) (refl, refl) (flow_line_body t f v ok)
     (flow_line-line_body t f v)
 
+-- the lines of all flows
 pub no_yes_line-flow_lines : (t : TopologyValue) (fs : List Flow) (vs : List Verdict) → IsValidTopology t
     → AreLinesWithoutYes (flow_lines t fs vs)
 no_yes_line-flow_lines t [] vs ok = no_yes_line-no_lines

@@ -62,6 +62,7 @@ not_right-whole_domain o left files v flow ttl travel audited_value low high run
     (ExcludesRouters-from_files left.routers files v.domain whole audited_value.means means flow) low high
     runs.1.travel unclean
 
+-- a flow's lines say yes, or what is found in the whole domain
 is_found_in_whole-answer_lines : (o : AuditOptions) (left : LeftOutValue) (files : List FileText)
     (v : AuditedValue)
     (printed : List Tree) (flow : ℕ) (x : Examined) (e : Explanation) (wanted lines : List ℕ)
@@ -88,6 +89,7 @@ is_found_in_whole-answer_lines o left files v printed flow (examined.Found ttl t
       wrong = not_right-whole_domain o left files v flow ttl travel audited_value within.0 within.1 runs;
     })
 
+-- so it is for a flow's answer
 is_found_in_whole-flow_answer : (o : AuditOptions) (left : LeftOutValue) (files : List FileText)
     (v : AuditedValue)
     (printed : List Tree) (flow : ℕ) (a : FlowAnswer) → MeansAudited o left files v
@@ -102,6 +104,7 @@ is_found_in_whole-flow_answer o left files v printed flow a audited_value is =
     is_found_in_whole-answer_lines o left files v printed flow a.examined is.explanation
     a.wanted a.lines audited_value is.checked runs within is.wanted is.spelled
 
+-- and for each flow of an audit
 writes_of_each_in_whole-audited : (o : AuditOptions) (left : LeftOutValue) (files : List FileText)
     (v : AuditedValue)
     (all : Bool) (written : List ℕ) → MeansAudited o left files v → IsAudited v o all written
@@ -120,6 +123,7 @@ writes_of_each_in_whole-audited o left files v all written audited_value a =
       spelled = audit_text-split_at_lines v o all written a;
     }
 
+-- and for the run's output
 pub is_output_of-found_in_whole : (contents : Option (List FileText)) (o : AuditOptions)
     (left : LeftOutValue)
     (s : Result RunOutput RunFault) → IsOutputOf contents (IsAuditText o left) s

@@ -30,6 +30,7 @@ last_words_of_verdict json true = yes_words json
 last_words_of_verdict true false = codes "{\"verdict\":\"no\"}"
 last_words_of_verdict false false = codes "verdict no"
 
+-- the last line is these words and a line feed
 last_words-verdict_line : (json all : Bool) → verdict_line json all ≡ last_words_of_verdict json all
     ++ codes "\n"
 unfolding escape_byte
@@ -38,6 +39,7 @@ last_words-verdict_line true false = refl
 last_words-verdict_line false true = refl
 last_words-verdict_line false false = refl
 
+-- they have no line feed
 last_words-no_line_feed : (json all : Bool) → HasNoByte 10 (last_words_of_verdict json all)
 last_words-no_line_feed true true = no_feed-from_list_all (last_words_of_verdict true true) refl
 last_words-no_line_feed true false = no_feed-from_list_all (last_words_of_verdict true false) refl
@@ -56,6 +58,7 @@ words-byte_in_line : (place : ℕ) (line words rest other : List ℕ) → words 
 words-byte_in_line place line words rest other is same =
     ap (λ (xs : List ℕ). slice_index xs place) (same ∙ ap (λ xs. xs ++ rest) is)
 
+-- where the words of a yes begin the last line
 yes_words-begin_last_line : (json all : Bool) (words rest : List ℕ) → AreYesWords words
     → last_words_of_verdict json all ++ codes "\n" ≡ words ++ rest → IsLastLineYes json all words rest
 yes_words-begin_last_line true true words rest (inl is) same =
@@ -87,9 +90,11 @@ yes_words-begin_last_line false false words rest (inr is) same =
     let bad : 118 ≡ 123 = words-byte_in_line 0 _ words rest yes_object is same in
     absurd (omega (arith, bad))
 
+-- the empty text begins with no byte
 yes_words-not_at_start : (b : ℕ) (xs : List ℕ) → [] ≡ b ∷ xs → ⊥
 yes_words-not_at_start b xs same = absurd cc
 
+-- nor are the words of a yes in it
 yes_words-not_inside : (front words rest : List ℕ) → AreYesWords words → [] ≡ front ++ (words ++ rest) → ⊥
 yes_words-not_inside [] words rest (inl is) same = yes_words-not_at_start _ _
     (same ∙ ap (λ xs. xs ++ rest) is)
@@ -100,6 +105,7 @@ yes_words-not_inside (b ∷ front) words rest are same = yes_words-not_at_start 
 
 -- ---- lines, and the last one after them
 
+-- the words of a yes at a line's start begin the last line
 has_line-last_words : (lines words front rest : List ℕ) (json all : Bool) → AreLinesWithoutYes lines
     → AreYesWords words
     → IsLineStart front → lines ++ verdict_line json all ≡ front ++ (words ++ rest)
@@ -114,6 +120,7 @@ has_line-last_words lines words front rest json all other are starts same =
       | inr left ↦ absurd (yes_words-not_inside left.front words rest are left.is)
     ]
 
+-- a text whose verdict is yes has that line
 is_last_line_yes-wrote : (lines written old : List ℕ) (json : Bool) → AreLinesWithoutYes lines
     → written ≡ lines ++ verdict_line json true
     → WroteAtStart (yes_words json) (Some old) (Some (old ++ written))
@@ -126,6 +133,7 @@ is_last_line_yes-wrote lines written old json other is = (
 
 -- ---- the text of verdicts
 
+-- a text of verdicts that says yes has the line
 pub has_line-check_text : (text written old : List ℕ) → IsVerdictText text true written
     → WroteYes (Some old) (Some (old ++ written))
 has_line-check_text text written old v =
@@ -136,6 +144,7 @@ has_line-check_text text written old v =
     (v.holds.spelled
     ∙ ap (λ all. flow_lines t t.flows verdicts ++ verdict_line false all) (sym v.holds.answer))
 
+-- where it has the line, it says yes, and the line is the last one
 pub is_last_line_yes-check_text : (text written front rest : List ℕ) (all : Bool)
     → IsVerdictText text all written
     → IsLineStart front → written ≡ front ++ (codes "verdict yes" ++ rest)
@@ -167,6 +176,7 @@ headline_of_bundle-check_yes contents s r old new says keeps is yes_holds =
 
 -- ---- the text of an audit
 
+-- four parts, of which the first three come together
 append-assoc_four : (a b c d : List ℕ) → a ++ (b ++ (c ++ d)) ≡ (a ++ (b ++ c)) ++ d
 append-assoc_four a b c d = simp append_assoc
 
@@ -184,6 +194,7 @@ audit_text-lines_and_verdict left files o all written a =
     (verdict_line o.json (is_yes v answers))
     ∙ ap (λ every. text_before_verdict v o answers ++ verdict_line o.json every) (sym a.holds.answer)
 
+-- none of these lines says yes
 no_yes_line-before_verdict : (left : LeftOutValue) (files : List FileText) (o : AuditOptions) (all : Bool)
     (written : List ℕ) (a : IsAuditText o left files all written)
     → AreLinesWithoutYes (text_before_verdict a.domain o a.holds.answers)
@@ -191,6 +202,7 @@ no_yes_line-before_verdict left files o all written a =
     no_yes_line-text_before_verdict a.domain o a.holds.answers a.holds.are_answers
     a.means.means.rules.topology
 
+-- an audit's text that says yes has the line
 pub has_line-audit_text : (left : LeftOutValue) (files : List FileText) (o : AuditOptions)
     (written old : List ℕ) → IsAuditText o left files true written
     → WroteAtStart (yes_words o.json) (Some old) (Some (old ++ written))
@@ -199,6 +211,7 @@ has_line-audit_text left files o written old a =
     (no_yes_line-before_verdict left files o true written a)
     (audit_text-lines_and_verdict left files o true written a)
 
+-- where it has the words of a yes, they begin its last line
 is_last_line_yes-audit_line : (left : LeftOutValue) (files : List FileText) (o : AuditOptions) (all : Bool)
     (words written front rest : List ℕ) → IsAuditText o left files all written → IsLineStart front
     → AreYesWords words → written ≡ front ++ (words ++ rest) → IsLastLineYes o.json all words rest
@@ -207,6 +220,7 @@ is_last_line_yes-audit_line left files o all words written front rest a starts a
     (no_yes_line-before_verdict left files o all written a) are starts
     (sym (audit_text-lines_and_verdict left files o all written a) ∙ is)
 
+-- so it says yes in its own form, and the line is the last one
 pub is_last_line_yes-audit_text : (left : LeftOutValue) (files : List FileText) (o : AuditOptions)
     (all : Bool)
     (words written front rest : List ℕ) → IsAuditText o left files all written → IsLineStart front
@@ -222,16 +236,19 @@ says_yes_by_line-audit_text : (o : AuditOptions) (left : LeftOutValue) (words : 
 says_yes_by_line-audit_text o left words are files all written a (front, rest, starts, is) =
     (is_last_line_yes-audit_line left files o all words written front rest a starts are is).all_are
 
+-- in text
 pub says_yes_by_line-verdict_yes : (o : AuditOptions) (left : LeftOutValue)
     → SaysYesByLine (codes "verdict yes") (IsAuditText o left)
 says_yes_by_line-verdict_yes o left = says_yes_by_line-audit_text o left (codes "verdict yes") (inl refl)
 
+-- in JSON
 pub says_yes_by_line-yes_object : (o : AuditOptions) (left : LeftOutValue)
     → SaysYesByLine yes_object (IsAuditText o left)
 says_yes_by_line-yes_object o left = says_yes_by_line-audit_text o left yes_object (inr refl)
 
 -- ---- the audits that say yes
 
+-- names whose number is zero
 names-empty : (names : List (List ℕ)) → (length names == 0) ≡ true → names ≡ []
 names-empty [] none = refl
 names-empty (name ∷ names) none =

@@ -31,6 +31,7 @@ abbrev FirstWordIsOif : List ℕ → List ℕ → ℕ → ℕ → Type 0
 FirstWordIsOif line behind vif threshold =
     (word : List ℕ) × (words_of line ≡ word ∷ words_of behind) × (oif_in word ≡ Ok (vif, threshold))
 
+-- a vif of one digit
 first_word-without_tens : (line : List ℕ) → 7 ≤ length line → StartsWithPrintedOif line
     → (get_or line 1 0 == 32) ≡ true
     → FirstWordIsOif line (drop 7 line) (printed_vif (get_or line 1 0) (get_or line 2 0))
@@ -48,9 +49,11 @@ first_word-without_tens line long printed space =
       found.2 ∙ ap (λ (v : ℕ). Ok (v, get_or line 4 0 - 48)) vif,
     )
 
+-- the tens are the digit's lower half
 tens_digit-mod_16 : (tens : ℕ) → 49 ≤ tens → tens ≤ 51 → tens - 48 ≡ tens % 16
 tens_digit-mod_16 tens low high = omega (arith, low, high)
 
+-- a vif of two digits
 first_word-with_tens : (line : List ℕ) → 7 ≤ length line → StartsWithPrintedOif line
     → (get_or line 1 0 == 32) ≡ false
     → printed_vif (get_or line 1 0) (get_or line 2 0) ≤ 31
@@ -105,6 +108,7 @@ printed_oif-has_digits line at printed =
       subst (λ b. b ≤ 57) t (leb-true _ 57 threshold.1),
     )
 
+-- so the vif is a byte
 pub printed_vif-fits : (line : List ℕ) (at : ℕ) → StartsWithPrintedOif (drop at line)
     → Fits w8 (printed_vif (get_or line (at + 1) 0) (get_or line (at + 2) 0))
 printed_vif-fits line at printed =
@@ -184,6 +188,7 @@ oifs_after_words-ascending oifs next (word ∷ words) [] end rest ascend lane_be
 
 -- ---- the test of all lanes
 
+-- all bits where two bytes are equal, and else none
 abbrev equal_lane : ℕ → ℕ → ℕ
 equal_lane a b = cond (eqb a b) 255 0
 
@@ -192,9 +197,11 @@ abbrev tested_lanes : List ℕ → List ℕ → List ℕ → List ℕ → List �
 tested_lanes v least sizes others =
     zip2 bit_or (zip2 lane_below (zip2 lane_minus v least) sizes) (zip2 equal_lane v others)
 
+-- whether the byte is one of so many from the least on, or the other one
 abbrev byte_passes : ℕ → ℕ → ℕ → ℕ → Bool
 byte_passes least size other b = top 7 (bit_or (lane_below (lane_minus b least) size) (equal_lane b other))
 
+-- they are 32 lanes
 length-tested_lanes : (v least sizes others : List ℕ) → length v ≡ 32 → length least ≡ 32
     → length sizes ≡ 32 → length others ≡ 32 → length (tested_lanes v least sizes others) ≡ 32
 length-tested_lanes v least sizes others a b c d =
@@ -203,6 +210,7 @@ length-tested_lanes v least sizes others a b c d =
     let third = length-zip2 equal_lane v others (a ∙ sym d) ∙ a in
     length-zip2 bit_or _ _ (second ∙ sym third) ∙ second
 
+-- the top bit of a lane is set exactly if its byte passes
 get_or-tested_lanes : (v least sizes others : List ℕ) → length v ≡ 32 → length least ≡ 32
     → length sizes ≡ 32 → length others ≡ 32 → (k : ℕ) → k < 32
     → get_or (map (top 7) (tested_lanes v least sizes others)) k false
@@ -237,28 +245,34 @@ byte_passes-all_lanes v least sizes others a b c d all k within bit =
 
 -- ---- the bytes that are allowed at each place
 
+-- a space
 byte_passes-space : (b : ℕ) → b < 256 → byte_passes 32 1 32 b ≡ true → b ≡ 32
 byte_passes-space b fits e =
     eqb-true b 32 (sym (agree_below_at (byte_passes 32 1 32) (λ x. x == 32) 256 b refl fits) ∙ e)
 
+-- a space, or 1 to 3
 byte_passes-tens : (b : ℕ) → b < 256 → byte_passes 49 3 32 b ≡ true
     → (b == 32 || (nat_le 49 b && nat_le b 51)) ≡ true
 byte_passes-tens b fits e =
     sym (agree_below_at (byte_passes 49 3 32) (λ x. x == 32 || (nat_le 49 x && nat_le x 51)) 256 b refl fits)
     ∙ e
 
+-- a digit
 byte_passes-units : (b : ℕ) → b < 256 → byte_passes 48 10 48 b ≡ true → is_ascii_digit b ≡ true
 byte_passes-units b fits e = sym (agree_below_at (byte_passes 48 10 48) is_ascii_digit 256 b refl fits) ∙ e
 
+-- a colon
 byte_passes-colon : (b : ℕ) → b < 256 → byte_passes 58 1 58 b ≡ true → b ≡ 58
 byte_passes-colon b fits e =
     eqb-true b 58 (sym (agree_below_at (byte_passes 58 1 58) (λ x. x == 58) 256 b refl fits) ∙ e)
 
+-- 1 to 9
 byte_passes-threshold : (b : ℕ) → b < 256 → byte_passes 49 9 49 b ≡ true
     → (nat_le 49 b && nat_le b 57) ≡ true
 byte_passes-threshold b fits e =
     sym (agree_below_at (byte_passes 49 9 49) (λ x. nat_le 49 x && nat_le x 57) 256 b refl fits) ∙ e
 
+-- bytes that pass at seven places are a printed outgoing vif
 printed_oif-from_bytes : (line : List ℕ) (n : ℕ) → ((k : ℕ) → Fits w8 (get_or line k 0))
     → byte_passes 32 1 32 (get_or line (n + 0) 0) ≡ true → byte_passes 49 3 32 (get_or line (n + 1) 0) ≡ true
     → byte_passes 48 10 48 (get_or line (n + 2) 0) ≡ true → byte_passes 58 1 58 (get_or line (n + 3) 0) ≡ true

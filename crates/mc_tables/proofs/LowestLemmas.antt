@@ -27,9 +27,11 @@ use Rattle.mc_tables.proofs.UnlistedRowLemmas.{same_key-equal}
 
 -- ---- the order of pairs
 
+-- a greater pair: the other one is less
 key_cmp-greater_flip : (x y : ℕ × ℕ) → key_cmp x y ≡ Greater → key_cmp y x ≡ Less
 key_cmp-greater_flip x y is = key_cmp-total.antisymm y x ∙ ap ordering_reverse is
 
+-- a lesser pair: the other one is greater
 key_cmp-less_flip : (x y : ℕ × ℕ) → key_cmp x y ≡ Less → key_cmp y x ≡ Greater
 key_cmp-less_flip x y is = key_cmp-total.antisymm y x ∙ ap ordering_reverse is
 
@@ -66,12 +68,14 @@ key_cmp-greater_than_lesser pair x p above less =
 abbrev pub AreAbove : ℕ × ℕ → List (ℕ × ℕ) → Type 0
 AreAbove x ps = AllByRecursion (λ y. key_cmp x y ≡ Less) ps
 
+-- what is above a pair is above a lesser one
 pub are_above-lesser : (pair p : ℕ × ℕ) (ps : List (ℕ × ℕ)) → key_cmp pair p ≡ Less → AreAbove p ps
     → AreAbove pair ps
 are_above-lesser pair p [] less all = tt
 are_above-lesser pair p (q ∷ ps) less all =
     (key_cmp-total.trans pair p q less all.0, are_above-lesser pair p ps less all.1)
 
+-- with one more that is above it
 are_above-put_pair : (x pair : ℕ × ℕ) (ps : List (ℕ × ℕ)) → key_cmp x pair ≡ Less → AreAbove x ps
     → AreAbove x (put_pair pair ps)
 are_above-put_pair x pair [] less all = (less, tt)
@@ -82,6 +86,7 @@ are_above-put_pair x pair (p ∷ ps) less all =
       | Greater ↦ (all.0, are_above-put_pair x pair ps less all.1)
     ]
 
+-- the first ones of those above it
 are_above-take : (n : ℕ) (x : ℕ × ℕ) (ps : List (ℕ × ℕ)) → AreAbove x ps → AreAbove x (take n ps)
 are_above-take zero x ps all = tt
 are_above-take (suc n) x [] all = tt
@@ -112,6 +117,7 @@ take-ascends zero ps up = tt
 take-ascends (suc n) [] up = tt
 take-ascends (suc n) (p ∷ ps) up = (are_above-take n p ps up.0, take-ascends n ps up.1)
 
+-- so do the first 20 with one more
 pub take_put_pair-ascends : (pair : ℕ × ℕ) (ps : List (ℕ × ℕ)) → IsStrictlySortedBy key_cmp ps
     → IsStrictlySortedBy key_cmp (take 20 (put_pair pair ps))
 take_put_pair-ascends pair ps up = take-ascends 20 (put_pair pair ps) (put_pair-ascends pair ps up)
@@ -122,6 +128,7 @@ is_sorted-from_strict ps up = λ k d low high.
     ap is_lt (key_cmp-less_flip (get_or ps k d) (get_or ps (k + 1) d)
     (Less-from_sorted key_cmp ps k (k + 1) d up (omega arith) high))
 
+-- by how each compares with a pair
 search_order-from_strict : (ps : List (ℕ × ℕ)) (pair : ℕ × ℕ) → IsStrictlySortedBy key_cmp ps
     → IsNonDecreasingBy (λ p. ordering_index (key_cmp p pair)) ps
 search_order-from_strict ps pair up =
@@ -270,6 +277,7 @@ in_order-push ps pair =
     ∙ ap (map (λ e. e.0)) (fin.entries-insert key_cmp-total all pair (tt {0}))
     ∙ map-put_key pair (fin.entries all)
 
+-- and the lowest, with one more
 pub take_in_order-push : (ps : List (ℕ × ℕ)) (pair : ℕ × ℕ)
     → take 20 (in_order (ps ++ pair ∷ [])) ≡ take 20 (put_pair pair (take 20 (in_order ps)))
 take_in_order-push ps pair =
@@ -288,18 +296,21 @@ take_in_order-none = ap (take 20) in_order-none
 
 -- ---- all pairs, or the lowest
 
+-- one more
 pub shown_pairs-push : (all : Bool) (ps : List (ℕ × ℕ)) (pair : ℕ × ℕ)
     → shown_pairs all (in_order (ps ++ pair ∷ []))
     ≡ shown_pairs all (put_pair pair (shown_pairs all (in_order ps)))
 shown_pairs-push true ps pair = in_order-push ps pair
 shown_pairs-push false ps pair = take_in_order-push ps pair
 
+-- none
 pub shown_pairs-none : (all : Bool) → [] ≡ shown_pairs all (in_order [])
 shown_pairs-none true = in_order-none
 shown_pairs-none false = take_in_order-none
 
 -- ---- pairs that were sorted
 
+-- a test that is true passes
 is_true-from_eq : (b : Bool) → b ≡ true → T b
 is_true-from_eq b is = subst T (sym is) tt
 
@@ -310,6 +321,7 @@ below_all-as_keys x [] all = refl
 below_all-as_keys x (p ∷ ps) all =
     ap (λ r. is_lt r && below_all key_cmp x (as_keys ps)) all.0 ∙ below_all-as_keys x ps all.1
 
+-- ascending pairs are the keys of a map
 is_sorted-as_keys : (ps : List (ℕ × ℕ)) → IsStrictlySortedBy key_cmp ps
     → is_sorted key_cmp (as_keys ps) ≡ true
 unfolding IsStrictlySortedBy
@@ -317,6 +329,7 @@ is_sorted-as_keys [] up = refl
 is_sorted-as_keys (p ∷ ps) up =
     ap (λ b. b && is_sorted key_cmp (as_keys ps)) (below_all-as_keys p ps up.0) ∙ is_sorted-as_keys ps up.1
 
+-- pairs are got back from their keys
 map-as_keys : (ps : List (ℕ × ℕ)) → map (λ e. e.0) (as_keys ps) ≡ ps
 map-as_keys [] = refl
 map-as_keys (p ∷ ps) = ap (λ (l : List (ℕ × ℕ)). p ∷ l) (map-as_keys ps)

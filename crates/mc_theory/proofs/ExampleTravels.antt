@@ -19,14 +19,17 @@ sent_event r v t copies = record { router = r; vif = v; ttl = t; outcome = Sent 
 abbrev other_vif_event : ℕ → ℕ → ℕ → Event
 other_vif_event r v t = record { router = r; vif = v; ttl = t; outcome = OtherVif }
 
--- ---- the line
+-- ---- the line: r1 forwards l0 to l1, and r2 l1 to l2
 
+-- two picks of the first waiting copy
 abbrev two_first_picks : List ℕ
 two_first_picks = 0 ∷ 0 ∷ []
 
+-- three such picks
 abbrev three_first_picks : List ℕ
 three_first_picks = 0 ∷ 0 ∷ 0 ∷ []
 
+-- four such picks
 abbrev four_first_picks : List ℕ
 four_first_picks = 0 ∷ 0 ∷ 0 ∷ 0 ∷ []
 
@@ -35,12 +38,14 @@ is_travel-line_at_ttl_2 : IsTravel (line 2) 3 [] false two_first_picks (start (l
 unfolding below interfaces
 is_travel-line_at_ttl_2 = (refl, refl, (refl, refl, refl))
 
+-- r1 puts a copy on l1, and r2 sends none
 events-line_at_ttl_2 : events (line 2) two_first_picks (start (line 2) 2) ≡ sent_event 0 0 2 1 ∷
     sent_event 1 0 1 0
     ∷ []
 unfolding below interfaces
 events-line_at_ttl_2 = refl
 
+-- at TTL 255 nothing is wrong with the line
 is_travel-line_at_ttl_255 : IsTravel (line 2) 3 [] false two_first_picks (start (line 2) 255) Clean
 unfolding below interfaces
 is_travel-line_at_ttl_255 = (refl, refl, (refl, refl, refl))
@@ -51,20 +56,23 @@ entries_of-line_copies : entries_of (line 3) (run (line 3) (handles two_first_pi
 unfolding below interfaces
 entries_of-line_copies = refl
 
--- ---- a second path to l2
+-- ---- a shortcut: r3 forwards l0 to l2 too, so l2 gets two copies
 
+-- at TTL 3 the second copy on l2 is found after three handlings
 is_travel-shortcut : IsTravel (line_with_shortcut 3) 3 [] false three_first_picks
     (start (line_with_shortcut 3) 3)
     (Duplicate 2)
 unfolding below interfaces
 is_travel-shortcut = (refl, refl, (refl, refl, (refl, refl, refl)))
 
+-- r1 forwards, then r3 and then r2
 events-shortcut : events (line_with_shortcut 3) three_first_picks (start (line_with_shortcut 3) 3)
     ≡ sent_event 0 0 3 1
     ∷ sent_event 2 0 3 1 ∷ sent_event 1 0 2 1 ∷ []
 unfolding below interfaces
 events-shortcut = refl
 
+-- and so it is at TTL 255
 is_travel-shortcut_at_ttl_255 : IsTravel (line_with_shortcut 3) 3 [] false three_first_picks
     (start (line_with_shortcut 3) 255) (Duplicate 2)
 unfolding below interfaces
@@ -74,11 +82,13 @@ is_travel-shortcut_at_ttl_255 = (refl, refl, (refl, refl, (refl, refl, refl)))
 abbrev one_then_first_picks : List ℕ
 one_then_first_picks = 1 ∷ 0 ∷ 0 ∷ 0 ∷ []
 
+-- by it the second copy is found as well
 is_travel-shortcut_by_numbers : IsTravel (line_with_shortcut 3) 3 (1 ∷ []) false one_then_first_picks
     (start (line_with_shortcut 3) 3) (Duplicate 2)
 unfolding below interfaces
 is_travel-shortcut_by_numbers = (refl, refl, (refl, refl, (refl, refl, (refl, refl, refl))))
 
+-- r3 forwards first, and r2 takes its copy from l2, by vif 1, which it doesn't expect
 events-shortcut_by_numbers : events (line_with_shortcut 3) one_then_first_picks
     (start (line_with_shortcut 3) 3) ≡ sent_event 2 0
     3 1 ∷ sent_event 0 0 3 1 ∷ other_vif_event 1 1 2 ∷ sent_event 1 0 2 1 ∷ []
@@ -89,25 +99,29 @@ events-shortcut_by_numbers = refl
 abbrev last_picks : List ℕ
 last_picks = 1 ∷ 1 ∷ 0 ∷ 0 ∷ []
 
+-- by it the second copy is found as well
 is_travel-shortcut_by_last : IsTravel (line_with_shortcut 3) 3 [] true last_picks
     (start (line_with_shortcut 3) 3)
     (Duplicate 2)
 unfolding below interfaces
 is_travel-shortcut_by_last = (refl, refl, (refl, refl, (refl, refl, (refl, refl, refl))))
 
+-- r3 forwards first, r2 takes its copy from l2, and r1 and r2 forward last
 events-shortcut_by_last : events (line_with_shortcut 3) last_picks (start (line_with_shortcut 3) 3)
     ≡ sent_event 2 0 3 1
     ∷ other_vif_event 1 1 2 ∷ sent_event 0 0 3 1 ∷ sent_event 1 0 2 1 ∷ []
 unfolding below interfaces
 events-shortcut_by_last = refl
 
--- ---- a path back to l0
+-- ---- a loop: r3 forwards l2 back to l0
 
+-- at TTL 4 the copy comes back to l0
 is_travel-line_with_loop : IsTravel (line_with_loop 3) 3 [] false four_first_picks
     (start (line_with_loop 3) 4) (Loop 0)
 unfolding below interfaces
 is_travel-line_with_loop = (refl, refl, (refl, refl, (refl, refl, (refl, refl, refl))))
 
+-- r3 takes the source's copy by vif 1, which it doesn't expect, and later forwards r2's onto l0
 events-line_with_loop : events (line_with_loop 3) four_first_picks (start (line_with_loop 3) 4)
     ≡ sent_event 0 0 4 1
     ∷ other_vif_event 2 1 4 ∷ sent_event 1 0 3 1 ∷ sent_event 2 0 2 1 ∷ []
@@ -121,19 +135,22 @@ is_travel-line_with_loop_at_ttl_3 : IsTravel (line_with_loop 3) 3 [] false four_
 unfolding below interfaces
 is_travel-line_with_loop_at_ttl_3 = (refl, refl, (refl, refl, (refl, refl, (refl, refl, refl))))
 
+-- r3 sends none, since TTL 1 isn't greater than its threshold 1
 events-line_with_loop_at_ttl_3 : events (line_with_loop 3) four_first_picks (start (line_with_loop 3) 3)
     ≡ sent_event 0 0 3 1
     ∷ other_vif_event 2 1 3 ∷ sent_event 1 0 2 1 ∷ sent_event 2 0 1 0 ∷ []
 unfolding below interfaces
 events-line_with_loop_at_ttl_3 = refl
 
--- ---- a path from l1 back to l1
+-- ---- r3 takes from l1 and sends onto l1
 
+-- at TTL 3 the copy comes to l1 again
 is_travel-onto_itself : IsTravel (onto_itself 3) 3 [] false three_first_picks (start (onto_itself 3) 3)
     (Loop 1)
 unfolding below interfaces
 is_travel-onto_itself = (refl, refl, (refl, refl, (refl, refl, refl)))
 
+-- r1 and r2 forward, and then r3 from l1 onto l1
 events-onto_itself : events (onto_itself 3) three_first_picks (start (onto_itself 3) 3)
     ≡ sent_event 0 0
     3 1 ∷ sent_event 1 0 2 1 ∷ sent_event 2 1 2 1 ∷ []

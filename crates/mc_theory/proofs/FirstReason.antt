@@ -23,33 +23,40 @@ use Rattle.mc_theory.proofs.ListLemmas.{in-below}
 use Rattle.mc_theory.proofs.PlacedInterfaces.{is_lan-true, is_lan-from_equal}
 use Rattle.mc_theory.proofs.RunInvariant.{is_sender-true, is_sender-from_equal}
 
+-- an entry's LAN
 abbrev lan : Entry → ℕ
 lan e = e.lan
 
 -- ---- reasons in a row
 
+-- no reason of two: neither is there
 then-none : (a b : Option Reason) → (a then b) ≡ None → (a ≡ None) × (b ≡ None)
 then-none (Some x) b e = absurd cc
 then-none None b e = (refl, e)
 
+-- if neither is there, there is none
 then-from_none : (a b : Option Reason) → a ≡ None → b ≡ None → (a then b) ≡ None
 then-from_none (Some x) b e h = absurd cc
 then-from_none None b e h = h
 
+-- no reason unless something is true: it is
 unless-true : (b : Bool) (x : Reason) → unless b x ≡ None → b ≡ true
 unless-true true x e = refl
 unless-true false x e = absurd cc
 
+-- if it is true, there is none
 unless-from_true : (b : Bool) (x : Reason) → b ≡ true → unless b x ≡ None
 unless-from_true true x e = refl
 unless-from_true false x e = absurd cc
 
+-- no first reason: no item has one
 first_of-none_each : {A : Type 0} (f : A → Option Reason) (xs : List A) → first_of f xs ≡ None → (x : A) →
     In x xs → f x ≡ None
 first_of-none_each f [] e x h = absurd h
 first_of-none_each f (y ∷ xs) e x (inl q) = ap f (sym q) ∙ (then-none (f y) (first_of f xs) e).0
 first_of-none_each f (y ∷ xs) e x (inr h) = first_of-none_each f xs (then-none (f y) (first_of f xs) e).1 x h
 
+-- if no item has one, there is none
 first_of-from_none_each : {A : Type 0} (f : A → Option Reason) (xs : List A) →
     ((x : A) → In x xs → f x ≡ None) →
     first_of f xs ≡ None
@@ -57,24 +64,28 @@ first_of-from_none_each f [] h = refl
 first_of-from_none_each f (x ∷ xs) h = then-from_none (f x) (first_of f xs) (h x (inl refl))
     (first_of-from_none_each f xs (λ y k. h y (inr k)))
 
+-- what is true of all is true of each
 list_all-each : {A : Type 0} (p : A → Bool) (xs : List A) → list_all p xs ≡ true → (x : A) → In x xs →
     p x ≡ true
 list_all-each p [] e x h = absurd h
 list_all-each p (y ∷ xs) e x (inl q) = ap p (sym q) ∙ (and_parts (p y) (list_all p xs) e).0
 list_all-each p (y ∷ xs) e x (inr h) = list_all-each p xs (and_parts (p y) (list_all p xs) e).1 x h
 
+-- what is true of each is true of all
 list_all-from_each : {A : Type 0} (p : A → Bool) (xs : List A) → ((x : A) → In x xs → p x ≡ true) →
     list_all p xs ≡ true
 list_all-from_each p [] h = refl
 list_all-from_each p (x ∷ xs) h = and_from (p x) (list_all p xs) (h x (inl refl))
     (list_all-from_each p xs (λ y k. h y (inr k)))
 
+-- what is true of any is true of a member
 list_any-some_member : {A : Type 0} (p : A → Bool) (xs : List A) → list_any p xs ≡ true →
     (x : A) × In x xs × (p x ≡ true)
 list_any-some_member p [] e = absurd cc
 list_any-some_member p (x ∷ xs) e = elim (or_cases (p x) (list_any p xs) e)
     [ inl h ↦ (x, inl refl, h) | inr h ↦ (let r = list_any-some_member p xs h in (r.0, inr r.1, r.2)) ]
 
+-- what is true of a member is true of any
 list_any-from_member : {A : Type 0} (p : A → Bool) (xs : List A) (x : A) → In x xs → p x ≡ true →
     list_any p xs ≡ true
 list_any-from_member p [] x h e = absurd h
@@ -83,6 +94,7 @@ list_any-from_member p (y ∷ xs) x (inr h) e = or_right (p y) (list_any p xs) (
 
 -- ---- the entry of a LAN
 
+-- by whether the first entry is the LAN's
 entry_on-some_step : (e : Entry) (es : List Entry) (l : ℕ) (d : Entry) (b : Bool) → (e.lan == l) ≡ b →
     cond b (Some e) (entry_on es l) ≡ Some d → (entry_on es l ≡ Some d → In d es × (d.lan ≡ l)) →
     In d (e ∷ es) × (d.lan ≡ l)
@@ -90,15 +102,18 @@ entry_on-some_step e es l d true q h ih = let same : e ≡ d =
     cc in (inl same, ap lan (sym same) ∙ eqb-true e.lan l q)
 entry_on-some_step e es l d false q h ih = (inr (ih h).0, (ih h).1)
 
+-- the entry that is found is in the list, and is the LAN's
 entry_on-some : (es : List Entry) (l : ℕ) (d : Entry) → entry_on es l ≡ Some d → In d es × (d.lan ≡ l)
 entry_on-some [] l d h = absurd cc
 entry_on-some (e ∷ es) l d h = entry_on-some_step e es l d (e.lan == l) refl h (entry_on-some es l d)
 
+-- by whether the first entry is the LAN's
 entry_on-none_step : (e : Entry) (es : List Entry) (l : ℕ) (b : Bool) → (e.lan == l) ≡ b →
     cond b (Some e) (entry_on es l) ≡ None → (e.lan ≢ l) × (entry_on es l ≡ None)
 entry_on-none_step e es l true q h = absurd cc
 entry_on-none_step e es l false q h = (eqb-false e.lan l q, h)
 
+-- where none is found, no entry is the LAN's
 entry_on-none : (es : List Entry) (l : ℕ) → entry_on es l ≡ None → (d : Entry) → In d es → d.lan ≢ l
 entry_on-none [] l h d k = absurd k
 entry_on-none (e ∷ es) l h d (inl q) = subst (λ (x : Entry). x.lan ≢ l) q
@@ -106,6 +121,7 @@ entry_on-none (e ∷ es) l h d (inl q) = subst (λ (x : Entry). x.lan ≢ l) q
 entry_on-none (e ∷ es) l h d (inr k) = entry_on-none es l (entry_on-none_step e es l (e.lan == l) refl h).1 d
     k
 
+-- by whether the first entry is the LAN's
 entry_on-of_member_step : (e d : Entry) (es : List Entry) (b : Bool) → (e.lan == d.lan) ≡ b →
     Distinct (map lan (e ∷ es)) → In d (e ∷ es) → (In d es → entry_on es d.lan ≡ Some d) →
     cond b (Some e) (entry_on es d.lan) ≡ Some d
@@ -115,16 +131,19 @@ entry_on-of_member_step e d es true q apart (inr h) ih = absurd (apart.0
 entry_on-of_member_step e d es false q apart (inl h) ih = absurd (eqb-false e.lan d.lan q (ap lan h))
 entry_on-of_member_step e d es false q apart (inr h) ih = ih h
 
+-- an entry is found by its LAN, if no LAN is named twice
 pub entry_on-of_member : (es : List Entry) (d : Entry) → Distinct (map lan es) → In d es →
     entry_on es d.lan ≡ Some d
 entry_on-of_member [] d apart h = absurd h
 entry_on-of_member (e ∷ es) d apart h = entry_on-of_member_step e d es (e.lan == d.lan) refl apart h
     (entry_on-of_member es d apart.1)
 
+-- what isn't something is nothing
 none-from_not_is_some : {A : Type 0} (o : Option A) → not (is_some o) ≡ true → o ≡ None
 none-from_not_is_some None e = refl
 none-from_not_is_some (Some x) e = absurd cc
 
+-- what is nothing isn't something
 not_is_some-from_none : {A : Type 0} (o : Option A) → o ≡ None → not (is_some o) ≡ true
 not_is_some-from_none None e = refl
 not_is_some-from_none (Some x) e = absurd cc
@@ -137,6 +156,7 @@ entry_on-from_absent es l (Some d) e h = absurd (let f = entry_on-some es l d e 
 
 -- ---- no LAN is named twice
 
+-- where no LAN is named twice, the LANs are distinct, and other than earlier ones
 twice-none : (earlier es : List Entry) → twice earlier es ≡ None →
     Distinct (map lan es) × ((d e : Entry) → In d earlier → In e es → d.lan ≢ e.lan)
 twice-none earlier [] h = (tt, λ d e k z. absurd z)
@@ -157,6 +177,7 @@ twice-none earlier (e ∷ es) h =
       ],
     )
 
+-- and the other way round
 twice-from_distinct : (earlier es : List Entry) → Distinct (map lan es) →
     ((d e : Entry) → In d earlier → In e es → d.lan ≢ e.lan) → twice earlier es ≡ None
 twice-from_distinct earlier [] apart h = refl
@@ -173,11 +194,13 @@ twice-from_distinct earlier (e ∷ es) apart h = then-from_none (unless (not (is
 
 -- ---- the source
 
+-- an entry is known by its fields
 entry_equal-from_fields : (e : Entry) (l r k : ℕ) (o : Option Interface) → e.lan ≡ l → e.rank ≡ r →
     e.need ≡ k →
     e.forwarder ≡ o → e ≡ record { lan = l; rank = r; need = k; forwarder = o }
 entry_equal-from_fields e l r k o p q s t = λ i. record { lan = p i; rank = q i; need = s i; forwarder = t i }
 
+-- the list has the source's entry if that passes its test
 source_entry-from_test : (n : Net) (es : List Entry) (o : Option Entry) → entry_on es n.source ≡ o →
     is_source_entry o ≡ true → In (source_entry_of n) es
 source_entry-from_test n es None q e = absurd cc
@@ -189,11 +212,13 @@ source_entry-from_test n es (Some d) q e =
     (entry_equal-from_fields d n.source 0 1 None found.1 (eqb-true d.rank 0 a.0)
     (eqb-true d.need 1 b.0) (none-from_not_is_some d.forwarder b.1)) found.0
 
+-- each entry but the source's passes its test only if it has a forwarder
 others_fed-from_test : (n : Net) (e : Entry) → ((e.lan == n.source) || is_some e.forwarder) ≡ true →
     e.lan ≢ n.source → IsSome e.forwarder
 others_fed-from_test n e h other = elim (or_cases (e.lan == n.source) (is_some e.forwarder) h)
     [ inl q ↦ absurd (other (eqb-true e.lan n.source q)) | inr q ↦ q ]
 
+-- and the other way round
 others_fed_test-from_fed : (n : Net) (e : Entry) → (e.lan ≢ n.source → IsSome e.forwarder) →
     ((e.lan == n.source) || is_some e.forwarder) ≡ true
 others_fed_test-from_fed n e h = elim (cases_eq e.lan n.source) [
@@ -205,16 +230,20 @@ others_fed_test-from_fed n e h = elim (cases_eq e.lan n.source) [
 
 -- ---- what routers send
 
+-- a pair that passes the test is live
 is_live-true : (rank h : ℕ) → is_live rank h ≡ true → IsLive rank h
 is_live-true rank h e = let z = ltb-true (rank + h) 255 e in omega arith
 
+-- and the other way round
 is_live-from_live : (rank h : ℕ) → IsLive rank h → is_live rank h ≡ true
 is_live-from_live rank h e = lt-ltb (rank + h) 255 (omega arith)
 
+-- no reason under a condition: where it is true, there is none
 none-from_cond_true : (b : Bool) (x : Option Reason) → cond b x None ≡ None → b ≡ true → x ≡ None
 none-from_cond_true true x e h = e
 none-from_cond_true false x e h = absurd cc
 
+-- and the other way round
 cond_none-from_branch : (b : Bool) (x : Option Reason) → (b ≡ true → x ≡ None) → cond b x None ≡ None
 cond_none-from_branch true x h = h refl
 cond_none-from_branch false x h = refl
@@ -237,11 +266,13 @@ onto_reason-none_for_feeding_pair n es p r v h net apart none p_in feeds =
     (first_of-none_each (pair_reason n es p r) feeds.pairs pairs (v, h) feeds.pair)
     (is_live-from_live p.rank h feeds.live)
 
+-- its vif is placed
 is_placed-from_no_reason : (es : List Entry) (p : Entry) (r : ℕ) (pair : ℕ × ℕ) (o : Option ℕ) →
     onto_reason es p r pair o ≡ None → IsSome o
 is_placed-from_no_reason es p r pair None e = absurd cc
 is_placed-from_no_reason es p r pair (Some q) e = refl
 
+-- the entry of the LAN that it feeds is a child
 is_child-from_no_reason : (es : List Entry) (p : Entry) (r v h q : ℕ) (o : Option Entry) → entry_on es q ≡ o →
     child_reason p r (v, h) q o ≡ None → (e : Entry) × In e es × (e.lan ≡ q) × IsChild p r v h e
 is_child-from_no_reason es p r v h q None z e = absurd cc
@@ -264,6 +295,7 @@ is_child-from_no_reason es p r v h q (Some d) z e =
       },
     )
 
+-- no vif of a router with an open row is placed on a LAN of the list
 no_wildcard-from_no_reason : (n : Net) (es : List Entry) (e : Entry) (r v : ℕ) → IsNet n →
     Distinct (map lan es) →
     first_of (λ r. row_reason n es r (n.row r)) (below n.routers) ≡ None → In e es →
@@ -282,11 +314,13 @@ no_wildcard-from_no_reason n es e r v net apart none e_in wild on =
 
 -- ---- what feeds an entry
 
+-- an entry that is found where a vif is placed
 entry_at-some : (es : List Entry) (o : Option ℕ) (p : Entry) → entry_at es o ≡ Some p →
     In p es × (o ≡ Some p.lan)
 entry_at-some es None p e = absurd cc
 entry_at-some es (Some l) p e = let f = entry_on-some es l p e in (f.0, ap Some (sym f.1))
 
+-- a pair of an exact row that feeds
 feeds-from_exact_row : (n : Net) (es : List Entry) (r v incoming : ℕ) (pairs : List (ℕ × ℕ))
     (o : Option Entry)
     → n.row r ≡ Exact incoming pairs → entry_at es (n.placed r incoming) ≡ o →
@@ -309,6 +343,7 @@ feeds-from_exact_row n es r v incoming pairs (Some p) row q e =
       },
     )
 
+-- of any row
 feeds-from_row : (n : Net) (es : List Entry) (r v : ℕ) (row : Row) → n.row r ≡ row →
     row_feeds n es r v row ≡ true → (p : Entry) × (h : ℕ) × In p es × Feeds n p r v h
 feeds-from_row n es r v (Exact incoming pairs) q e = feeds-from_exact_row n es r v incoming pairs
@@ -316,6 +351,7 @@ feeds-from_row n es r v (Exact incoming pairs) q e = feeds-from_exact_row n es r
 feeds-from_row n es r v Open q e = absurd cc
 feeds-from_row n es r v NoRow q e = absurd cc
 
+-- of an entry's forwarder
 feeds-from_is_fed : (n : Net) (es : List Entry) (e : Entry) (r v : ℕ) →
     is_fed n es e.lan e.forwarder ≡ true → e.forwarder ≡ Some (r, v) →
     (p : Entry) × (h : ℕ) × In p es × Feeds n p r v h × (n.placed r v ≡ Some e.lan)
@@ -325,6 +361,7 @@ feeds-from_is_fed n es e r v h q =
     let f = feeds-from_row n es r v (n.row r) refl both.0 in
     (f.0, f.1, f.2, f.3, is_lan-true (n.placed r v) e.lan both.1)
 
+-- and the other way round
 is_fed-from_feeds : (n : Net) (es : List Entry) (l : ℕ) (o : Option Interface) → Distinct (map lan es) →
     ((r v : ℕ) → o ≡ Some (r, v) → (p : Entry) × (h : ℕ) × In p es × Feeds n p r v h ×
     (n.placed r v ≡ Some l)) → is_fed n es l o ≡ true
@@ -344,6 +381,7 @@ is_fed-from_feeds n es l (Some i) apart h =
 
 -- ---- wanting LANs are served
 
+-- a wanting LAN without a reason has an entry, whose need is no more than the TTL
 is_served-from_no_reason : (n : Net) (es : List Entry) (l : ℕ) (o : Option Entry) → entry_on es l ≡ o →
     need_reason n.ttl l o ≡ None → (e : Entry) × In e es × (e.lan ≡ l) × (e.need ≤ n.ttl)
 is_served-from_no_reason n es l None q h = absurd cc
@@ -356,6 +394,7 @@ is_served-from_no_reason n es l (Some e) q h =
           (unless-true (not (nat_lt n.ttl e.need)) (Low l) h)),
     )
 
+-- and the other way round
 need_reason-from_served : (n : Net) (es : List Entry) (l : ℕ) → Distinct (map lan es) →
     (e : Entry) → In e es →
     e.lan ≡ l → e.need ≤ n.ttl → need_reason n.ttl l (entry_on es l) ≡ None
@@ -366,12 +405,15 @@ need_reason-from_served n es l apart e e_in on le =
 
 -- ---- both directions
 
+-- the first reason of a router's row
 abbrev first_router_reason : Net → List Entry → Option Reason
 first_router_reason n es = first_of (λ r. row_reason n es r (n.row r)) (below n.routers)
 
+-- the first entry that isn't fed
 abbrev first_unfed_reason : Net → List Entry → Option Reason
 first_unfed_reason n es = first_of (λ e. unless (is_fed n es e.lan e.forwarder) (Unfed e.lan)) es
 
+-- a list without a reason is accepted
 is_accepted-from_no_reason : (n : Net) (count : ℕ) (es : List Entry) → IsNet n →
     ((l : ℕ) → n.wants l ≡ true → l < count) → first_reason n count es ≡ None → IsAccepted n es
 is_accepted-from_no_reason n count es net small h =
@@ -431,6 +473,7 @@ onto_reason-from_tree n es p r pair (Some l) q tree p_in feeds =
     (unless-from_true (c.0.need == max p.need (p.rank + pair.1 + 1)) (WrongNeed l)
     (eq-eqb c.0.need (max p.need (p.rank + pair.1 + 1)) c.3.need)))
 
+-- the pairs of an exact row have none
 pairs_reason-from_tree : (n : Net) (es : List Entry) (r incoming : ℕ) (pairs : List (ℕ × ℕ))
     (o : Option Entry)
     → n.row r ≡ Exact incoming pairs → entry_at es (n.placed r incoming) ≡ o → IsTree n es →
@@ -452,6 +495,7 @@ pairs_reason-from_tree n es r incoming pairs (Some p) row q tree =
           is_live-true p.rank pair.1 live;
     })))
 
+-- no vif of a router with an open row is placed on a LAN of the list
 entry_at-none_at_open_row : (n : Net) (es : List Entry) (r v : ℕ) (o : Option Entry) →
     entry_at es (n.placed r v) ≡ o → n.row r ≡ Open → IsTree n es →
     entry_at es (n.placed r v) ≡ None
@@ -459,6 +503,7 @@ entry_at-none_at_open_row n es r v None q wild tree = q
 entry_at-none_at_open_row n es r v (Some e) q wild tree = absurd (let f =
     entry_at-some es (n.placed r v) e q in tree.no_wildcard e r v f.0 wild f.1)
 
+-- so no row has one
 row_reason-from_tree : (n : Net) (es : List Entry) (r : ℕ) (row : Row) → n.row r ≡ row → IsTree n es →
     row_reason n es r row ≡ None
 row_reason-from_tree n es r (Exact incoming pairs) q tree = pairs_reason-from_tree n es r incoming pairs
@@ -470,6 +515,7 @@ row_reason-from_tree n es r Open q tree =
     (entry_at-none_at_open_row n es r v (entry_at es (n.placed r v)) refl q tree)))
 row_reason-from_tree n es r NoRow q tree = refl
 
+-- an accepted list has no reason
 first_reason-from_accepted : (n : Net) (count : ℕ) (es : List Entry) → IsAccepted n es →
     first_reason n count es ≡ None
 first_reason-from_accepted n count es acc =
@@ -497,6 +543,7 @@ first_reason-from_accepted n count es acc =
     (need_reason n.ttl l (entry_on es l)) (λ w. let s =
     acc.served l w in need_reason-from_served n es l t.one_entry s.0 s.1 s.2 s.3))))))
 
+-- so there is none exactly where the list is accepted
 pub first_reason-none_iff_accepted : (n : Net) (count : ℕ) (es : List Entry) → IsNet n → WantsBelow n count →
     (first_reason n count es ≡ None) ↔ IsAccepted n es
 first_reason-none_iff_accepted n count es net small = (

@@ -32,6 +32,7 @@ IsKeptByStep n t last P = (numbers : List ℕ) (f : Flight) (i : ℕ) →
     i ≡ choice (length f.waiting) numbers last → i < length f.waiting → RunInvariant n t [] f →
     P numbers f → P (numbers_left numbers) (step n i f)
 
+-- a travel that goes on keeps what each step keeps
 kept_by_travel-step : (n : Net) (count t : ℕ) (last : Bool) (P : List ℕ → Flight → Type 0) → IsNet n →
     IsKeptByStep n t last P → (numbers : List ℕ) (is : List ℕ) (f : Flight) (x : Finding) →
     (IsClean f → RunInvariant n t [] f) → P numbers f → IsTravel n count numbers last is f x →
@@ -45,6 +46,7 @@ kept_by_travel-step n count t last P net keep numbers (i ∷ is) f x inv p trave
     kept_by_travel-step n count t last P net keep (numbers_left numbers) is (step n i f) x
     (run_invariant-step n t [] f i net lt v) (keep numbers f i travel.1 lt v p) travel.2
 
+-- so it is for a travel from the start
 pub kept_by_travel : (n : Net) (count t : ℕ) (numbers : List ℕ) (last : Bool) (is : List ℕ)
     (x : Finding) (P : List ℕ → Flight → Type 0) → IsNet n → IsKeptByStep n t last P →
     P numbers (start n t) → IsTravel n count numbers last is (start n t) x →
@@ -59,6 +61,7 @@ abbrev pub Descending : List Waiting → Type 0
 Descending [] = ⊤
 Descending (w ∷ ws) = ((u : Waiting) → In u ws → u.ttl ≤ w.ttl) × Descending ws
 
+-- more of one TTL at the end, which is no greater
 descending-append : (ws us : List Waiting) (t : ℕ) → Descending ws →
     ((w : Waiting) → In w ws → t ≤ w.ttl) → ((u : Waiting) → In u us → u.ttl ≡ t) →
     Descending (ws ++ us)
@@ -75,10 +78,12 @@ descending-append (w ∷ ws) us t d low new = (
   descending-append ws us t d.1 (λ u h. low u (inr h)) new,
 )
 
+-- without the first
 descending-remove : (ws : List Waiting) → Descending ws → Descending (remove ws 0)
 descending-remove [] d = tt
 descending-remove (w ∷ ws) d = d.1
 
+-- none has a greater TTL than the first
 ttl-at_most_first : (ws : List Waiting) (w u : Waiting) → Descending ws →
     slice_get ws 0 ≡ Some w → In u ws → u.ttl ≤ w.ttl
 ttl-at_most_first [] w u d e h = absurd h
@@ -89,6 +94,7 @@ ttl-at_most_first (v ∷ ws) w u d e (inl q) =
 ttl-at_most_first (v ∷ ws) w u d e (inr h) = let same : v ≡ w = cc in subst
     (λ (x : Waiting). u.ttl ≤ x.ttl) same (d.0 u h)
 
+-- without a first one none waits
 no_first-none_waits : (ws : List Waiting) (u : Waiting) → slice_get ws 0 ≡ None → In u ws → ⊥
 no_first-none_waits [] u e h = h
 no_first-none_waits (w ∷ ws) u e h = absurd cc
@@ -100,6 +106,7 @@ pub record HasTtlLevel (s : ℕ) (f : Flight) : Type 0 where
   pub near : (w : Waiting) → In w f.waiting → s ≤ w.ttl + 1
   pub behind : (c : Copy) → In c f.carried → s ≤ c.ttl + 1
 
+-- a copy with one TTL less is put on a LAN
 ttl_level-put : (n : Net) (s : ℕ) (c : Copy) (f : Flight) → c.ttl + 1 ≡ s → HasTtlLevel s f →
     HasTtlLevel s (put n c f)
 ttl_level-put n s c f e v =
@@ -123,6 +130,7 @@ ttl_level-put n s c f e v =
       ];
     }
 
+-- one is sent by a vif
 ttl_level-leave : (n : Net) (s : ℕ) (i : Interface) (o : Option ℕ) (f : Flight) → 0 < s → HasTtlLevel s f →
     HasTtlLevel s (leave n (s - 1) i o f)
 ttl_level-leave n s i None f lt v = record {
@@ -134,23 +142,27 @@ ttl_level-leave n s i None f lt v = record {
 ttl_level-leave n s i (Some l) f lt v = ttl_level-put n s
     (record { lan = l; ttl = s - 1; sender = Some i }) f (omega (arith, lt)) v
 
+-- if its TTL is greater than the threshold
 ttl_level-cond : (n : Net) (s : ℕ) (i : Interface) (h : ℕ) (o : Option ℕ) (test : Bool) (f : Flight) →
     nat_lt h s ≡ test → HasTtlLevel s f → HasTtlLevel s (cond test (leave n (s - 1) i o f) f)
 ttl_level-cond n s i h o true f e v = let lt = ltb-true h s e in ttl_level-leave n s i o f
     (omega (arith, lt)) v
 ttl_level-cond n s i h o false f e v = v
 
+-- copies are sent by several vifs
 ttl_level-sends : (n : Net) (r s : ℕ) (ps : List (ℕ × ℕ)) (f : Flight) → HasTtlLevel s f →
     HasTtlLevel s (sends n r s ps f)
 ttl_level-sends n r s [] f v = v
 ttl_level-sends n r s (p ∷ ps) f v = ttl_level-sends n r s ps (send n r s p f)
     (ttl_level-cond n s (r, p.0) p.1 (n.placed r p.0) (nat_lt p.1 s) f refl v)
 
+-- one of two flights
 ttl_level-cond_of_two : (s : ℕ) (f g : Flight) (test : Bool) → HasTtlLevel s f → HasTtlLevel s g →
     HasTtlLevel s (cond test f g)
 ttl_level-cond_of_two s f g true v w = v
 ttl_level-cond_of_two s f g false v w = w
 
+-- the first is handled by a row
 ttl_level-row : (n : Net) (w : Waiting) (row : Row) (f : Flight) → HasTtlLevel w.ttl f →
     HasTtlLevel w.ttl (handle_by_row n w row f)
 ttl_level-row n w (Exact incoming pairs) f v = ttl_level-cond_of_two w.ttl (sends n w.router w.ttl pairs f) f
@@ -163,6 +175,7 @@ ttl_level-row n w Open f v = record {
 }
 ttl_level-row n w NoRow f v = v
 
+-- the first is taken away
 ttl_level-lowered_to_first : (f : Flight) (s : ℕ) (w : Waiting) → slice_get f.waiting 0 ≡ Some w →
     HasTtlLevel s f →
     HasTtlLevel w.ttl (without_waiting 0 f)
@@ -179,6 +192,7 @@ ttl_level-lowered_to_first f s w e v =
 abbrev pub HasTtlLevelAfterStep : Net → Flight → Type 0
 HasTtlLevelAfterStep n f = (s : ℕ) × HasTtlLevel s (step n 0 f) × ((w : Waiting) → In w f.waiting → w.ttl ≤ s)
 
+-- and handled, if there was one
 ttl_level-after_handling : (n : Net) (f : Flight) (s : ℕ) (o : Option Waiting) → slice_get f.waiting 0 ≡ o →
     HasTtlLevel s f → (k : ℕ) × HasTtlLevel k (handle n o (without_waiting 0 f)) ×
     ((w : Waiting) → In w f.waiting → w.ttl ≤ k)
@@ -198,9 +212,11 @@ ttl_level-after_handling n f s (Some w) e v = (
   λ u h. ttl-at_most_first f.waiting w u v.descending e h,
 )
 
+-- so it is after a step
 ttl_level-step : (n : Net) (f : Flight) (s : ℕ) → HasTtlLevel s f → HasTtlLevelAfterStep n f
 ttl_level-step n f s v = ttl_level-after_handling n f s (slice_get f.waiting 0) refl v
 
+-- and at the start
 ttl_level-start : (n : Net) (t : ℕ) → HasTtlLevel t (start n t)
 ttl_level-start n t =
     let new : (w : Waiting) → In w (start n t).waiting → w.ttl ≡ t = λ w h. (
@@ -239,6 +255,7 @@ ttl-of_waiting_hearer n t f c r v inv c_in on h =
     lan in
     (w.0, w.1, sym d.3 ∙ ap (λ (x : Copy). x.ttl) same)
 
+-- one hop more
 carried_or_coming-hop : (n : Net) (t : ℕ) (f : Flight) (h : Hop) (hs : List Hop) (c : Copy) →
     RunInvariant n t [] f →
     IsPath n n.source (h ∷ hs) h.onto → length hs + h.threshold < t → In c f.carried →
@@ -257,6 +274,7 @@ carried_or_coming-hop n t f h hs c inv path lt c_in lan le =
           inl (d.0, d.1, onto, omega (arith, le, d.4)))
     ]
 
+-- so it is for each path that a packet gets through
 carried_or_coming-path : (n : Net) (t : ℕ) (f : Flight) (hs : List Hop) (l : ℕ) → RunInvariant n t [] f →
     IsPath n n.source hs l → PassesHops t hs → IsCarriedOrComing t f l (length hs)
 carried_or_coming-path n t f [] l inv path p = inl (source_copy n t, inv.first, path, omega arith)
@@ -287,6 +305,7 @@ first_copy_on-after_growth f g n b l clean grows b_in lan =
       | inr e ↦ subst (λ cs. first_copy_on cs l ≡ Some b) (sym e) found
     ]
 
+-- a step keeps this
 have_least_ranks-step : (n : Net) (t : ℕ) (f : Flight) → RunInvariant n t [] f → HasTtlLevelAfterStep n f →
     HaveLeastRanks n t (step n 0 f)
 have_least_ranks-step n t f inv level l c hs on path p = elim (carried_or_coming-path n t f hs l inv path p) [
@@ -304,6 +323,7 @@ have_least_ranks-step n t f inv level l c hs on path p = elim (carried_or_coming
 abbrev FifoInvariant : Net → ℕ → List ℕ → Flight → Type 0
 FifoInvariant n t numbers f = (numbers ≡ []) × ((s : ℕ) × HasTtlLevel s f) × HaveLeastRanks n t f
 
+-- each step keeps it
 fifo_invariant-step : (n : Net) (t : ℕ) → IsKeptByStep n t false (FifoInvariant n t)
 fifo_invariant-step n t numbers f i e lt inv p =
     let first : i ≡ 0 = e ∙ ap (λ xs. choice (length f.waiting) xs false) p.0 in
@@ -313,6 +333,7 @@ fifo_invariant-step n t numbers f i e lt inv p =
     subst (λ xs. FifoInvariant n t xs (step n i f)) (ap numbers_left (sym p.0))
     (subst (λ k. FifoInvariant n t [] (step n k f)) (sym first) after)
 
+-- it holds at the start
 fifo_invariant-start : (n : Net) (t : ℕ) → FifoInvariant n t [] (start n t)
 fifo_invariant-start n t = (
   refl,
@@ -323,6 +344,7 @@ fifo_invariant-start n t = (
   ],
 )
 
+-- so a LAN's first copy lost no more than on any other path
 pub first_copy-has_least_rank : (n : Net) (count t : ℕ) (is : List ℕ) (x : Finding) (l : ℕ) (c : Copy)
     (hs : List Hop) → IsNet n → IsTravel n count [] false is (start n t) x →
     first_copy_on (run n (handles is) (start n t)).carried l ≡ Some c → IsPath n n.source hs l →

@@ -23,14 +23,17 @@ use Rattle.mc_theory.proofs.RunInvariant.{distinct-hearers, map_interface-waits_
 use Rattle.mc_theory.proofs.RunInvariant.{heard-put, run_invariant-put}
 use Rattle.mc_theory.proofs.RunInvariant.{sent_by_interface-in_other_flight, not_waiting-put}
 
+-- a list with one more isn't empty
 append-not_nil : {A : Type 0} (xs : List A) (x : A) → xs ++ x ∷ [] ≡ [] → ⊥
 append-not_nil [] x e = absurd cc
 append-not_nil (y ∷ xs) x e = absurd cc
 
+-- equal interfaces have equal vifs
 vif_equal-from_exact : (r q v k : ℕ) → ◌≡◌ {A = Option Interface} (Some (r, v)) (Some (q, k)) → v ≡ k
 vif_equal-from_exact r q v k e = let z : ◌≡◌ {A = Interface} (r, v) (q, k) =
     cc in ap (λ (x : Interface). x.1) z
 
+-- no place within a list is empty
 pub slice_get-none : {A : Type 0} (xs : List A) (i : ℕ) → i < length xs → slice_get xs i ≡ None → ⊥
 slice_get-none [] i lt e = omega arith
 slice_get-none (x ∷ xs) zero lt e = absurd cc
@@ -38,6 +41,7 @@ slice_get-none (x ∷ xs) (suc i) lt e = slice_get-none xs i (omega arith) e
 
 -- ---- the start
 
+-- it holds at the start
 pub run_invariant-start : (n : Net) (t : ℕ) → IsNet n → RunInvariant n t [] (start n t)
 run_invariant-start n t net = record {
   first = inl refl;
@@ -64,6 +68,7 @@ run_invariant-start n t net = record {
 
 -- ---- a waiting copy is taken away
 
+-- nothing waits at its interface any more
 pub not_waiting-without : (n : Net) (t : ℕ) (out : List Interface) (f : Flight) (i : ℕ) (w : Waiting) →
     RunInvariant n t out f → slice_get f.waiting i ≡ Some w →
     In (interface_of_waiting w) (waiting_interfaces (without_waiting i f)) → ⊥
@@ -72,11 +77,13 @@ not_waiting-without n t out f i w v e h =
     (slice_get-map_some interface_of_waiting f.waiting i w e) (subst (λ is. In (interface_of_waiting w) is)
     (map-remove interface_of_waiting f.waiting i) h)
 
+-- what waits still waited before
 length-without : (f : Flight) (i : ℕ) (p : Interface) → In p (waiting_interfaces (without_waiting i f)) →
     In p (waiting_interfaces f)
 length-without f i p h = in-remove p (waiting_interfaces f) i (subst (λ is. In p is)
     (map-remove interface_of_waiting f.waiting i) h)
 
+-- the invariant without it
 pub run_invariant-without : (n : Net) (t : ℕ) (out : List Interface) (f : Flight) (i : ℕ) (w : Waiting) →
     RunInvariant n t out f → slice_get f.waiting i ≡ Some w →
     RunInvariant n t (interface_of_waiting w ∷ out) (without_waiting i f)
@@ -115,6 +122,7 @@ handled-after_sending n s f b c p q clean b_in on ttl h c_in c_on same =
     subst (λ (x : ℕ). Handled n f.carried q.0 q.1 x) time
     (subst (λ (x : Interface). Handled n f.carried x.0 x.1 s) same h)
 
+-- so the invariant holds with it
 pub run_invariant-handled : (n : Net) (t : ℕ) (out : List Interface) (r v s : ℕ) (f : Flight) (b : Copy) →
     RunInvariant n t ((r, v) ∷ out) f → In b f.carried → n.placed r v ≡ Some b.lan → b.ttl ≡ s →
     Handled n f.carried r v s → RunInvariant n t out f
@@ -169,6 +177,7 @@ sending_invariant-skip_pair n t out r v s all b p ps f m = record {
   fresh = λ c k h e z. m.fresh c k h e (inr z);
 }
 
+-- the copy that a pair sends onto a LAN
 abbrev pub copy_sent_by : ℕ → ℕ → ℕ × ℕ → ℕ → Copy
 copy_sent_by s r p l = record { lan = l; ttl = s - 1; sender = Some (r, p.0) }
 
@@ -218,6 +227,7 @@ sending_invariant-put n t out r v s all b p ps f l net m lt on new =
 
 -- ---- clean flights
 
+-- before a copy was put on a LAN, which carried none
 clean-put : (n : Net) (c : Copy) (f : Flight) → IsClean (put n c f) →
     IsClean f × (In c.lan (lans f.carried) → ⊥)
 clean-put n c f h = (
@@ -230,19 +240,23 @@ clean-put n c f h = (
       (inl refl),
 )
 
+-- before one was sent by a vif
 clean-leave : (n : Net) (s : ℕ) (i : Interface) (o : Option ℕ) (f : Flight) →
     IsClean (leave n s i o f) → IsClean f
 clean-leave n s i None f h = absurd (append-not_nil f.strays i h.none_stray)
 clean-leave n s i (Some l) f h = (clean-put n (record { lan = l; ttl = s; sender = Some i }) f h).0
 
+-- before one of two flights
 clean-cond : (b : Bool) (f g : Flight) → (IsClean f → IsClean g) → IsClean (cond b f g) → IsClean g
 clean-cond true f g h c = h c
 clean-cond false f g h c = c
 
+-- before one pair sent
 pub clean-send : (n : Net) (r s : ℕ) (p : ℕ × ℕ) (f : Flight) → IsClean (send n r s p f) → IsClean f
 clean-send n r s p f h = clean-cond (nat_lt p.1 s) (leave n (s - 1) (r, p.0) (n.placed r p.0) f) f
     (clean-leave n (s - 1) (r, p.0) (n.placed r p.0) f) h
 
+-- before all pairs sent
 pub clean-sends : (n : Net) (r s : ℕ) (ps : List (ℕ × ℕ)) (f : Flight) →
     IsClean (sends n r s ps f) → IsClean f
 clean-sends n r s [] f h = h
@@ -257,17 +271,20 @@ in_carried-leave n s i None f d h = h
 in_carried-leave n s i (Some l) f d h = in-append_left d f.carried
     (record { lan = l; ttl = s; sender = Some i } ∷ []) h
 
+-- in one of two flights
 in_carried-cond : (b : Bool) (f g : Flight) (d : Copy) → (In d g.carried → In d f.carried) →
     In d g.carried → In d (cond b f g).carried
 in_carried-cond true f g d h z = h z
 in_carried-cond false f g d h z = z
 
+-- after one pair sent
 pub in_carried-send : (n : Net) (r s : ℕ) (p : ℕ × ℕ) (f : Flight) (d : Copy) → In d f.carried →
     In d (send n r s p f).carried
 in_carried-send n r s p f d h =
     in_carried-cond (nat_lt p.1 s) (leave n (s - 1) (r, p.0) (n.placed r p.0) f) f d
     (in_carried-leave n (s - 1) (r, p.0) (n.placed r p.0) f d) h
 
+-- after all pairs sent
 pub in_carried-sends : (n : Net) (r s : ℕ) (ps : List (ℕ × ℕ)) (f : Flight) (d : Copy) → In d f.carried →
     In d (sends n r s ps f).carried
 in_carried-sends n r s [] f d h = h
@@ -292,6 +309,7 @@ run_invariant-leave n t out r v s all b p ps f (Some l) net m lt on clean = (
     time : (s h : ℕ) → h < s → s - 1 + 1 ≡ s
     time s h lt = omega arith
 
+-- by whether the TTL is greater than the threshold
 run_invariant-cond : (n : Net) (t : ℕ) (out : List Interface) (r v s : ℕ) (all : List (ℕ × ℕ)) (b : Copy)
     (p : ℕ × ℕ) (ps : List (ℕ × ℕ)) (f : Flight) (test : Bool) → nat_lt p.1 s ≡ test → IsNet n →
     SendingInvariant n t out r v s all b (p ∷ ps) f → IsClean (cond test
@@ -308,6 +326,7 @@ run_invariant-cond n t out r v s all b p ps f false e net m clean = (
   λ lt. absurd (let z = ltb-false p.1 s e in omega arith),
 )
 
+-- so it is for each pair
 pub run_invariant-send : (n : Net) (t : ℕ) (out : List Interface) (r v s : ℕ) (all : List (ℕ × ℕ)) (b : Copy)
     (p : ℕ × ℕ) (ps : List (ℕ × ℕ)) (f : Flight) → IsNet n → SendingInvariant n t out r v s all b (p ∷ ps) f →
     IsClean (send n r s p f)
@@ -316,10 +335,12 @@ pub run_invariant-send : (n : Net) (t : ℕ) (out : List Interface) (r v s : ℕ
 run_invariant-send n t out r v s all b p ps f net m clean = run_invariant-cond n t out r v s all b p ps f
     (nat_lt p.1 s) refl net m clean
 
+-- what is carried is carried among more copies
 pub sends-more : (n : Net) (cs ds : List Copy) (r s k : ℕ) → ((d : Copy) → In d cs → In d ds) →
     Sends n cs r s k → Sends n ds r s k
 sends-more n cs ds r s k more z = (z.0, more z.0 z.1, z.2, z.3, z.4)
 
+-- after all pairs sent, the invariant holds, and what they send is carried
 pub run_invariant-sends : (n : Net) (t : ℕ) (out : List Interface) (r v s : ℕ) (all : List (ℕ × ℕ))
     (b : Copy) (ps : List (ℕ × ℕ)) (f : Flight) → IsNet n → SendingInvariant n t out r v s all b ps f →
     IsClean (sends n r s ps f)
@@ -377,6 +398,7 @@ handled-step n t out f g i w v e u more h =
     let heard = v.heard w (slice_get-in f.waiting i w e) in
     run_invariant-handled n t out w.router w.vif w.ttl g heard.0 u (more heard.0 heard.1) heard.2 heard.3 h
 
+-- by whether the copy came by the expected vif
 run_invariant-exact_row : (n : Net) (t : ℕ) (out : List Interface) (f : Flight) (i : ℕ) (w : Waiting)
     (incoming : ℕ) (all : List (ℕ × ℕ)) (test : Bool) → (incoming == w.vif) ≡ test → IsNet n →
     RunInvariant n t out f → slice_get f.waiting i ≡ Some w → n.row w.router ≡ Exact incoming all →
@@ -402,6 +424,7 @@ run_invariant-exact_row n t out f i w incoming all false q net v e row clean =
           (let same : Exact w.vif pairs ≡ Exact incoming all = sym r' ∙ row in cc));
     })
 
+-- by the router's row
 run_invariant-row : (n : Net) (t : ℕ) (out : List Interface) (f : Flight) (i : ℕ) (w : Waiting) (row : Row) →
     n.row w.router ≡ row → IsNet n → RunInvariant n t out f → slice_get f.waiting i ≡ Some w →
     IsClean (handle_by_row n w row (without_waiting i f)) →
@@ -416,6 +439,7 @@ run_invariant-row n t out f i w NoRow q net v e clean = handled-step n t out f (
       sent = λ pairs p h r' z lt. absurd (let y : Exact w.vif pairs ≡ NoRow = sym r' ∙ q in cc);
     })
 
+-- by the copy at the place
 run_invariant-handle : (n : Net) (t : ℕ) (out : List Interface) (f : Flight) (i : ℕ) (o : Option Waiting) →
     slice_get f.waiting i ≡ o → i < length f.waiting → IsNet n → RunInvariant n t out f →
     IsClean (handle n o (without_waiting i f)) → RunInvariant n t out (handle n o (without_waiting i f))
@@ -433,6 +457,7 @@ run_invariant-step n t out f i net lt v clean =
 
 -- ---- an earlier flight of a clean one is clean
 
+-- before a row was used
 clean-row : (n : Net) (w : Waiting) (row : Row) (f : Flight) → IsClean (handle_by_row n w row f) →
     IsClean f
 clean-row n w (Exact incoming pairs) f h = clean-cond (incoming == w.vif)
@@ -440,18 +465,22 @@ clean-row n w (Exact incoming pairs) f h = clean-cond (incoming == w.vif)
 clean-row n w Open f h = absurd (append-not_nil f.strays (w.router, w.vif) h.none_stray)
 clean-row n w NoRow f h = h
 
+-- before a copy was handled
 clean-handle : (n : Net) (o : Option Waiting) (f : Flight) → IsClean (handle n o f) → IsClean f
 clean-handle n None f h = h
 clean-handle n (Some w) f h = clean-row n w (n.row w.router) f h
 
+-- before a step
 pub clean-step : (n : Net) (i : ℕ) (f : Flight) → IsClean (step n i f) → IsClean f
 clean-step n i f h = let z = clean-handle n (slice_get f.waiting i) (without_waiting i f) h in record
     { once = z.once; none_stray = z.none_stray }
 
+-- before a pick
 pub clean-happens : (n : Net) (p : Pick) (f : Flight) → IsClean (apply_pick n p f) → IsClean f
 clean-happens n (Handles i) f h = clean-step n i f h
 clean-happens n (Loses i) f h = record { once = h.once; none_stray = h.none_stray }
 
+-- before a run
 pub clean-run : (n : Net) (ps : List Pick) (f : Flight) → IsClean (run n ps f) → IsClean f
 clean-run n [] f h = h
 clean-run n (p ∷ ps) f h = clean-happens n p f (clean-run n ps (apply_pick n p f) h)

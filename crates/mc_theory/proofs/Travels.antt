@@ -22,23 +22,27 @@ use Rattle.mc_theory.proofs.SafeFlights.{safe-lossless}
 use Rattle.mc_theory.proofs.ReachedLans.{is_delivered-from_safe}
 use Rattle.mc_theory.proofs.CertificateOfCopies.{is_accepted-from_two_runs, is_tree-from_clean_run}
 
+-- a copy's LAN
 abbrev lan : Copy → ℕ
 lan c = c.lan
 
 -- ---- a LAN's first copy
 
+-- by whether the first copy is on the LAN
 in_lans-from_first_copy_on_step : (c : Copy) (cs : List Copy) (l : ℕ) (b : Bool) → (c.lan == l) ≡ b →
     is_some (cond b (Some c) (first_copy_on cs l)) ≡ true → (is_some (first_copy_on cs l) ≡ true →
     In l (lans cs)) → In l (lans (c ∷ cs))
 in_lans-from_first_copy_on_step c cs l true q h ih = inl (eqb-true c.lan l q)
 in_lans-from_first_copy_on_step c cs l false q h ih = inr (ih h)
 
+-- a LAN with a first copy carried one
 pub in_lans-from_first_copy_on : (cs : List Copy) (l : ℕ) → is_some (first_copy_on cs l) ≡ true →
     In l (lans cs)
 in_lans-from_first_copy_on [] l h = absurd cc
 in_lans-from_first_copy_on (c ∷ cs) l h =
     in_lans-from_first_copy_on_step c cs l (c.lan == l) refl h (in_lans-from_first_copy_on cs l)
 
+-- by whether the first copy is on the LAN
 first_copy_on-from_in_lans_step : (c : Copy) (cs : List Copy) (l : ℕ) (b : Bool) → (c.lan == l) ≡ b →
     In l (lans (c ∷ cs)) → (In l (lans cs) → is_some (first_copy_on cs l) ≡ true) →
     is_some (cond b (Some c) (first_copy_on cs l)) ≡ true
@@ -46,6 +50,7 @@ first_copy_on-from_in_lans_step c cs l true q h ih = refl
 first_copy_on-from_in_lans_step c cs l false q (inl e) ih = absurd (eqb-false c.lan l q e)
 first_copy_on-from_in_lans_step c cs l false q (inr h) ih = ih h
 
+-- a LAN that carried a copy has a first one
 pub first_copy_on-from_in_lans : (cs : List Copy) (l : ℕ) → In l (lans cs) →
     is_some (first_copy_on cs l) ≡ true
 first_copy_on-from_in_lans [] l h = absurd h
@@ -54,13 +59,16 @@ first_copy_on-from_in_lans (c ∷ cs) l h =
 
 -- ---- the first double copy
 
+-- the LAN of the new copy
 in_lans-push : (cs : List Copy) (c : Copy) → In c.lan (lans (cs ++ c ∷ []))
 in_lans-push cs c = in-map lan c (cs ++ c ∷ []) (in-push cs c)
 
+-- a LAN of the old copies
 in_lans-push_old : (cs : List Copy) (c : Copy) (l : ℕ) → In l (lans cs) → In l (lans (cs ++ c ∷ []))
 in_lans-push_old cs c l h = let d = in-map_cases lan l cs h in subst (λ x. In x (lans (cs ++ c ∷ []))) d.2
     (in-map lan d.0 (cs ++ c ∷ []) (in-append_left d.0 cs (c ∷ []) d.1))
 
+-- a LAN of both is one of them
 in_lans-push_cases : (cs : List Copy) (c : Copy) (l : ℕ) → In l (lans (cs ++ c ∷ [])) →
     (c.lan ≡ l) ⊎ In l (lans cs)
 in_lans-push_cases cs c l h =
@@ -71,6 +79,7 @@ in_lans-push_cases cs c l h =
       | inr q ↦ inl (ap lan q ∙ d.2)
     ]
 
+-- by whether the first copy is a double one
 first_double-none_step : (earlier : List Copy) (c : Copy) (cs : List Copy) (b : Bool) →
     is_some (first_copy_on earlier c.lan) ≡ b → cond b (Some c) (first_double (earlier ++ c ∷ []) cs) ≡ None →
     (In c.lan (lans earlier) → ⊥) × (first_double (earlier ++ c ∷ []) cs ≡ None)
@@ -78,6 +87,7 @@ first_double-none_step earlier c cs true q h = absurd cc
 first_double-none_step earlier c cs false q h =
     ((λ z. let y = first_copy_on-from_in_lans earlier c.lan z in absurd cc), h)
 
+-- without a double copy LANs are distinct, and other than earlier ones
 pub first_double-none : (earlier cs : List Copy) → first_double earlier cs ≡ None →
     Distinct (lans cs) × ((l : ℕ) → In l (lans earlier) → In l (lans cs) → ⊥)
 first_double-none earlier [] h = (tt, λ l k z. z)
@@ -92,6 +102,7 @@ first_double-none earlier (c ∷ cs) h =
       ],
     )
 
+-- by whether the first copy is a double one
 first_double-from_distinct_step : (earlier : List Copy) (c : Copy) (cs : List Copy) (b : Bool) →
     is_some (first_copy_on earlier c.lan) ≡ b → (In c.lan (lans earlier) → ⊥) →
     first_double (earlier ++ c ∷ []) cs ≡ None → cond b (Some c) (first_double (earlier ++ c ∷ []) cs) ≡ None
@@ -99,6 +110,7 @@ first_double-from_distinct_step earlier c cs true q no_copy h =
     absurd (no_copy (in_lans-from_first_copy_on earlier c.lan q))
 first_double-from_distinct_step earlier c cs false q no_copy h = h
 
+-- and the other way round
 first_double-from_distinct : (earlier cs : List Copy) → Distinct (lans cs) →
     ((l : ℕ) → In l (lans earlier) → In l (lans cs) → ⊥) → first_double earlier cs ≡ None
 first_double-from_distinct earlier [] d apart = refl
@@ -109,6 +121,7 @@ first_double-from_distinct earlier (c ∷ cs) d apart = first_double-from_distin
 
 -- ---- LANs that were missed
 
+-- by whether the first LAN is missed
 missed-none_step : (n : Net) (cs : List Copy) (l : ℕ) (ls : List ℕ) (w b : Bool) → n.wants l ≡ w →
     is_some (first_copy_on cs l) ≡ b → cond w (cond b (missed n cs ls) (Some l)) (missed n cs ls) ≡ None →
     (n.wants l ≡ true → In l (lans cs)) × (missed n cs ls ≡ None)
@@ -116,6 +129,7 @@ missed-none_step n cs l ls true true p q h = ((λ _. in_lans-from_first_copy_on 
 missed-none_step n cs l ls true false p q h = absurd cc
 missed-none_step n cs l ls false b p q h = ((λ z. absurd cc), h)
 
+-- where none is missed, each wanting LAN carried a copy
 pub missed-none : (n : Net) (cs : List Copy) (ls : List ℕ) → missed n cs ls ≡ None → (l : ℕ) →
     In l ls → n.wants l ≡ true → In l (lans cs)
 missed-none n cs [] h l k w = absurd k
@@ -124,6 +138,7 @@ missed-none n cs (x ∷ ls) h l (inl q) w = subst (λ y. In y (lans cs)) q
 missed-none n cs (x ∷ ls) h l (inr k) w = missed-none n cs ls
     (missed-none_step n cs x ls (n.wants x) (is_some (first_copy_on cs x)) refl refl h).1 l k w
 
+-- by whether the first LAN is missed
 missed-some_step : (n : Net) (cs : List Copy) (x : ℕ) (ls : List ℕ) (l : ℕ) (w b : Bool) →
     n.wants x ≡ w → is_some (first_copy_on cs x) ≡ b → cond w (cond b (missed n cs ls) (Some x))
     (missed n cs ls) ≡ Some l → (missed n cs ls ≡ Some l →
@@ -137,6 +152,7 @@ missed-some_step n cs x ls l true false p q h ih =
     )
 missed-some_step n cs x ls l false b p q h ih = ih h
 
+-- a missed LAN wants the flow and carried no copy
 pub missed-some : (n : Net) (cs : List Copy) (ls : List ℕ) (l : ℕ) → missed n cs ls ≡ Some l →
     (n.wants l ≡ true) × (In l (lans cs) → ⊥)
 missed-some n cs [] l h = absurd cc
@@ -173,6 +189,7 @@ finding-of_clean_flight n count f clean = ap (double_finding n count f)
     (first_double-from_distinct [] f.carried clean.once (λ l k z. k)) ∙
     ap (stray_finding n count f.carried f.waiting) clean.none_stray
 
+-- another finding than Clean: a LAN is missed
 missed_finding-not_clean : (n : Net) (cs : List Copy) (o : Option ℕ) (x : Finding) → missed_finding o ≡ x →
     x ≢ Clean → (l : ℕ) × (o ≡ Some l)
 missed_finding-not_clean n cs None x h other = absurd (other (sym h))
@@ -189,6 +206,7 @@ end_finding-not_clean n count cs [] x h other =
     (refl, (m.0, s.0, s.1))
 end_finding-not_clean n count cs (w ∷ ws) x h other = absurd cc
 
+-- Clean: none is
 missed_finding-clean : (o : Option ℕ) → missed_finding o ≡ Clean → o ≡ None
 missed_finding-clean None h = refl
 missed_finding-clean (Some l) h = absurd cc
@@ -257,12 +275,14 @@ is_clean-from_clean_finding n count f h = by n count f (first_double [] f.carrie
 
 -- ---- a travel is a run
 
+-- a picker chooses a copy that waits
 pub choice-below_waiting : (waiting : ℕ) (numbers : List ℕ) (last : Bool) → 0 < waiting →
     choice waiting numbers last < waiting
 choice-below_waiting w [] true h = omega arith
 choice-below_waiting w [] false h = h
 choice-below_waiting w (x ∷ xs) last h = omega arith
 
+-- so a travel's picks are in range
 pub in_range-travel : (n : Net) (count : ℕ) (numbers : List ℕ) (last : Bool) (is : List ℕ) (f : Flight)
     (x : Finding) → IsTravel n count numbers last is f x → InRange n (handles is) f
 in_range-travel n count numbers last [] f x h = tt
@@ -272,6 +292,7 @@ in_range-travel n count numbers last (i ∷ is) f x h = (
   in_range-travel n count (numbers_left numbers) last is (step n i f) x h.2,
 )
 
+-- its run ends with its finding
 pub finding-at_travel_end : (n : Net) (count : ℕ) (numbers : List ℕ) (last : Bool) (is : List ℕ)
     (f : Flight) (x : Finding) → IsTravel n count numbers last is f x →
     finding n count (run n (handles is) f) ≡ Some x
@@ -280,10 +301,12 @@ finding-at_travel_end n count numbers last (i ∷ is) f x h =
     finding-at_travel_end n count (numbers_left numbers) last is
     (step n i f) x h.2
 
+-- and loses no copy
 pub is_lossless-handles : (is : List ℕ) → IsLossless (handles is)
 is_lossless-handles [] = tt
 is_lossless-handles (i ∷ is) = is_lossless-handles is
 
+-- a travel with a fault is of no right flow
 pub not_right-from_fault_finding : (n : Net) (count : ℕ) (t : ℕ) (numbers : List ℕ) (last : Bool)
     (is : List ℕ)
     (x : Finding) → IsNet n → WantsBelow n count → n.ttl ≤ t → t ≤ 255 →
@@ -297,6 +320,7 @@ not_right-from_fault_finding n count t numbers last is x net small low high trav
     finding-at_travel_end n count numbers last is (start n t) x travel) other in
     e.1.2 (r.served (is_lossless-handles is) e.0 e.1.0 e.1.1)
 
+-- a travel that goes on has no more events than there are placed vifs
 length_bounded-travel_step : (n : Net) (count k : ℕ) (numbers : List ℕ) (last : Bool) (is : List ℕ)
     (f : Flight)
     (x : Finding) → HandledCountIs n k f → k ≤ length (placed_interfaces n) →
@@ -325,12 +349,14 @@ length_bounded-travel_so_far_step n count k numbers last (i ∷ is) f c le h =
     (handled_count-step n k i f lt c) (omega (arith, c, b, some.1)) h.2 in
     omega (arith, ih)
 
+-- so it is from the start
 pub length_bounded-travel_so_far : (n : Net) (count t : ℕ) (numbers : List ℕ) (last : Bool) (is : List ℕ) →
     IsTravelUnfinished n count numbers last is (start n t) → length is ≤ length (placed_interfaces n)
 length_bounded-travel_so_far n count t numbers last is path = let h =
     length_bounded-travel_so_far_step n count 0 numbers last is
     (start n t) (handled_count-start n t) (omega arith) path in omega (arith, h)
 
+-- and for a travel with a finding
 pub length_bounded-travel : (n : Net) (count : ℕ) (t : ℕ) (numbers : List ℕ) (last : Bool) (is : List ℕ)
     (x : Finding) → IsNet n → IsTravel n count numbers last is (start n t) x →
     length is ≤ length (placed_interfaces n)
@@ -338,6 +364,7 @@ length_bounded-travel n count t numbers last is x net travel = let h =
     length_bounded-travel_step n count 0 numbers last is
     (start n t) x (handled_count-start n t) (omega arith) travel in omega (arith, h)
 
+-- clean travels at 255 and at the flow's TTL make an accepted list
 pub is_accepted-from_clean_travels : (n : Net) (count : ℕ) (numbers : List ℕ) (last : Bool) (is : List ℕ)
     (numbers' : List ℕ) (last' : Bool) (js : List ℕ) → IsNet n → WantsBelow n count → 1 ≤ n.ttl →
     n.ttl ≤ 255 → IsTravel n count numbers last is (start n 255) Clean →
@@ -369,6 +396,7 @@ is_tree-from_clean_travel n count numbers last is net travel =
     (in_range-travel n count numbers last is (start n 255) Clean travel)
     (is_lossless-handles is) a.1 a.0
 
+-- what is nothing else is Clean
 is-clean : (x : Finding) → (x ≢ Clean → ⊥) → x ≡ Clean
 is-clean Clean h = refl
 is-clean (Duplicate l) h = absurd (h (λ e. cc))

@@ -1,5 +1,5 @@
 -- The topology that a text is read as, or its first fault. Faults have the order of
--- docs/FORMATS.md.
+-- docs/FORMATS.md. `ms` is the TOML table of the text: its keys, each with its value.
 use Rattle.std.specs.Prelude.{ℕ, pos, nat_le, List, [], ◌∷◌, length, codes, Result, Ok, Err, ok_or}
 use Rattle.std.specs.Prelude.{◌&&◌, if◌then◌else◌}
 use Rattle.std.specs.Ordering.{int_eq}
@@ -76,6 +76,8 @@ topology_in ms = do
     flows = flows;
   })
 
+-- ---- the last steps of topology_in, for the contracts of private functions
+
 -- the sources, each on one of these LANs, and the flows, each from one of the sources
 unfoldable pub sources_and_flows_in : List (List ℕ) → Members
     → Result (List SourceRow × List Flow) TopologyFault
@@ -92,12 +94,13 @@ interfaces_and_flows_in lans routers ms = do
   sourced ← sources_and_flows_in lans ms
   Ok (interfaces, sourced.0, sourced.1)
 
+-- ---- of a text
+
 -- the topology of a text: first the text as a whole, whose faults are at `top` 0, and then its
 -- table
 unfoldable pub parse_topology : List ℕ → Result TopologyValue TopologyFault
 parse_topology text = locate_fault Top 0 (document_of text) >>= topology_in
 
--- the topology of a text that may be beyond the bounds: what it denotes, whatever it takes to read
--- it
+-- without the bounds: by it proofs show that a text denotes one topology at most
 unfoldable pub parse_unbounded_topology : List ℕ → Result TopologyValue TopologyFault
 parse_unbounded_topology text = locate_fault Top 0 (table_of text) >>= topology_in

@@ -20,7 +20,7 @@ use mc_text::{Addr, Memory as NoMemory};
 use mc_topology::Topology;
 use std::alloc::Global;
 
-/// How many wants of LANs no flow answers.
+/// The number of wants of LANs that no flow answers.
 ///
 /// # Errors
 ///

@@ -42,6 +42,10 @@ impl UnlistedRows {
     }
 
     /// Adds a row.
+    ///
+    /// # Errors
+    ///
+    /// `Memory` if an allocation is refused. The rows are then as before.
     pub fn add(&mut self, source: Addr, group: Addr, line: u32) -> Result<(), TableFaultKind>
         ensures added { OnOk result (self.new ≡ self.old ++ ((source, group), line) ∷ []) }
         ensures fault { IfErr result (λ fault. fault ≡ Memory) }
@@ -52,6 +56,10 @@ impl UnlistedRows {
     }
 
     /// Refuses rows of which one has the source and the group of an earlier one.
+    ///
+    /// # Errors
+    ///
+    /// `RepeatedEntry` at the first line whose row repeats an earlier one.
     pub fn check_repeats(&mut self) -> Result<(), TableFault>
         ensures { result ≡ without_repeat self.old }
     {
@@ -59,7 +67,7 @@ impl UnlistedRows {
         if are_keys_distinct(alloc, &self.rows).unwrap_or(false) {
             return Ok(());
         }
-        // Only a repeated row needs its line.
+        // The order of lines isn't needed any more: sorted by key, a repeated row is beside the earlier one.
         self.rows.sort_unstable();
         match first_repeat_of_sorted(self.rows.as_slice()) {
             Some(line) => Err(TableFaultKind::RepeatedEntry.at(line)),

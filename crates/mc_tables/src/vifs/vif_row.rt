@@ -6,7 +6,9 @@ use std::marker::Model;
 /// A row: a vif and its index.
 #[derive(Debug, Drop)]
 pub struct VifRow {
+    /// Its index, 0 to 31.
     pub index: u8,
+    /// The vif.
     pub vif: Vif,
 }
 

@@ -56,6 +56,7 @@ sys.path.append(os.path.join(os.path.dirname(os.path.abspath(__file__)), "..", "
 from beside import load_rt
 
 MEMORY_OF_CHECK = 3_000_000_000
+EDITS_OF_JOB = 40  # a check of more gets a second job of the prover, and so on, so that no core waits for a last long one
 HOUSE = "mc_filter"  # the crate whose functions the edits of the selftest change
 ROOM = tempfile.TemporaryDirectory(prefix="try-", ignore_cleanup_errors=True)
 
@@ -423,7 +424,8 @@ class Crate:
 
     def run(self, room, words):
         """Runs the prover, and counts its processor time."""
-        own = self.made.words(["--jobs", "1", "--incremental", f"{room}/out"], keeps=False)
+        jobs = min(rt.processors(), 1 + len(words) // 2 // EDITS_OF_JOB)
+        own = self.made.words(["--jobs", str(jobs), "--incremental", f"{room}/out"], keeps=False)
         whole = [*rt.rtlib.guarded(), rt.rtlib.RATTLE, "check", *own, *words]
         with tempfile.TemporaryFile("w+", errors="replace") as out:
             how = {"stdin": subprocess.DEVNULL, "stdout": out, "stderr": subprocess.STDOUT}

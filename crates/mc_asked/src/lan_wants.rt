@@ -1,15 +1,16 @@
 //! The wants of a LAN's list, reduced to what is said of them.
 
-ghost use Rattle.std.specs.Prelude.{◌≡◌, ◌∷◌, ◌++◌, [], List, IfOk, OnOk, false, length, nat_eq};
+ghost use Rattle.std.specs.Prelude.{◌≡◌, ◌↔◌, ◌∷◌, ◌++◌, [], ℕ, Contains, List, IfOk, OnOk, false, length};
+ghost use Rattle.std.specs.Prelude.{nat_eq};
 ghost use Rattle.mc_filter.specs.ChannelWants.{AreAllAskedFor};
 ghost use Rattle.mc_igmp.specs.declared.record.Record.{Record};
 ghost use Rattle.mc_asked.specs.Indexes.{AreFlowsWanted, IsClassified, IsIndexOfWantedGroups};
 ghost use Rattle.std.specs.List.Sorted.{IsStrictlySortedBy};
 ghost use Rattle.mc_tables.specs.CacheTable.{key_cmp};
-ghost use Rattle.mc_tables.specs.Summary.{shown_pairs};
+ghost use Rattle.mc_tables.specs.Summary.{in_order, shown_pairs};
 ghost use Rattle.std.specs.Prelude.{if◌then◌else◌, filter, flat_map, map, not};
 ghost use Rattle.mc_text.specs.Pair.{pair_of};
-ghost use Rattle.mc_asked.specs.ListWants.{asked_by};
+ghost use Rattle.mc_asked.specs.ListWants.{asked_by, wants_in};
 ghost use Rattle.mc_asked.specs.Answers.{is_answered};
 ghost use Rattle.std.specs.List.{dedup};
 ghost use Rattle.mc_asked.specs.LanWants.{is_asked_class, is_service_class, kept_wants, lan_wants};
@@ -19,6 +20,7 @@ use crate::want_class::WantClass;
 use crate::wants::{add_asked, group_number, wants_among};
 use mc_filter::ChannelWants;
 use mc_igmp::ReportList;
+use mc_tables::drop_repeats;
 use mc_text::{Addr, Index, Memory, pair_number};
 use mc_topology::LanNo;
 use std::alloc::{AllocError, Global};
@@ -26,6 +28,9 @@ use std::marker::Model;
 
 /// The greatest number of wants that are kept, unless all are.
 const MAX_WANTS: usize = 20;
+
+/// So many numbers, 2 MiB of them, are kept with their repeats, of which a list of many hosts is full.
+const MANY: usize = 1 << 18;
 
 /// What is kept of the wants of a LAN's list. Its value in contracts is the record of its fields.
 #[derive(Debug, Drop)]
@@ -135,7 +140,21 @@ fn push_unanswered(
     Ok(())
 }
 
-/// The numbers of what the list asks for and no flow answers, one by one.
+/// Drops repeats of the numbers if they are more than `most`. Returns how many may be kept from then on:
+/// at least twice as many as are left, so that they are sorted seldom.
+fn drop_repeats_of_many(numbers: &mut Vec<u64>, most: usize) -> usize
+    ensures { (number : ℕ) → Contains numbers.new.items number ↔ Contains numbers.old.items number }
+{
+    if numbers.len() <= most {
+        return most;
+    }
+    drop_repeats(numbers);
+    most.max(numbers.len().saturating_mul(2))
+}
+
+/// The numbers of what the list asks for and no flow answers, in any order. Repeats are dropped as soon as
+/// the numbers are many, and later whenever they have doubled: then the room that they take is in proportion
+/// to those that differ.
 fn unanswered_in(
     alloc: Global,
     answers: &WantAnswers,
@@ -144,15 +163,18 @@ fn unanswered_in(
 ) -> Result<Vec<u64>, AllocError>
     ensures { IfOk result (λ unanswered.
         IsIndexOfWantedGroups answers.now.flows list.now wanted_groups.now →
-        map pair_of unanswered.items
-        ≡ filter (λ want. not (is_answered answers.now list.now want)) (flat_map asked_by list.now)) }
+        in_order (map pair_of unanswered.items)
+        ≡ in_order (filter (λ want. not (is_answered answers.now list.now want))
+        (flat_map asked_by list.now))) }
 {
     let mut unanswered = Vec::new(alloc);
     let mut wants = Vec::new(alloc);
+    let mut most = MANY;
     for group_record in list.records() {
         wants.clear();
         add_asked(&mut wants, &group_record)?;
         push_unanswered(&mut unanswered, answers, wanted_groups, &wants)?;
+        most = drop_repeats_of_many(&mut unanswered, most);
     }
     Ok(unanswered)
 }
@@ -250,6 +272,25 @@ impl ClassifiedWants {
 }
 
 impl WantAnswers {
+    /// The wants of a LAN's list by their classes. `wanted` says of each flow whether the list wants it.
+    fn classified_wants(
+        &self,
+        alloc: Global,
+        lan: LanNo,
+        list: &ReportList,
+        wanted: &[bool],
+    ) -> Result<ClassifiedWants, Memory>
+        requires count { length wanted.now ≡ length self.now.flows }
+        requires each { AreFlowsWanted self.now.flows list.now wanted.now }
+        ensures { IfOk result (IsClassified self.now lan list.now (wants_in list.now)) }
+    {
+        let wanted_groups = index_of_wanted_groups(alloc, self.flows(), wanted)?;
+        let unanswered = unanswered_in(alloc, self, &wanted_groups, list)?;
+        let wants = wants_among(alloc, list, unanswered)?;
+        let classified = classify(alloc, self, lan, &wanted_groups, &wants)?;
+        Ok(classified)
+    }
+
     /// What is kept of the wants of a LAN's list, all or the lowest. `wants` says of each flow whether the
     /// list wants it, and whether it may ask for something else; if not, the list isn't read. The time is
     /// in proportion to the records and sources, and to n log n for n of them that no flow answers.
@@ -273,10 +314,7 @@ impl WantAnswers {
         if !wants.asks_more {
             return Ok(ClassifiedWants::none(alloc).into_kept(all));
         }
-        let wanted_groups = index_of_wanted_groups(alloc, self.flows(), &wants.wanted)?;
-        let unanswered = unanswered_in(alloc, self, &wanted_groups, list)?;
-        let wants = wants_among(alloc, list, unanswered)?;
-        let classified = classify(alloc, self, lan, &wanted_groups, &wants)?;
+        let classified = self.classified_wants(alloc, lan, list, &wants.wanted)?;
         Ok(classified.into_kept(all))
     }
 }

@@ -9,15 +9,19 @@ use Rattle.std.specs.Ordering.{nat_cmp, eq_by_cmp}
 abbrev pub AreDistinct : List ℕ → Type 0
 AreDistinct numbers = IsDistinct (eq_by_cmp nat_cmp) numbers
 
--- the slot of a number among `slots`: the number times a large odd number modulo 2^64, of that the
--- upper 32 bits, scaled down to the number of slots
-abbrev pub slot_of : ℕ → ℕ → ℕ
-slot_of slots number =
-    number * 11400714819323198485 % 18446744073709551616 / 2 ^ 32 * slots / 2 ^ 32
+-- The upper 32 bits of a number times an odd one, modulo 2^64: all bits of the number decide about them, so
+-- that numbers that are alike get different ones (multiplicative hashing: Knuth, The Art of Computer
+-- Programming, volume 3, section 6.4).
+abbrev pub hash_by : (multiplier number : ℕ) → ℕ
+hash_by multiplier number = number * multiplier % 18446744073709551616 / 2 ^ 32
 
--- the mark of a number: equal numbers have equal ones
-abbrev pub mark_of : ℕ → ℕ
-mark_of number = number * 14029467366897019727 % 18446744073709551616 / 2 ^ 32 % 2 ^ 32
+-- the slot of a number among `slots`: a hash of it, scaled down to the number of slots
+abbrev pub slot_of : (slots number : ℕ) → ℕ
+slot_of slots number = hash_by 11400714819323198485 number * slots / 2 ^ 32
+
+-- the mark of a number: another hash of it, so that equal numbers have equal marks
+abbrev pub mark_of : (number : ℕ) → ℕ
+mark_of number = hash_by 14029467366897019727 number % 2 ^ 32
 
 -- the mark in the slot of a number, or 0
 abbrev pub mark_in_slot : List ℕ → ℕ → ℕ

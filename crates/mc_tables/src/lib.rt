@@ -16,7 +16,7 @@ pub use fault::{TableFault, TableFaultKind};
 pub use lines::{TableReader, TableRows};
 pub use listed::ListedPairs;
 pub use summary::{
-    CacheSummary, SummarizedCache, SummaryPairs, SummaryReader, pairs_in_order,
+    CacheSummary, SummarizedCache, SummaryPairs, SummaryReader, drop_repeats, pairs_in_order,
     sorted_without_repeats,
 };
 pub use vifs::{Vif, VifReader, VifTable};

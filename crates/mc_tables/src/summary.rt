@@ -13,7 +13,7 @@ pub(crate) mod summary_so_far;
 pub(crate) mod unlisted_rows;
 
 pub use cache_summary::CacheSummary;
-pub use pair_order::{pairs_in_order, sorted_without_repeats};
+pub use pair_order::{drop_repeats, pairs_in_order, sorted_without_repeats};
 pub use summarized_cache::SummarizedCache;
 pub use summary_pairs::SummaryPairs;
 pub use summary_reader::SummaryReader;

@@ -12,6 +12,12 @@ use std::alloc::{AllocError, Global};
 /// The greatest number of rows that get four slots each.
 const MAX_SLOTTED: usize = 65_536;
 
+/// An odd number, by which a number is multiplied for its slot.
+const SLOT_MULTIPLIER: u64 = 11_400_714_819_323_198_485;
+
+/// Another odd number, by which it is multiplied for its mark.
+const MARK_MULTIPLIER: u64 = 14_029_467_366_897_019_727;
+
 /// The slot of a number among so many.
 fn slot_of(number: u64, slots: usize) -> usize
     requires nonempty { 0 < slots }
@@ -19,7 +25,7 @@ fn slot_of(number: u64, slots: usize) -> usize
     ensures slot { result ≡ slot_of slots number }
     ensures within { result < slots }
 {
-    let mixed = number.wrapping_mul(11_400_714_819_323_198_485) >> 32;
+    let mixed = number.wrapping_mul(SLOT_MULTIPLIER) >> 32;
     ((mixed * slots as u64) >> 32) as usize
 }
 
@@ -27,7 +33,7 @@ fn slot_of(number: u64, slots: usize) -> usize
 fn mark_of(number: u64) -> u32
     ensures { result ≡ mark_of number }
 {
-    (number.wrapping_mul(14_029_467_366_897_019_727) >> 32) as u32
+    (number.wrapping_mul(MARK_MULTIPLIER) >> 32) as u32
 }
 
 /// Marks the slot of a number, or puts it behind the others if there is another mark. Returns whether it

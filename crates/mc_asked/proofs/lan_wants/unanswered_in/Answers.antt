@@ -2,6 +2,8 @@ use Rattle.std.proofs.Common.{◌≡◌, ℕ, ◌++◌, List, append_assoc, filt
 use Rattle.std.proofs.lemmas.List.Elements.{filter-append}
 use Rattle.mc_text.specs.Pair.{pair_of}
 use Rattle.mc_igmp.specs.declared.record.Record.{Record}
+use Rattle.mc_tables.specs.Summary.{in_order}
+use Rattle.mc_tables.proofs.PairOrderLemmas.{in_order-same_and_others}
 use Rattle.mc_asked.specs.Answers.{is_answered}
 use Rattle.mc_asked.specs.ListWants.{asked_by}
 use Rattle.mc_asked.proofs.lan_wants.unanswered_in.Goals as goal
@@ -17,9 +19,11 @@ loop-group_record-preserved c = λ index.
     c.deref.ensures.value ∙ c.in_ok-add_asked.ensures
     ∙ ap (λ (l : List (ℕ × ℕ)). l ++ asked_by r) c.clear.ensures.items in
     let more = filter test (flat_map asked_by rest) in
-    ap (λ (l : List (ℕ × ℕ)). l ++ more)
+    in_order-same_and_others pair_of c.drop_repeats_of_many-most.new.numbers.items
+    c.push_unanswered.new.unanswered.items more c.drop_repeats_of_many-most.ensures
+    ∙ ap (λ (l : List (ℕ × ℕ)). in_order (l ++ more))
     (c.in_ok-push_unanswered.ensures list index ∙ ap (λ (l : List (ℕ × ℕ)). old ++ filter test l) own)
-    ∙ append_assoc old (filter test (asked_by r)) more
+    ∙ ap in_order (append_assoc old (filter test (asked_by r)) more
     ∙ ap (λ (l : List (ℕ × ℕ)). old ++ l) (sym (filter-append test (asked_by r) (flat_map asked_by rest)))
-    ∙ ap (λ (l : List Record). old ++ filter test (flat_map asked_by l)) (sym c.in-Some.ensures.steps)
+    ∙ ap (λ (l : List Record). old ++ filter test (flat_map asked_by l)) (sym c.in-Some.ensures.steps))
     ∙ c.loop-group_record.invariant index

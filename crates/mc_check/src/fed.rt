@@ -56,11 +56,7 @@ fn is_fed(view: &FlowView<'_>, by_lan: &EntriesByLan<'_>, entry: &Reached) -> bo
 {
     match entry.forwarder {
         Some((router, vif)) => {
-            let placed = match view.placed(router, vif) {
-                Some(lan) => lan.0 == entry.lan.0,
-                None => false,
-            };
-            row_feeds(view, by_lan, router, vif) && placed
+            row_feeds(view, by_lan, router, vif) && view.placed(router, vif) == Some(entry.lan)
         }
         None => true,
     }

@@ -13,7 +13,7 @@ use crate::fed::is_live;
 use crate::verdict::Reason;
 use mc_cert::Reached;
 use mc_forward::{FlowView, RowFor};
-use mc_tables::Oif;
+use mc_tables::{MAX_VIFS, Oif};
 use mc_topology::{LanNo, RouterNo};
 
 /// Why a LAN's entry isn't the one that follows from a router's oif onto it, if it isn't. The router
@@ -34,10 +34,7 @@ fn child_reason(
     let Some(entry) = by_lan.on(lan) else {
         return extra;
     };
-    let Some((sender, vif)) = entry.forwarder else {
-        return extra;
-    };
-    if sender.0 != router.0 || vif != oif.vif {
+    if entry.forwarder != Some((router, oif.vif)) {
         return extra;
     }
     if entry.rank != base.rank + 1 {
@@ -98,7 +95,7 @@ fn wildcard_reason(
     ensures { optional_reason_value result ≡ first_of (open_row_reason (net_in view.now) by_lan.now router)
         (below 32) }
 {
-    for vif in 0..32u8 {
+    for vif in 0..MAX_VIFS {
         if by_lan.at(view.placed(router, vif)).is_some() {
             return Some(Reason::Wildcard(router, vif));
         }

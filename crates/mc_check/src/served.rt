@@ -30,7 +30,7 @@ fn others_are_forwarded(entries: &[Reached], lan: LanNo) -> bool
         ≡ list_all (λ entry. (entry.lan == lan) || is_some entry.forwarder) entries.now }
 {
     for entry in entries {
-        if entry.lan.0 != lan.0 && entry.forwarder.is_none() {
+        if entry.lan != lan && entry.forwarder.is_none() {
             return false;
         }
     }

@@ -53,7 +53,8 @@ pub placed_in-below_lan_count : (t : TopologyValue) (vifs : List VifsValue) (rou
     → IsValidTopology t → (o : Option ℕ) → placed_in t vifs router vif ≡ o
     → IfSome o (λ lan. lan < length t.lans)
 placed_in-below_lan_count t vifs router vif ok None e = tt
-placed_in-below_lan_count t vifs router vif ok (Some lan) e = by_vif t router lan ok (vif_of vifs router vif) e
+placed_in-below_lan_count t vifs router vif ok (Some lan) e =
+    by_vif t router lan ok (vif_of vifs router vif) e
   where
     by_kind : (t : TopologyValue) (router lan : ℕ) → IsValidTopology t → (v : VifValue) (b : Bool)
         → cond b None (lan_of_interface router v.device t.interfaces) ≡ Some lan
@@ -199,8 +200,8 @@ length-interfaces_of d = length-map (below (length d.topology.lans)) (interfaces
     ∙ length-below (length d.topology.lans)
 
 -- no vif from 32 on is placed
-placed_of-none_from_vif_32 : (d : DomainValue) (router vif : ℕ) → AreVifs d.topology d.vifs → 32 ≤ vif → (o : Option ℕ)
-    → placed_of d router vif ≡ o → None ≡ placed_of d router vif
+placed_of-none_from_vif_32 : (d : DomainValue) (router vif : ℕ) → AreVifs d.topology d.vifs
+    → 32 ≤ vif → (o : Option ℕ) → placed_of d router vif ≡ o → None ≡ placed_of d router vif
 placed_of-none_from_vif_32 d router vif ok h None e = sym e
 placed_of-none_from_vif_32 d router vif ok h (Some lan) e =
     let own = vif_exists-from_placed d.topology d.vifs router vif lan e in

@@ -7,6 +7,7 @@ ghost use Rattle.mc_forward.specs.Assembling.{vifs_on, vif_lan_in, interfaces_by
 
 use crate::items::Items;
 use crate::vif_lans::VifLans;
+use mc_tables::MAX_VIFS;
 use mc_text::Memory;
 use mc_topology::RouterNo;
 use std::alloc::Global;
@@ -82,7 +83,7 @@ fn add_router(
         slice_index_or lists.new.items lan [] ≡
         slice_index_or lists.old.items lan [] ++ vifs_on vif_lans.now router lan (below 32)) }
 {
-    for vif in 0..32u8 {
+    for vif in 0..MAX_VIFS {
         if let Some(lan) = vif_lans[vif as usize] {
             let list = &mut lists[lan.0 as usize];
             list.push((router, vif))?;

@@ -7,7 +7,7 @@ ghost use Rattle.mc_tables.specs.CacheTable.{IsValidEntry};
 ghost use Rattle.mc_tables.specs.declared.cache.entry.Oif.{Oif as OifValue};
 ghost use Rattle.mc_forward.specs.Domains.{oif_pairs};
 
-use mc_tables::{Entry, Oif};
+use mc_tables::{Entry, MAX_VIFS, Oif};
 
 /// An entry's outgoing vifs without some at the front that are lower than this one: as vifs ascend and
 /// none is higher than 31, so many of them must be. Where an entry sends by all vifs but one, as many
@@ -18,7 +18,7 @@ pub fn outgoing_from<'a>(entry: &Entry<'a>, vif: u8) -> &'a [Oif]
         × AllByRecursion (λ o. o.vif < vif) lower }
 {
     let oifs = entry.oifs;
-    let lower = (usize::from(vif) + oifs.len()).saturating_sub(32);
+    let lower = (usize::from(vif) + oifs.len()).saturating_sub(usize::from(MAX_VIFS));
     &oifs[lower.min(oifs.len())..]
 }
 

@@ -9,13 +9,13 @@ ghost use Rattle.mc_forward.specs.Domains.{AreVifs, lan_of_vif, placed_in};
 ghost use Rattle.mc_forward.specs.Assembling.{vif_lans_by_vifs};
 
 use crate::tables::HasVifs;
-use mc_tables::{Vif, VifTable};
+use mc_tables::{MAX_VIFS, Vif, VifTable};
 use mc_text::Memory;
 use mc_topology::{LanNo, RouterNo, Topology};
 use std::alloc::Global;
 
 /// The LAN of each vif of a router, from vif 0.
-pub(crate) type VifLans = [Option<LanNo>; 32];
+pub(crate) type VifLans = [Option<LanNo>; MAX_VIFS as usize];
 
 /// The LAN of a router's vif.
 fn lan_of_vif(topology: &Topology, router: RouterNo, vif: &Vif) -> Option<LanNo>
@@ -49,8 +49,8 @@ fn vif_lans_of_router(topology: &Topology, router: RouterNo, vifs: &VifTable) ->
 {
     // what holds of every table is a fact of a look-up
     let _first = vifs.vif(0);
-    let mut vif_lans = [None; 32];
-    for vif in 0..32u8 {
+    let mut vif_lans = [None; MAX_VIFS as usize];
+    for vif in 0..MAX_VIFS {
         vif_lans[vif as usize] = lan_of_vif_number(topology, router, vifs, vif);
     }
     vif_lans

@@ -1,5 +1,6 @@
 -- A cache of which each row is handed on: where the whole text is read, all of its rows are.
-use Rattle.std.proofs.Common.{◌≡◌, ℕ, List, [], ◌∷◌, ◌++◌, Ok, Err, cond, true, false, length, refl, sym, ap, ◌∙◌}
+use Rattle.std.proofs.Common.{◌≡◌, ℕ, List, [], ◌∷◌, ◌++◌, Ok, Err, cond, true, false, length, refl, sym}
+use Rattle.std.proofs.Common.{ap, ◌∙◌}
 use Rattle.std.specs.Prelude.{codes, nat_lt}
 use Rattle.mc_text.specs.declared.text.addr.Order.{Order}
 use Rattle.mc_text.specs.Lines.{LineText, lines_of}
@@ -18,7 +19,8 @@ use Rattle.mc_tables.proofs.SummaryLemmas.{row_in_line-words}
 
 -- one more row after others
 with_rows-push : {V : Type 0} (after : V → ℕ × ℕ → EntryValue → V) (made : V) (rows : List RowValue)
-    (row : RowValue) → with_rows after made (rows ++ row ∷ []) ≡ with_row after (with_rows after made rows) row
+    (row : RowValue)
+    → with_rows after made (rows ++ row ∷ []) ≡ with_row after (with_rows after made rows) row
 with_rows-push after made [] row = refl
 with_rows-push after made (r ∷ rows) row = with_rows-push after (with_row after made r) rows row
 
@@ -26,7 +28,10 @@ with_rows-push after made (r ∷ rows) row = with_rows-push after (with_row afte
 row_in_one_line-is : (order : Order) (earlier : List RowValue) (line : LineText) (row : RowValue)
     → row_in_line order earlier line ≡ Ok row → row_in_one_line order line ≡ Ok row
 row_in_one_line-is order earlier line row is =
-    rw ((row_in_line-denotes order earlier line row is).0.ended, row_in_line-words order earlier line row is) refl
+    rw (
+      (row_in_line-denotes order earlier line row is).0.ended,
+      row_in_line-words order earlier line row is,
+    ) refl
 
 -- the lines after those of some rows
 pub each_row_from-rows : {V : Type 0} (after : V → ℕ × ℕ → EntryValue → V) (order : Order) (made : V)

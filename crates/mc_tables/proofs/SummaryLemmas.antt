@@ -85,7 +85,8 @@ row_step-same_order so_far more line is =
     sym (ap (λ (s : ListedRowsSoFar). s.order) (ok_injective {E = TableFaultKind} (make one.0) more one.2))
 
 -- the table and the summary
-abbrev pub with_summary : Order → SummarySoFar → List LineText → CacheValue → Result SummarizedCache TableFault
+abbrev pub with_summary : Order → SummarySoFar → List LineText → CacheValue
+    → Result SummarizedCache TableFault
 with_summary order summary lines table =
     Ok (record { table = table; summary = finished_summary (summary_of_lines order summary lines) })
 

@@ -13,7 +13,7 @@ mod vifs;
 
 pub use cache::{CacheReader, CacheTable, EachRow, EachRowReader, Entry, FlatOifs, Oif, RowFold};
 pub use fault::{TableFault, TableFaultKind};
-pub use lines::{TableReader, TableRows};
+pub use lines::{MAX_VIFS, TableReader, TableRows};
 pub use listed::ListedPairs;
 pub use summary::{
     CacheSummary, SummarizedCache, SummaryPairs, SummaryReader, drop_repeats, pairs_in_order,

@@ -10,3 +10,4 @@ pub(crate) mod table_words;
 
 pub use rows::TableRows;
 pub use table_reader::TableReader;
+pub use table_words::MAX_VIFS;

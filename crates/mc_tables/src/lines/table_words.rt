@@ -10,8 +10,11 @@ ghost use Rattle.mc_tables.specs.TableWords.{without_sign, is_counter, is_hexade
 use crate::fault::TableFaultKind;
 use mc_text::{Words, decimal};
 
-/// The greatest index of a vif (`MAXVIFS` of linux/mroute.h less one).
-pub const MAX_VIF: u8 = 31;
+/// The number of a router's vifs, at most (`MAXVIFS` of linux/mroute.h): their indexes are 0 to 31.
+pub const MAX_VIFS: u8 = 32;
+
+/// The greatest index of a vif.
+pub const MAX_VIF: u8 = MAX_VIFS - 1;
 
 /// The next three words, if they are there.
 pub fn three_words<'a>(words: &mut Words<'a>) -> Option<(&'a [u8], &'a [u8], &'a [u8])>

@@ -37,6 +37,7 @@ loop-own-preserved c =
 pub returns : goal.returns
 returns c =
     let at = c.loop-own in
-    let empty = nothing_left (into_iter_items at.own-iterator) (sym at.invariant.left ∙ c.in-None.ensures.steps.0) in
+    let empty = nothing_left (into_iter_items at.own-iterator)
+    (sym at.invariant.left ∙ c.in-None.ensures.steps.0) in
     sym (append-nil at.vifs.items)
     ∙ ap (λ (ts : List TablesValue). at.vifs.items ++ vifs_by_tables ts) (sym empty) ∙ at.invariant.moved

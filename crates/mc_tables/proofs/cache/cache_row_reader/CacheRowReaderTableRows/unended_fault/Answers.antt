@@ -4,4 +4,5 @@ use Rattle.mc_tables.proofs.cache.cache_row_reader.CacheRowReaderTableRows.unend
 
 pub returns : goal.returns
 returns c = λ bytes.
-    table_from-unended c.args.self.now c.args.number bytes ∙ ap Err (c.earliest_fault.ensures.first (λ is. cc))
+    table_from-unended c.args.self.now c.args.number bytes
+    ∙ ap Err (c.earliest_fault.ensures.first (λ is. cc))

@@ -78,6 +78,7 @@ line_at-too_long taken later without long =
     le-ltb (length (taken ++ later)) 96 (omega (arith, long, length-append taken later)) in
     rw (front, position-none_passes (λ b. eqb b 10) taken without, enough) refl
 
+-- fewer than 96 bytes without a line feed, up to the input's end, are read as `NoEnd`
 pub reads_as-no_end : {X : Type 0} (view : X → List ℕ) (old mid new : Option (List ℕ)) (taken : List ℕ)
     → Consumes old mid taken → Consumes mid new [] → IsAtEnd new → HasNoByte 10 taken
     → length taken < 96 → ReadsAs view old new (Err faults.NoEnd) line_at
@@ -89,6 +90,7 @@ reads_as-no_end view (Some text) (Some between) (Some later) taken first second 
     first ∙ ap (λ l. taken ++ l) (second ∙ end) ∙ append-nil taken in
     ap line_at whole ∙ line_at-no_end taken without short
 
+-- 96 bytes without a line feed are read as `BadPartLine`, whatever follows
 pub reads_as-line_too_long : {X : Type 0} (view : X → List ℕ) (old new : Option (List ℕ)) (taken : List ℕ)
     → Consumes old new taken → HasNoByte 10 taken → length taken ≡ 96
     → ReadsAs view old new (Err faults.BadPartLine) line_at
@@ -116,6 +118,7 @@ rest_of_part-truncated : (left : ℕ) (text : List ℕ) → length text ≤ left
 unfolding part_bytes_at
 rest_of_part-truncated left text less = rw (le-leb (length text) left less) refl
 
+-- an input that ends within the rest of a part is read as `Truncated`
 pub reads_as-rest_truncated : (old mid new : Option (List ℕ)) (left : ℕ) (bytes more : List ℕ)
     → Consumes old mid bytes → Consumes mid new more → IsAtEnd new
     → length bytes + length more ≤ left
@@ -150,6 +153,7 @@ rest_of_part-other_byte bytes later b other =
     (omega (arith, length-append bytes (b ∷ later))) in
     rw (longer, get_or-append_seam bytes b later 0, other) refl
 
+-- another byte than a line feed after a part is read as `BadPartLine`
 pub reads_as-rest_other_byte : (old mid new : Option (List ℕ)) (left : ℕ) (bytes : List ℕ) (b : ℕ)
     → Consumes old mid bytes → Consumes mid new (b ∷ []) → length bytes ≡ left → eqb b 10 ≡ false
     → ReadsAs {X = Unit {0}} {Y = Unit {0}} (λ x. x) old new (Err faults.BadPartLine) (rest_of_part left)

@@ -68,6 +68,7 @@ decoded_ahead-of_line begun text message decoded end ahead (inl whole) found =
       fits = ahead.fits;
     }
 
+-- where the line's end was found, the digits before it are decoded ahead
 pub decoded_ahead-up_to_line_end : (place : Option ℕ) (begun text message : List ℕ) (decoded : ℕ)
     → IsDecodedAhead text message decoded → (begun ≡ []) ⊎ (decoded ≡ 0)
     → place ≡ position (λ b. eqb b 10) text

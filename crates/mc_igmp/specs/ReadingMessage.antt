@@ -13,14 +13,14 @@ use Rattle.mc_igmp.specs.Records.{records_in, after_records}
 use Rattle.mc_igmp.specs.Message.{record_count}
 use Rattle.mc_igmp.specs.OlderReport.{older_record}
 
--- the Version 3 report of these bytes, whose last record has to end within them (else Truncated,
--- with the number of the first record that doesn't)
-abbrev pub report_of : List ℕ → Result (List ℕ) ℕ → Result Message MessageFault
+-- the Version 3 report of these bytes, where `after` is what comes after its last record, which has to
+-- end within them (else Truncated, with the number of the first record that doesn't)
+abbrev pub report_of : (bytes : List ℕ) → (after : Result (List ℕ) ℕ) → Result Message MessageFault
 report_of bytes (Ok ignored) = Ok (Report (records_in (record_count bytes) (drop 8 bytes)))
 report_of bytes (Err number) = Err (Truncated number)
 
 -- the message of these bytes, which are well formed and have this type
-unfoldable pub read_by_type : List ℕ → ℕ → Result Message MessageFault
+unfoldable pub read_by_type : (bytes : List ℕ) → (type : ℕ) → Result Message MessageFault
 read_by_type bytes type =
     if type == 0x22 then report_of bytes (after_records 1 (record_count bytes) (drop 8 bytes))
     else if type == 0x12 || type == 0x16 then Ok (Report (older_record (group_at bytes) ∷ []))

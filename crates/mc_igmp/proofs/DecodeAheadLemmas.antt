@@ -1,49 +1,30 @@
 -- The end of a line whose digits are decoded ahead.
-use Rattle.std.proofs.Common.{◌≡◌, ℕ, ◌+◌, ◌-◌, ◌*◌, ◌<◌, ◌≤◌, Bool, true, false, List, [], ◌++◌}
+use Rattle.std.proofs.Common.{◌≡◌, ℕ, ◌+◌, ◌*◌, ◌<◌, ◌≤◌, true, false, List, [], ◌++◌}
 use Rattle.std.proofs.Common.{length, get_or, eqb, take, drop, Option, Some, None, inl, inr}
 use Rattle.std.proofs.Common.{refl, sym, ap, subst, ◌∙◌, arith}
 use Rattle.std.specs.Prelude.{position, ◌⊎◌, IfSome}
-use Rattle.std.specs.List.{list_all, position_or_len}
-use Rattle.std.proofs.lemmas.Bool.{cases_lt, eqb-true}
+use Rattle.std.specs.List.{list_all}
+use Rattle.std.proofs.lemmas.Bool.{cases_lt}
 use Rattle.std.proofs.lemmas.Bool.Decides.{nat_tests}
-use Rattle.std.proofs.lemmas.List.{get_or-take, get_or-drop, length-take, length-drop, take-take}
+use Rattle.std.proofs.lemmas.List.{get_or-take, length-take, take-take}
 use Rattle.std.proofs.lemmas.List.Quantifiers.{position-Some}
-use Rattle.std.proofs.lemmas.List.Sums.{position_or_len_is, fails_before_first, AllPass-from_list_all}
+use Rattle.std.proofs.lemmas.List.Sums.{AllPass-from_list_all}
 use Rattle.hex.specs.Hex.{is_hex_digit}
 use Rattle.mc_text.specs.DigitPairs.{bytes_of_pairs}
+use Rattle.mc_text.proofs.Searches.{position-behind_front, position-nowhere_behind_front}
 use Rattle.mc_igmp.specs.ListSoFar.{IsDecodedAhead}
 
 -- a hexadecimal digit is no line feed
-hex_value_or_16-no_line_feed : (b : ℕ) → is_hex_digit b ≡ true → eqb b 10 ≡ false
-hex_value_or_16-no_line_feed b digit = elim (eqb b 10) as (λ (t : Bool). eqb b 10 ≡ t → t ≡ false) [
-  | true ↦ λ is. absurd (let feed = eqb-true b 10 is in
-      cc (sym digit, ap is_hex_digit feed))
-  | false ↦ λ _. refl
-] refl
+eqb-hex_digit : (b : ℕ) → is_hex_digit b ≡ true → eqb b 10 ≡ false
+eqb-hex_digit b digit = grind (arith, nat_tests)
 
 -- the first digits of a text are no line feeds
 get_or-no_line_feed : (k : ℕ) (text : List ℕ) → list_all is_hex_digit (take k text) ≡ true
     → (j : ℕ) → j < k → j < length text → eqb (get_or text j 0) 10 ≡ false
 get_or-no_line_feed k text digits j less within =
     let passes = AllPass-from_list_all is_hex_digit (take k text) digits in
-    hex_value_or_16-no_line_feed (get_or text j 0) (ap is_hex_digit (sym (get_or-take k text j 0 less))
+    eqb-hex_digit (get_or text j 0) (ap is_hex_digit (sym (get_or-take k text j 0 less))
     ∙ passes j 0 (omega (arith, length-take k text)))
-
--- a line feed with none before it is the first
-position-first_line_feed : (text : List ℕ) (i : ℕ) → i < length text
-    → ((k : ℕ) → k < i → eqb (get_or text k 0) 10 ≡ false) → eqb (get_or text i 0) 10 ≡ true
-    → position (λ b. eqb b 10) text ≡ Some i
-position-first_line_feed text i within none feed =
-    let is = position_or_len_is (λ b. eqb b 10) text i 0 (omega arith) none (λ _. feed) in
-    grind (arith, nat_tests, is)
-
-position-no_line_feed : (text : List ℕ)
-    → ((k : ℕ) → k < length text → eqb (get_or text k 0) 10 ≡ false)
-    → position (λ b. eqb b 10) text ≡ None
-position-no_line_feed text none =
-    let is = position_or_len_is (λ b. eqb b 10) text (length text) 0 (omega arith) none
-    (λ less. absurd (omega arith)) in
-    grind (arith, nat_tests, is)
 
 -- the first line feed after the digits is the first of the text
 pub position-line_feed_after_digits : (k : ℕ) (text : List ℕ) (place : ℕ) → k ≤ length text
@@ -51,35 +32,17 @@ pub position-line_feed_after_digits : (k : ℕ) (text : List ℕ) (place : ℕ) 
     → position (λ b. eqb b 10) (drop k text) ≡ Some place
     → position (λ b. eqb b 10) text ≡ Some (k + place)
 position-line_feed_after_digits k text place within digits found =
-    let at = position-Some (λ b. eqb b 10) (drop k text) place 0 found in
-    let size = length-drop k text in
-    position-first_line_feed text (k + place) (omega (arith, at.0, size))
-    (λ j less. elim (cases_lt j k) [
-      | inl early ↦ get_or-no_line_feed k text digits j early (omega arith)
-      | inr late ↦
-          let there : k + (j - k) ≡ j = omega arith in
-          ap (λ (p : ℕ). eqb (get_or text p 0) 10) (sym there)
-          ∙ ap (λ (b : ℕ). eqb b 10) (sym (get_or-drop k text (j - k) 0))
-          ∙ at.2 (j - k) (omega arith)
-    ])
-    (ap (λ (b : ℕ). eqb b 10) (sym (get_or-drop k text place 0)) ∙ at.1)
+    position-behind_front (λ b. eqb b 10) text 0 k within
+    (λ j early. get_or-no_line_feed k text digits j early (omega (arith, early))) place found
 
+-- if there is no line feed after the digits, there is none at all
 pub position-no_line_feed_after_digits : (k : ℕ) (text : List ℕ) → k ≤ length text
     → list_all is_hex_digit (take k text) ≡ true
     → position (λ b. eqb b 10) (drop k text) ≡ None
     → position (λ b. eqb b 10) text ≡ None
 position-no_line_feed_after_digits k text within digits none =
-    let size = length-drop k text in
-    let past : length (drop k text) ≤ position_or_len (λ b. eqb b 10) (drop k text) =
-    grind (arith, nat_tests) in
-    position-no_line_feed text (λ j less. elim (cases_lt j k) [
-      | inl early ↦ get_or-no_line_feed k text digits j early less
-      | inr late ↦
-          let there : k + (j - k) ≡ j = omega arith in
-          ap (λ (p : ℕ). eqb (get_or text p 0) 10) (sym there)
-          ∙ ap (λ (b : ℕ). eqb b 10) (sym (get_or-drop k text (j - k) 0))
-          ∙ fails_before_first (λ b. eqb b 10) (drop k text) (j - k) 0 (omega (arith, past, size))
-    ])
+    position-nowhere_behind_front (λ b. eqb b 10) text 0 k within
+    (λ j early. get_or-no_line_feed k text digits j early (omega (arith, early))) none
 
 -- digits decoded ahead in a text are decoded in the line that it begins with
 decoded_ahead-of_line : (begun text message : List ℕ) (decoded end : ℕ) → IsDecodedAhead text message decoded
@@ -105,6 +68,7 @@ decoded_ahead-of_line begun text message decoded end ahead (inl whole) found =
       fits = ahead.fits;
     }
 
+-- where the line's end was found, the digits before it are decoded ahead
 pub decoded_ahead-up_to_line_end : (place : Option ℕ) (begun text message : List ℕ) (decoded : ℕ)
     → IsDecodedAhead text message decoded → (begun ≡ []) ⊎ (decoded ≡ 0)
     → place ≡ position (λ b. eqb b 10) text

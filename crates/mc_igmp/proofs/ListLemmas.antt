@@ -27,6 +27,7 @@ use Rattle.std.proofs.lemmas.List.{append-nil}
 
 -- ---- records that report a change
 
+-- if no record is found to report a change, a list accepts their report
 first_change-none_is_accepted : (number : ℕ) (rs : List Record) → first_change number rs ≡ None
     → IsAcceptedMessage (Report rs)
 unfolding first_change
@@ -34,6 +35,7 @@ first_change-none_is_accepted number [] f = tt
 first_change-none_is_accepted number (r ∷ rs) f =
     (grind arith, first_change-none_is_accepted (number + 1) rs (grind arith))
 
+-- of a report that a list accepts no record is found to report a change
 pub first_change-none : (number : ℕ) (rs : List Record) → IsAcceptedMessage (Report rs)
     → first_change number rs ≡ None
 unfolding first_change
@@ -42,6 +44,7 @@ first_change-none number (r ∷ rs) h = rw h.0 (first_change-none (number + 1) r
 
 -- ---- the bytes of a line
 
+-- of an ended line within the limits the bytes are those that its digits write
 pub bytes_of_line-digits : (line : LineText) → line.ended ≡ true → line.number ≤ 65536
     → length line.bytes ≤ 131030
     → bytes_of_line line ≡ decoded_or_bad_hex line.number (decode_of line.bytes)
@@ -57,12 +60,14 @@ decoded_or_bad_hex-bad_hex number (Err e) none = refl
 
 -- ---- the records of a line
 
+-- the fault of a line's bytes is the line's, unless memory ran out
 pub read_line-fault : (line : LineText) (fault : ListFault)
     → IsMemory fault ⊎ (bytes_of_line line ≡ Err fault)
     → IsMemory fault ⊎ (read_line line ≡ Err fault)
 unfolding read_line
 read_line-fault line fault h = grind arith
 
+-- of a line whose bytes were read the records are those of their message
 pub read_line-accepted_records : (line : LineText) (bytes : List ℕ) → bytes_of_line line ≡ Ok bytes
     → read_line line ≡ accepted_records line.number (read_message bytes)
 unfolding read_line
@@ -117,6 +122,7 @@ read_lines_more front first new line all lines total all_is read_is new_is so_fa
 abbrev AreReadLines : List LineText → List Record → Type 0
 AreReadLines lines rs = (ms : List Message) × AreMessageLines lines ms × (rs ≡ flat_map records_of ms)
 
+-- lines that are read are messages with these records
 read_lines-sound : (lines : List LineText) (rs : List Record) → read_lines lines ≡ Ok rs
     → AreReadLines lines rs
 unfolding read_lines
@@ -128,6 +134,7 @@ read_lines-sound (line ∷ lines) rs e =
     let (ms, there, are) = read_lines-sound lines rest later in
     (m ∷ ms, (here, there), cc)
 
+-- lines that are messages are read as the records of these
 read_lines-complete : (lines : List LineText) (ms : List Message) → AreMessageLines lines ms
     → read_lines lines ≡ Ok (flat_map records_of ms)
 unfolding read_lines
@@ -160,6 +167,7 @@ IsReportListAnswer text result = record {
   fault : IsReadOrOutOfMemory text result;
 }
 
+-- a result that is that of reading the text keeps the clauses of `read`
 report_list_answer-from_read_list : (text : List ℕ) (result : Result (List Record) ListFault)
     → IsReadOrOutOfMemory text result
     → IsReportListAnswer text result
@@ -169,6 +177,7 @@ report_list_answer-from_read_list text result is = record {
   fault = is;
 }
 
+-- of a text past the limit the fault `TooLarge` keeps the clauses of `read`
 pub report_list_answer-too_large : (text : List ℕ) (result : Result (List Record) ListFault)
     → 16777216 < length text → result ≡ Err (fault_at 0 0 TooLarge) → IsReportListAnswer text result
 unfolding read_list

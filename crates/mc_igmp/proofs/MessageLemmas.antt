@@ -26,6 +26,7 @@ use Rattle.mc_igmp.proofs.RecordsLemmas.{big_number-at, records_in-complete, aft
 abbrev IsReadMessageOf : List ℕ → Result Message MessageFault → Type 0
 IsReadMessageOf bytes read = IfOk read (IsMessage bytes)
 
+-- if a Version 3 report was read of the bytes, they are it
 report_of-sound : (bytes : List ℕ) → IsBytes bytes → IsWellFormed bytes → slice_index bytes 0 ≡ 0x22
     → (after : Result (List ℕ) ℕ) → after_records 1 (record_count bytes) (drop 8 bytes) ≡ after
     → IsReadMessageOf bytes (report_of bytes after)
@@ -35,22 +36,26 @@ report_of-sound bytes fits formed type (Ok ignored) e =
     (IsBytes-drop 8 bytes fits) e in
     (formed, inl (grind arith))
 
+-- if a message was read of the bytes, they are it
 pub read_message-sound : (bytes : List ℕ) → IsBytes bytes → IsReadMessageOf bytes (read_message bytes)
 unfolding read_message read_by_type
 read_message-sound bytes fits = grind (arith, nat_tests, report_of-sound)
 
 -- ---- bytes that are a message are read as it
 
+-- bytes of a type of version 1 or 2 are read as a report for their group
 pub read_by_type-older_report : (bytes : List ℕ) (type : ℕ) → (type ≡ 0x12) ⊎ (type ≡ 0x16)
     → read_by_type bytes type ≡ Ok (Report (older_record (group_at bytes) ∷ []))
 unfolding read_by_type
 read_by_type-older_report bytes type e = grind (arith, nat_tests)
 
+-- bytes of no type of a report are read as a message of that type
 pub read_by_type-other_type : (bytes : List ℕ) (type : ℕ) → ¬ (IsReportType type)
     → read_by_type bytes type ≡ Ok (Other type)
 unfolding read_by_type
 read_by_type-other_type bytes type other = grind (arith, nat_tests)
 
+-- bytes that are a message are read as it
 pub read_message-complete : (bytes : List ℕ) (m : Message) → IsMessage bytes m
     → read_message bytes ≡ Ok m
 unfolding read_message read_by_type
@@ -59,6 +64,7 @@ read_message-complete bytes (Report rs) (formed, inl h) =
 read_message-complete bytes (Report rs) (formed, inr h) = grind (arith, nat_tests)
 read_message-complete bytes (Other type) (formed, is, other) = grind (arith, nat_tests)
 
+-- bytes that are read as a message are it
 pub read_message-gives_message : (bytes : List ℕ) (m : Message) → IsBytes bytes → read_message bytes ≡ Ok m
     → IsMessage bytes m
 read_message-gives_message bytes m fits e = IfOk-at_ok (IsMessage bytes) e (read_message-sound bytes fits)
@@ -79,6 +85,7 @@ IsReportAnswer read parsed answer =
     × MatchResult parsed (λ m. answer ≡ Ok m)
     (λ number. IsErrAnd answer (λ fault. fault ≡ Truncated number))
 
+-- what the code reads of a Version 3 report is what the bytes are read as
 pub read_by_type-version_3_report : (bytes : List ℕ) (count : ℕ) (read : Result (List Record) ℕ)
     (parsed : Result Message ℕ) (answer : Result Message MessageFault) → slice_index bytes 0 ≡ 0x22
     → count ≡ big_number 2 (take (length bytes - 6) (drop 6 bytes))

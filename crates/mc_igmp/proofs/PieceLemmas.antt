@@ -38,6 +38,7 @@ read_lines-first_fault : (old : List Record) (line : LineText) (all lines : List
 unfolding read_lines
 read_lines-first_fault old line all lines fault is refused = rw (is, refused) refl
 
+-- the fault of the next line is that of the rest of the lines, unless memory ran out
 pub read_rest_of_lines-fault : (old : List Record) (ended : ℕ) (begun rest more : List ℕ) (end : ℕ)
     (fault : ListFault) → HasNoLineFeed begun → position (λ b. eqb b 10) rest ≡ Some end
     → IsMemory fault ⊎ (read_line (line_after ended (begun ++ take end rest)) ≡ Err fault)
@@ -78,12 +79,14 @@ list_if-nothing_more so_far within none =
     let few : nat_lt 16777216 (so_far.size + 0) ≡ false = grind (arith, nat_tests) in
     rw (few, none, append-nil so_far.begun) refl
 
+-- if a line has begun where the text ends, the fault is that none ends it
 pub list_if-unended : (so_far : ListSoFar) → so_far.size ≤ 16777216 → so_far.fault ≡ None
     → HasNoLineFeed so_far.begun → eqb (length so_far.begun) 0 ≡ false
     → list_if so_far [] ≡ Err (fault_at (so_far.ended + 1) 0 Unended)
 list_if-unended so_far within none without some = list_if-nothing_more so_far within none
     ∙ read_rest_of_lines-unended so_far.records so_far.ended so_far.begun without some
 
+-- if no line has begun where the text ends, the records that were read are the list
 pub list_if-ended : (so_far : ListSoFar) → so_far.size ≤ 16777216 → so_far.fault ≡ None
     → so_far.begun ≡ [] → list_if so_far [] ≡ Ok so_far.records
 list_if-ended so_far within none nothing = list_if-nothing_more so_far within none

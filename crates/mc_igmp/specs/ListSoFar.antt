@@ -19,22 +19,23 @@ pub record IsDecodedAhead (line message : List ℕ) (decoded : ℕ) : Type 0 whe
 
 -- these records, and after them those of the lines that these bytes are, which come after `ended`
 -- lines; or the first fault
-abbrev pub read_rest_of_lines : List Record → ℕ → List ℕ → Result (List Record) ListFault
+abbrev pub read_rest_of_lines : (records : List Record) → (ended : ℕ) → (bytes : List ℕ)
+    → Result (List Record) ListFault
 read_rest_of_lines records ended bytes =
     read_lines (lines_from (ended + 1) bytes) >>= λ others. Ok (records ++ others)
 
 -- the records that the lines so far are read as if the bytes `more` come
-abbrev pub lines_if : LineReader → List ℕ → Result (List Record) ListFault
+abbrev pub lines_if : LineReader → (more : List ℕ) → Result (List Record) ListFault
 lines_if lines more = read_rest_of_lines lines.list lines.ended (lines.begun.items ++ more)
 
 -- the line of these bytes, which a line feed ends and which comes after `ended` lines
-abbrev pub line_after : ℕ → List ℕ → LineText
+abbrev pub line_after : (ended : ℕ) → (bytes : List ℕ) → LineText
 line_after ended bytes = record { number = ended + 1; bytes = bytes; ended = true }
 
 -- As long as the text is within the limit and has no fault, more lines can be read: the line that
 -- has begun has no line feed, and its bytes and the line feeds before it are among the bytes that
 -- have come.
-abbrev pub CanReadOn : ℕ → ℕ → List ℕ → Option ListFault → Type 0
+abbrev pub CanReadOn : (size ended : ℕ) → (begun : List ℕ) → Option ListFault → Type 0
 CanReadOn size ended begun fault = size ≤ max_text → fault ≡ None →
     HasNoLineFeed begun × (ended + length begun ≤ size)
 
@@ -70,7 +71,7 @@ unless_fault (Some fault) read = Err fault
 
 -- What reading ends with if the bytes `more` come: the records, or the first fault. A text past the
 -- limit is refused whatever its lines are, as one that comes whole is.
-abbrev pub list_if : ListSoFar → List ℕ → Result (List Record) ListFault
+abbrev pub list_if : ListSoFar → (more : List ℕ) → Result (List Record) ListFault
 list_if so_far more =
     if nat_lt max_text (so_far.size + length more) then Err (fault_at 0 0 TooLarge)
     else unless_fault so_far.fault

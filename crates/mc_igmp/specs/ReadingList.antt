@@ -1,7 +1,7 @@
 -- What the text of a report list is read as, line by line: its records, or the first fault. Faults
 -- have the order of docs/FORMATS.md.
-use Rattle.std.specs.Prelude.{ℕ, ◌+◌, ◌||◌, not, nat_lt, List, [], ◌∷◌, ◌++◌, length, Option, Some}
-use Rattle.std.specs.Prelude.{None, Result, Ok, Err, if◌then◌else◌}
+use Rattle.std.specs.Prelude.{◌≡◌, ℕ, ◌+◌, ◌||◌, not, nat_lt, List, [], ◌∷◌, ◌++◌, length, Option}
+use Rattle.std.specs.Prelude.{Some, None, Result, Ok, Err, if◌then◌else◌}
 use Rattle.hex.specs.declared.error.FromHexError.{FromHexError}
 use Rattle.hex.specs.Hex.{decode_of}
 use Rattle.mc_text.specs.Lines.{LineText, lines_of, max_text}
@@ -15,20 +15,18 @@ use Rattle.mc_igmp.specs.declared.fault.ListFault.{ListFault}
 use Rattle.mc_igmp.specs.declared.fault.ListFaultKind.{ListFaultKind}
 use Rattle.mc_igmp.specs.declared.fault.ListFaultKind.TheVariants.{BadHex, Short, BadChecksum}
 use Rattle.mc_igmp.specs.declared.fault.ListFaultKind.TheVariants.{Truncated, StateChange, TooLarge}
-use Rattle.mc_igmp.specs.declared.fault.ListFaultKind.TheVariants.{Unended}
+use Rattle.mc_igmp.specs.declared.fault.ListFaultKind.TheVariants.{Unended, Memory}
 use Rattle.mc_igmp.specs.Kind.{is_change}
 use Rattle.mc_igmp.specs.ReadingMessage.{read_message}
-use Rattle.std.specs.Prelude.{◌≡◌}
-use Rattle.mc_igmp.specs.declared.fault.ListFaultKind.TheVariants.{Memory}
 
 -- a fault of this kind, at a line and a record; the record is 0 where none is meant
-abbrev pub fault_at : ℕ → ℕ → ListFaultKind → ListFault
+abbrev pub fault_at : (line record_no : ℕ) → ListFaultKind → ListFault
 fault_at line record_no kind = record { line = line; record_no = record_no; kind = kind }
 
 -- the bytes that were decoded from a line, which have to be there (else BadHex)
 abbrev pub decoded_or_bad_hex : ℕ → Result (List ℕ) FromHexError → Result (List ℕ) ListFault
 decoded_or_bad_hex line (Ok bytes) = Ok bytes
-decoded_or_bad_hex line (Err e) = Err (fault_at line 0 BadHex)
+decoded_or_bad_hex line (Err fault) = Err (fault_at line 0 BadHex)
 
 -- The bytes that the digits of a line write. A line feed has to end the line (else Unended), it has
 -- to be one of the first 65,536 and to have at most 131,030 bytes (TooLarge), and these are digits
@@ -42,14 +40,14 @@ bytes_of_line line =
 
 -- the number of the first record that reports a change, where the first record has the number
 -- `number`
-unfoldable pub first_change : ℕ → List Record → Option ℕ
+unfoldable pub first_change : (number : ℕ) → List Record → Option ℕ
 first_change number [] = None
-first_change number (r ∷ rs) =
-    if is_change r.kind then Some number else first_change (number + 1) rs
+first_change number (first ∷ others) =
+    if is_change first.kind then Some number else first_change (number + 1) others
 
 -- the records, of which none may report a change (else StateChange, with the number of the first
 -- that does)
-abbrev pub without_change : ℕ → List Record → Option ℕ → Result (List Record) ListFault
+abbrev pub without_change : (line : ℕ) → List Record → Option ℕ → Result (List Record) ListFault
 without_change line records None = Ok records
 without_change line records (Some number) = Err (fault_at line number StateChange)
 

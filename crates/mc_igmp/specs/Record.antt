@@ -10,17 +10,17 @@ use Rattle.mc_igmp.specs.Addresses.{addresses_in}
 
 -- The bytes are this record, whole: its type, the length of its auxiliary data in words of 32 bits,
 -- the number of its sources, its group, its sources, and its auxiliary data, which are ignored.
-pub record IsRecord (bytes : List ℕ) (r : Record) : Type 0 where
+pub record IsRecord (bytes : List ℕ) (group_record : Record) : Type 0 where
   pub type : ℕ
   pub auxiliary_words : ℕ
   pub auxiliary : List ℕ
-  pub kind : r.kind ≡ kind_of type
-  pub group_fits : IsAddr r.group
-  pub sources_fit : AllByRecursion IsAddr r.sources
-  pub count_fits : length r.sources < 2 ^ 16
+  pub kind : group_record.kind ≡ kind_of type
+  pub group_fits : IsAddr group_record.group
+  pub sources_fit : AllByRecursion IsAddr group_record.sources
+  pub count_fits : length group_record.sources < 2 ^ 16
   pub auxiliary_length : length auxiliary ≡ 4 * auxiliary_words
-  pub spelled : bytes ≡ (type ∷ auxiliary_words ∷ to_be_bytes w16 (length r.sources))
-      ++ octets_of r.group ++ flat_map octets_of r.sources ++ auxiliary
+  pub spelled : bytes ≡ (type ∷ auxiliary_words ∷ to_be_bytes w16 (length group_record.sources))
+      ++ octets_of group_record.group ++ flat_map octets_of group_record.sources ++ auxiliary
 
 -- the group in bytes 4 to 7, of a record, and of a report of version 1 or 2
 abbrev pub group_at : List ℕ → ℕ

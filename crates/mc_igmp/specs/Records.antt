@@ -9,17 +9,18 @@ use Rattle.mc_igmp.specs.Record.{IsRecord, read_record}
 -- the bytes are these records, whole, and nothing else
 abbrev pub AreRecords : List ℕ → List Record → Type 0
 AreRecords bytes [] = bytes ≡ []
-AreRecords bytes (r ∷ rs) =
-    (own : List ℕ) × (rest : List ℕ) × (bytes ≡ own ++ rest) × IsRecord own r × AreRecords rest rs
+AreRecords bytes (first ∷ others) =
+    (own : List ℕ) × (rest : List ℕ) × (bytes ≡ own ++ rest)
+    × IsRecord own first × AreRecords rest others
 
 -- the record that was read, and before those that `others` gives of the bytes after it; none if
 -- none was read
 abbrev pub with_other_records : Option (Record × List ℕ) → (List ℕ → List Record) → List Record
 with_other_records None others = []
-with_other_records (Some x) others = x.0 ∷ others x.1
+with_other_records (Some found) others = found.0 ∷ others found.1
 
 -- the first `count` records of the bytes, or those before the first that doesn't end within them
-unfoldable pub records_in : ℕ → List ℕ → List Record
+unfoldable pub records_in : (count : ℕ) → (bytes : List ℕ) → List Record
 records_in zero bytes = []
 records_in (suc count) bytes = with_other_records (read_record bytes) (records_in count)
 
@@ -28,11 +29,11 @@ records_in (suc count) bytes = with_other_records (read_record bytes) (records_i
 abbrev pub after_other_records : ℕ → Option (Record × List ℕ) → (List ℕ → Result (List ℕ) ℕ)
     → Result (List ℕ) ℕ
 after_other_records number None others = Err number
-after_other_records number (Some x) others = others x.1
+after_other_records number (Some found) others = others found.1
 
 -- the bytes after the first `count` records, or the number of the first record that doesn't end
 -- within the bytes, where the first record has the number `number`
-unfoldable pub after_records : ℕ → ℕ → List ℕ → Result (List ℕ) ℕ
+unfoldable pub after_records : (number count : ℕ) → (bytes : List ℕ) → Result (List ℕ) ℕ
 after_records number zero bytes = Ok bytes
 after_records number (suc count) bytes =
     after_other_records number (read_record bytes) (after_records (number + 1) count)
@@ -43,4 +44,4 @@ AreWholeRecords count bytes = after_records 1 count bytes ≡ Ok []
 
 -- no record reports a change
 abbrev pub HaveNoChanges : List Record → Type 0
-HaveNoChanges records = AllByRecursion (λ r. is_change r.kind ≡ false) records
+HaveNoChanges records = AllByRecursion (λ group_record. is_change group_record.kind ≡ false) records

@@ -16,8 +16,9 @@ AdmitsBy (Unknown type) sources source = ⊥
 
 -- the record admits the source
 abbrev pub Admits : Record → ℕ → Type 0
-Admits r source = AdmitsBy r.kind r.sources source
+Admits group_record source = AdmitsBy group_record.kind group_record.sources source
 
 -- a LAN wants what a source sends to a group if some record for the group admits the source
 abbrev pub Wants : List Record → ℕ → ℕ → Type 0
-Wants records group source = Any (λ r. (r.group ≡ group) × Admits r source) records
+Wants records group source =
+    Any (λ group_record. (group_record.group ≡ group) × Admits group_record source) records

@@ -1,7 +1,7 @@
 //! The checksum of an IGMP message (RFC 1071).
 
-ghost use Rattle.std.specs.Prelude.{◌≡◌, ◌<◌, ◌≤◌, ◌+◌, ◌%◌, ◌^◌, ◌&&◌, ◌==◌, ◌↔◌, nat_lt, length};
-ghost use Rattle.mc_igmp.specs.Checksum.{word_sum};
+ghost use Rattle.std.specs.Prelude.{◌≡◌, ◌<◌, ◌≤◌, ◌+◌, ◌%◌, ◌^◌, ◌↔◌, length};
+ghost use Rattle.mc_igmp.specs.Checksum.{is_checksum_right, word_sum};
 
 /// Ones in all sixteen bits.
 const ALL_ONES: u64 = 0xffff;
@@ -81,7 +81,7 @@ fn ones_complement_sum(message: &[u8]) -> u64
 
 /// Whether the words of a message, with the checksum among them, add up to all ones.
 pub(crate) fn is_checksum_right(message: &[u8]) -> bool
-    ensures { result ≡ (nat_lt 0 (word_sum message.now) && (word_sum message.now % 65535 == 0)) }
+    ensures { result ≡ is_checksum_right message.now }
 {
     ones_complement_sum(message) == ALL_ONES
 }

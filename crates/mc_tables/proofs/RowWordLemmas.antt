@@ -15,7 +15,7 @@ use Rattle.mc_tables.specs.TableWords.{number_in}
 use Rattle.mc_tables.specs.CacheReading.{oif_in_parts, oif_in, row_in_words}
 use Rattle.mc_tables.specs.OutgoingSteps.{threshold_in, oif_at_colon}
 use Rattle.mc_tables.proofs.WordLemmas.{number_in-denotes}
-use Rattle.mc_text.proofs.Lists.{slice_split-found, slice_split-not_found}
+use Rattle.mc_text.proofs.Searches.{slice_split-found, slice_split-not_found}
 use Rattle.mc_text.proofs.StepLemmas.{None-from_is_some_false}
 use Rattle.mc_tables.proofs.ColonLemmas.{is_some-some_from}
 use Rattle.mc_tables.proofs.OifLemmas.{all_digits-no_colon}

@@ -1,11 +1,11 @@
 -- Reading an address: the functions agree with the relations.
-use Rattle.std.proofs.Common.{◌≡◌, ℕ, ◌^◌, ◌<◌, ◌==◌, true, ltb, List, [], ◌∷◌, ◌++◌, length}
+use Rattle.std.proofs.Common.{◌≡◌, ℕ, ◌^◌, ◌<◌, ◌==◌, Bool, true, ltb, List, [], ◌∷◌, ◌++◌, length}
 use Rattle.std.proofs.Common.{get_or, append_assoc, arith, Some, Result, Ok, Err, refl, sym, ap}
 use Rattle.std.proofs.Common.{◌∙◌}
 use Rattle.std.specs.Prelude.{reverse}
 use Rattle.std.specs.Fmt.{decimal}
 use Rattle.std.specs.Int.{w32, from_be_bytes}
-use Rattle.std.specs.List.{list_all, slice_split}
+use Rattle.std.specs.List.{list_all}
 use Rattle.std.specs.Net.Text.{ipv4_text, dotted_text}
 use Rattle.std.proofs.lemmas.Bool.Decides.{nat_tests}
 use Rattle.std.proofs.lemmas.Fmt.{decimal_is_IsNumeral}
@@ -23,30 +23,22 @@ use Rattle.mc_text.specs.AddressWord.{printed_octets, IsAddressWord}
 use Rattle.mc_text.proofs.AddrLemmas.{octets_of-below_256, octets_of-from_be_bytes}
 use Rattle.mc_text.proofs.AddrLemmas.{from_be_bytes-below_2_32, decode_of-below_256}
 use Rattle.mc_text.proofs.AddrLemmas.{length-printed_octets}
-use Rattle.mc_text.proofs.BundleWords.{HasNoByte, HasNoByte-decimal}
+use Rattle.mc_text.proofs.BundleWords.{HasNoByte-decimal}
+use Rattle.mc_text.proofs.Searches.{slice_split-append_passing, slice_split-none_passes}
 
 -- ---- dotted text
 
-abbrev split_at_dots : List ℕ → List (List ℕ)
-split_at_dots text = slice_split (λ b. b == 46) text
-
--- the bytes before the first dot are the first part
-split_at_dots-append_dot : (xs ys : List ℕ) → HasNoByte 46 xs
-    → split_at_dots (xs ++ 46 ∷ ys) ≡ xs ∷ split_at_dots ys
-split_at_dots-append_dot [] ys none = refl
-split_at_dots-append_dot (x ∷ xs) ys none = rw (none.0, split_at_dots-append_dot xs ys none.1) refl
-
--- a text without a dot is the one part between dots
-split_at_dots-without_dot : (xs : List ℕ) → HasNoByte 46 xs → split_at_dots xs ≡ xs ∷ []
-split_at_dots-without_dot [] none = refl
-split_at_dots-without_dot (x ∷ xs) none = rw (none.0, split_at_dots-without_dot xs none.1) refl
+-- whether a byte is a dot
+abbrev is_dot : ℕ → Bool
+is_dot b = b == 46
 
 -- the number before a dot is the first, and those after the dot follow
 numbers_between_dots-decimal : (n : ℕ) (rest : List ℕ) → n < 256
     → numbers_between_dots (decimal n ++ 46 ∷ rest) ≡ n ∷ numbers_between_dots rest
 numbers_between_dots-decimal n rest small =
     let wide : n < 2 ^ 64 = omega (arith, small) in
-    let number = split_at_dots-append_dot (decimal n) rest (HasNoByte-decimal 46 refl n wide) in
+    let number = slice_split-append_passing is_dot (decimal n) 46 rest (HasNoByte-decimal 46 refl n wide)
+    refl in
     rw (number, (decimal_is_IsNumeral n wide).1) refl
 
 -- the numbers of a dotted text are those that it writes
@@ -54,7 +46,7 @@ numbers_between_dots-dotted_text : (a b c d : ℕ) → a < 256 → b < 256 → c
     → numbers_between_dots (dotted_text a b c d) ≡ a ∷ b ∷ c ∷ d ∷ []
 numbers_between_dots-dotted_text a b c d a-fits b-fits c-fits d-fits =
     let wide : d < 2 ^ 64 = omega (arith, d-fits) in
-    let last = split_at_dots-without_dot (decimal d) (HasNoByte-decimal 46 refl d wide) in
+    let last = slice_split-none_passes is_dot (decimal d) (HasNoByte-decimal 46 refl d wide) in
     simp append_assoc (rw (
       numbers_between_dots-decimal a _ a-fits,
       numbers_between_dots-decimal b _ b-fits,

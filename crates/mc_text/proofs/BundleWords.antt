@@ -5,12 +5,12 @@ use Rattle.std.proofs.Common.{subst, ◌-◌, Ok, min}
 use Rattle.std.specs.Prelude.{position, codes}
 use Rattle.std.specs.Char.{is_ascii_digit}
 use Rattle.std.specs.Fmt.{decimal}
-use Rattle.std.specs.List.{list_all, position_or_len}
+use Rattle.std.specs.List.{list_all}
 use Rattle.std.specs.Str.Parse.{digits_value}
 use Rattle.std.proofs.lemmas.Bool.Decides.{nat_tests}
 use Rattle.std.proofs.lemmas.Fmt.{decimal_digit, digits_decimal, decimal-digits_value}
 use Rattle.std.proofs.lemmas.Fmt.{decimal_is_IsNumeral, first_decimal}
-use Rattle.std.proofs.lemmas.List.{length-append, take-append-drop, drop_more, take_at, length-take}
+use Rattle.std.proofs.lemmas.List.{take-append-drop, drop_more, take_at, length-take}
 use Rattle.std.proofs.lemmas.List.{get_or-take, take_min}
 use Rattle.std.proofs.lemmas.List.Sums.{AllPass-from_list_all, list_all-from_AllPass}
 use Rattle.mc_text.specs.Bundle.{is_name_byte, IsPartName, part_line, max_line}
@@ -19,6 +19,8 @@ use Rattle.mc_text.specs.BundleReading.{parse_part_line}
 use Rattle.mc_text.specs.BundleReading.{cut_line, line_at}
 use Rattle.mc_text.specs.Number.{is_plain_decimal}
 use Rattle.mc_text.proofs.NumberReading.{decimal_numerals}
+use Rattle.mc_text.proofs.Lists.{AllByRecursion-append}
+use Rattle.mc_text.proofs.Searches.{position-append_passing}
 pub use Rattle.mc_text.specs.Lines.{HasNoByte}
 use Rattle.std.proofs.Math.Seq.{take-append-add, drop-append-add}
 use Rattle.std.proofs.lemmas.List.Quantifiers.{position-Some}
@@ -27,8 +29,7 @@ use Rattle.mc_text.proofs.StepLemmas.{ok_injective}
 
 -- two texts without a byte, joined, are without it
 pub HasNoByte-append : (c : ℕ) (xs ys : List ℕ) → HasNoByte c xs → HasNoByte c ys → HasNoByte c (xs ++ ys)
-HasNoByte-append c [] ys p q = q
-HasNoByte-append c (x ∷ xs) ys p q = (p.0, HasNoByte-append c xs ys p.1 q)
+HasNoByte-append c xs ys front back = AllByRecursion-append (λ b. eqb b c ≡ false) xs ys front back
 
 -- a text whose bytes all pass a test doesn't have a byte that fails it
 pub HasNoByte-from_list_all : (p : ℕ → Bool) (c : ℕ) → p c ≡ false → (xs : List ℕ)
@@ -37,16 +38,10 @@ HasNoByte-from_list_all p c fails [] h = tt
 HasNoByte-from_list_all p c fails (x ∷ xs) h =
     (grind (arith, nat_tests), HasNoByte-from_list_all p c fails xs (grind arith))
 
--- the first place of a byte, after a text without it, is that text's length
-position_or_len-append_byte : (c : ℕ) (xs ys : List ℕ) → HasNoByte c xs
-    → position_or_len (λ b. eqb b c) (xs ++ c ∷ ys) ≡ length xs
-position_or_len-append_byte c [] ys h = grind (arith, nat_tests)
-position_or_len-append_byte c (x ∷ xs) ys h = rw h.0 (omega (arith, position_or_len-append_byte c xs ys h.1))
-
--- the same, as an optional place
+-- behind a text without a byte the byte is found
 pub position-append_byte : (c : ℕ) (xs ys : List ℕ) → HasNoByte c xs
     → position (λ b. eqb b c) (xs ++ c ∷ ys) ≡ Some (length xs)
-position-append_byte c xs ys h = grind (arith, nat_tests, position_or_len-append_byte, length-append)
+position-append_byte c xs ys none = position-append_passing (λ b. eqb b c) xs c ys none (grind (arith, nat_tests))
 
 -- a text is the bytes before a byte, that byte, and the bytes after it
 pub split_at_byte : (c : ℕ) (text : List ℕ) (n : ℕ) → n < length text → eqb (get_or text n 0) c ≡ true

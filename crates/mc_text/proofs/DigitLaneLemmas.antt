@@ -24,6 +24,7 @@ digit_or_error-Ok : (c i : ℕ) (o : Option ℕ) → unwrap_or o 16 < 16
 digit_or_error-Ok c i (Some v) h = refl
 digit_or_error-Ok c i None h = absurd (omega arith)
 
+-- two digits are read as the byte that they write
 pub pair_value-Ok : (a b i byte : ℕ) → hex_value_or_16 a < 16 → hex_value_or_16 b < 16
     → byte ≡ hex_value_or_16 a * 16 + hex_value_or_16 b → pair_value a b i ≡ Ok byte
 pair_value-Ok a b i byte high low is =
@@ -48,15 +49,19 @@ zip2-splat_lane h f y v long is =
     ap (λ a. zip2 h a (replicate 32 y)) is
     ∙ zip2_splat h (map f v) 32 y (length-map v f ∙ long) ∙ map-map (λ x. h x y) f v
 
+-- whether a lane is less than another, as all bits or none
 abbrev pub lane_below : ℕ → ℕ → ℕ
 lane_below a b = cond (ltb a b) 255 0
 
+-- the difference of two lanes, modulo 256
 abbrev pub lane_minus : ℕ → ℕ → ℕ
 lane_minus a b = (a + (256 - b)) % 256
 
+-- the sum of two lanes, modulo 256
 abbrev pub lane_plus : ℕ → ℕ → ℕ
 lane_plus a b = (a + b) % 256
 
+-- a lane shifted by some bits, without those that leave it
 abbrev pub lane_shift_left : ℕ → ℕ → ℕ
 lane_shift_left a b = a * 2 ^ b % 256
 
@@ -79,10 +84,12 @@ abbrev all_ones : ℕ → ℕ
 all_ones zero = 0
 all_ones (suc n) = 1 + 2 * all_ones n
 
+-- a mask with one test more has all bits set if that test passes and the others do
 mask-cons : (b : Bool) (m n : ℕ) → eqb (cond b 1 0 + 2 * m) (1 + 2 * n) ≡ (b && eqb m n)
 mask-cons true m n = grind (arith, nat_tests)
 mask-cons false m n = grind (arith, nat_tests)
 
+-- a mask of tests has all bits set exactly if all elements pass
 mask-all_set : (passes : ℕ → Bool) (v : List ℕ)
     → eqb (mask_l (map passes v)) (all_ones (length v)) ≡ list_all passes v
 mask-all_set passes [] = refl
@@ -90,6 +97,7 @@ mask-all_set passes (b ∷ v) =
     mask-cons (passes b) (mask_l (map passes v)) (all_ones (length v))
     ∙ ap (λ others. passes b && others) (mask-all_set passes v)
 
+-- the mask of 32 lanes has all bits set exactly if all of them are digits
 pub mask-all_digits : (v lanes : List ℕ) → (length v ≡ 32) × Each1 (Fits w8) v → lanes ≡ map digit_lane v
     → eqb (mask_l (map (top 7) lanes) % 2 ^ 64) 4294967295 ≡ list_all is_hex_digit v
 mask-all_digits v lanes fits is =
@@ -112,15 +120,19 @@ select-smaller_lane f g v first second =
     each [] = refl
     each (x ∷ v) = ap (λ l. cond (top 7 (lane_below (f x) (g x))) (f x) (g x) ∷ l) (each v)
 
+-- what a lane is worth as a digit from 0 to 9
 abbrev decimal_lane : ℕ → ℕ
 decimal_lane b = lane_minus b 48
 
+-- what a lane is worth as a digit from a to f, or from A to F
 abbrev letter_lane : ℕ → ℕ
 letter_lane b = lane_minus (bit_or b 32) 87
 
+-- the smaller of both, which is the value of the lane if it is a digit
 abbrev pub value_lane : ℕ → ℕ
 value_lane b = cond (top 7 (lane_below (decimal_lane b) (letter_lane b))) (decimal_lane b) (letter_lane b)
 
+-- of a digit it is the value
 value_lane-digit : (b : ℕ) → b < 256 → is_hex_digit b ≡ true → value_lane b ≡ hex_value_or_16 b
 value_lane-digit b fits digit =
     let test = agree_below_at (λ x. not (is_hex_digit x) || eqb (value_lane x) (hex_value_or_16 x))
@@ -128,6 +140,7 @@ value_lane-digit b fits digit =
     256 b refl fits in
     eqb-true (value_lane b) (hex_value_or_16 b) (rw digit at test)
 
+-- of digits these are the values
 pub map-value_lane : (v : List ℕ) → Each1 (Fits w8) v → list_all is_hex_digit v ≡ true
     → map value_lane v ≡ map hex_value_or_16 v
 map-value_lane [] fits digits = refl
@@ -137,9 +150,11 @@ map-value_lane (b ∷ v) fits digits =
 
 -- ---- pairs of lanes
 
+-- the byte of two digits whose values these are
 abbrev pub pair_lane : ℕ → ℕ → ℕ
 pair_lane high low = lane_plus (lane_shift_left high 4) low
 
+-- the bytes of pairs of digits whose values these are
 abbrev pair_lanes : List ℕ → List ℕ
 pair_lanes (high ∷ low ∷ rest) = pair_lane high low ∷ pair_lanes rest
 pair_lanes _ = []
@@ -148,9 +163,11 @@ pair_lanes _ = []
 abbrev pub even_lanes : List ℕ
 even_lanes = 0 ∷ 2 ∷ 4 ∷ 6 ∷ 8 ∷ 10 ∷ 12 ∷ 14 ∷ 16 ∷ 18 ∷ 20 ∷ 22 ∷ 24 ∷ 26 ∷ 28 ∷ 30 ∷ []
 
+-- the numbers of the second lanes of pairs
 abbrev pub odd_lanes : List ℕ
 odd_lanes = 1 ∷ 3 ∷ 5 ∷ 7 ∷ 9 ∷ 11 ∷ 13 ∷ 15 ∷ 17 ∷ 19 ∷ 21 ∷ 23 ∷ 25 ∷ 27 ∷ 29 ∷ 31 ∷ []
 
+-- the lanes with even numbers, joined with those with odd numbers, make the pairs
 zip2-even_odd_lanes : (v : List ℕ) → length v ≡ 32
     → zip2 pair_lane (pick_l 0 (v ++ v) even_lanes) (pick_l 0 (v ++ v) odd_lanes) ≡ pair_lanes v
 zip2-even_odd_lanes (a0 ∷ a1 ∷ a2 ∷ a3 ∷ a4 ∷ a5 ∷ a6 ∷ a7 ∷ a8 ∷ a9 ∷ a10 ∷ a11 ∷ a12 ∷ a13 ∷ a14 ∷ a15
@@ -166,6 +183,7 @@ hex_value-below_16 c digit =
       | inr large ↦ cc (is_hex_digit-false c large, digit)
     ]
 
+-- the values of digits make the bytes that the digits write
 pair_lanes-hex_values : (v : List ℕ) → list_all is_hex_digit v ≡ true
     → pair_lanes (map hex_value_or_16 v) ≡ bytes_of_pairs v
 pair_lanes-hex_values [] digits = refl
@@ -177,6 +195,7 @@ pair_lanes-hex_values (a ∷ b ∷ v) digits =
     omega (arith, hex_value-below_16 a p.0, hex_value-below_16 b q.0) in
     ap₂ (λ x xs. x ∷ xs) first (pair_lanes-hex_values v q.1)
 
+-- 32 lanes of digits, joined by their values, make the bytes that they write
 pub zip2-pair_lane : (v values : List ℕ) → length v ≡ 32 → list_all is_hex_digit v ≡ true
     → values ≡ map hex_value_or_16 v
     → zip2 pair_lane (pick_l 0 (values ++ values) even_lanes) (pick_l 0 (values ++ values) odd_lanes)
@@ -228,6 +247,7 @@ bytes_of_pairs-append zero (a ∷ b ∷ s) t even = absurd (omega arith)
 bytes_of_pairs-append (suc n) (a ∷ b ∷ s) t even =
     ap (λ l. byte_of_pair a b ∷ l) (bytes_of_pairs-append n s t (omega arith))
 
+-- n pairs write n bytes
 pub length-bytes_of_pairs : (n : ℕ) (s : List ℕ) → length s ≡ 2 * n → length (bytes_of_pairs s) ≡ n
 length-bytes_of_pairs zero [] even = refl
 length-bytes_of_pairs (suc n) [] even = absurd (omega arith)
@@ -243,6 +263,7 @@ list_all-take passes (suc n) [] all = refl
 list_all-take passes (suc n) (b ∷ s) all =
     let p = and_parts (passes b) _ all in rw p.0 (list_all-take passes n s p.1)
 
+-- if all items of two lists pass a test, all of both together do
 pub list_all-of_append : (passes : ℕ → Bool) (s t : List ℕ) → list_all passes s ≡ true
     → list_all passes t ≡ true
     → list_all passes (s ++ t) ≡ true
@@ -250,6 +271,7 @@ list_all-of_append passes [] t first second = second
 list_all-of_append passes (b ∷ s) t first second =
     let p = and_parts (passes b) _ first in rw p.0 (list_all-of_append passes s t p.1 second)
 
+-- if all items pass a test, all but the first n do
 pub list_all-drop : (passes : ℕ → Bool) (n : ℕ) (s : List ℕ) → list_all passes s ≡ true
     → list_all passes (drop n s) ≡ true
 list_all-drop passes zero s all = all

@@ -26,24 +26,29 @@ cond-framing_fault : {A : Type 0} (b : Bool) (x y : Result A BundleFault) → If
 cond-framing_fault true x y first second = first
 cond-framing_fault false x y first second = second
 
+-- a line that is not found is a framing fault
 cut_line-framing_fault : (rest : List ℕ) (place : Option ℕ) → IfErr (cut_line rest place) IsFramingFault
 cut_line-framing_fault rest (Some n) = tt
 cut_line-framing_fault rest None = search cond-framing_fault
 
+-- the fault of a line at the front is a framing fault
 line_at-framing_fault : (rest : List ℕ) → IfErr (line_at rest) IsFramingFault
 unfolding line_at
 line_at-framing_fault rest = cut_line-framing_fault rest (position (λ b. b == 10) (take max_line rest))
 
+-- the fault of a part's bytes is a framing fault
 part_bytes_at-framing_fault : (size : ℕ) (rest : List ℕ) → IfErr (part_bytes_at size rest) IsFramingFault
 unfolding part_bytes_at
 part_bytes_at-framing_fault size rest = search cond-framing_fault
 
+-- the fault of a part behind its line is a framing fault
 part_for_line-framing_fault : (place : BundlePlace) (line after : List ℕ) (header : Option (List ℕ × ℕ))
     → IfErr (part_for_line place line after header) IsFramingFault
 part_for_line-framing_fault place line after None = tt
 part_for_line-framing_fault place line after (Some header) =
     search (cond-framing_fault, bind-framing_fault, part_bytes_at-framing_fault)
 
+-- the fault of the part at a place is a framing fault
 next_part_from-framing_fault : (place : BundlePlace) → IfErr (next_part_from place) IsFramingFault
 unfolding next_part_from
 next_part_from-framing_fault place =

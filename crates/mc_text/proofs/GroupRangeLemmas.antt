@@ -39,6 +39,7 @@ plain-from_decimal word n small is = ap is_plain_decimal is ∙ is_plain_decimal
 
 -- ---- the text of a range
 
+-- a byte that is no digit and no dot is in no address with dots
 HasNoByte-dotted_text : (x : ℕ) → is_ascii_digit x ≡ false → (46 == x) ≡ false → (a b c d : ℕ)
     → a < 256 → b < 256 → c < 256 → d < 256 → HasNoByte x (dotted_text a b c d)
 HasNoByte-dotted_text x no_digit no_dot a b c d a-fits b-fits c-fits d-fits =
@@ -63,7 +64,7 @@ position-slash text range is =
     ap (position (λ b. b == 47)) is
     ∙ position-append_byte 47 (dotted range.0) (decimal range.1) (HasNoByte-slash_dotted range.0)
 
--- what stands before it, and behind it
+-- what stands before the slash
 pub take-slash : (text : List ℕ) (range : ℕ × ℕ) (n : ℕ) → text ≡ range_text range
     → position (λ b. b == 47) text ≡ Some n → take n text ≡ dotted range.0
 take-slash text range n is at =
@@ -71,6 +72,7 @@ take-slash text range n is at =
     ap (λ (m : ℕ). take m text) (same_Some n (length address) (sym at ∙ position-slash text range is))
     ∙ ap (take (length address)) is ∙ take_at address (47 ∷ decimal range.1) (length address) refl
 
+-- what stands behind the slash
 pub drop-slash : (text : List ℕ) (range : ℕ × ℕ) (n : ℕ) → text ≡ range_text range
     → position (λ b. b == 47) text ≡ Some n → drop (n + 1) text ≡ decimal range.1
 drop-slash text range n is at =
@@ -87,6 +89,7 @@ range_text-from_parts text n range at front back =
 
 -- ---- what is read, if anything is
 
+-- if a number is read of a plain word, the word is how it is written
 pub if_plain_decimal : (o : Option ℕ) (word : List ℕ) (max : ℕ) → max < 2 ^ 64
     → is_plain_decimal word ≡ true → IfSome o (λ n. IsDecimal word n) → IfSome o (λ n. n ≤ max)
     → IfSome o (λ n. word ≡ decimal n)
@@ -94,6 +97,7 @@ if_plain_decimal None word max small plain writes bound = tt
 if_plain_decimal (Some n) word max small plain writes bound =
     decimal-from_plain word n plain writes (omega (arith, small, bound))
 
+-- if the range is read of its text, the text is how it is written
 pub if_range_text : (o : Option (ℕ × ℕ)) (text : List ℕ) (range : ℕ × ℕ) → text ≡ range_text range
     → IfSome o (λ r. r ≡ range) → IfSome o (λ r. text ≡ range_text r)
 if_range_text None text range is same = tt

@@ -13,18 +13,18 @@ use Rattle.std.proofs.lemmas.List.Elements.{All-contains, All-push}
 use Rattle.std.proofs.lemmas.List.Kept.{Contains-dedup_nat, Contains-from_dedup}
 use Rattle.std.proofs.lemmas.List.Sorted.{Contains-permutation, IsPermutation-sym, searched}
 use Rattle.std.proofs.lemmas.Map.Keys.{non_decreasing_from_sorted, sorted_from_strictly_increasing}
-use Rattle.mc_text.specs.Index.{slot_in}
+use Rattle.mc_text.specs.Index.{index_slot}
 
 -- among `slots` slots those of the numbers are marked
 abbrev pub AreMarkedInSlots : (slots : ℕ) (marks numbers : List ℕ) → Type 0
-AreMarkedInSlots slots marks numbers = All (λ number. get_or marks (slot_in slots number) 0 ≢ 0) numbers
+AreMarkedInSlots slots marks numbers = All (λ number. get_or marks (index_slot slots number) 0 ≢ 0) numbers
 
 -- a number whose slot isn't marked is not among the numbers
 pub contains-unmarked_slot : (slots : ℕ) (marks numbers : List ℕ) (number : ℕ)
     → AreMarkedInSlots slots marks numbers
-    → get_or marks (slot_in slots number) 0 ≡ 0 → ¬ Contains numbers number
+    → get_or marks (index_slot slots number) 0 ≡ 0 → ¬ Contains numbers number
 contains-unmarked_slot slots marks numbers number marked empty = λ among.
-    All-contains (λ n. get_or marks (slot_in slots n) 0 ≢ 0) numbers number marked among empty
+    All-contains (λ n. get_or marks (index_slot slots n) 0 ≢ 0) numbers number marked among empty
 
 -- a marked slot stays marked when another one is marked
 slice_set-stays_marked : (marks : List ℕ) (slot mark at : ℕ) → slot < length marks → mark ≢ 0
@@ -39,13 +39,13 @@ slice_set-stays_marked marks slot mark at within some marked =
 -- with the slot of one more number marked, the slots of one more are marked
 pub marked_in_slots_more : (slots : ℕ) (marks numbers : List ℕ) (i mark slot d : ℕ)
     → AreMarkedInSlots slots marks (take i numbers) → i < length numbers
-    → slot ≡ slot_in slots (get_or numbers i d) → slot < length marks → mark ≢ 0
+    → slot ≡ index_slot slots (get_or numbers i d) → slot < length marks → mark ≢ 0
     → AreMarkedInSlots slots (slice_set marks slot mark) (take (i + 1) numbers)
 marked_in_slots_more slots marks numbers i mark slot d marked below is within some =
     subst (AreMarkedInSlots slots (slice_set marks slot mark)) (sym (take_more numbers i d below))
-    (All-push (λ n. get_or (slice_set marks slot mark) (slot_in slots n) 0 ≢ 0) (take i numbers)
+    (All-push (λ n. get_or (slice_set marks slot mark) (index_slot slots n) 0 ≢ 0) (take i numbers)
     (get_or numbers i d)
-    (λ k e less. slice_set-stays_marked marks slot mark (slot_in slots (get_or (take i numbers) k e)) within
+    (λ k e less. slice_set-stays_marked marks slot mark (index_slot slots (get_or (take i numbers) k e)) within
     some (marked k e less))
     (λ e. some (sym (get_or-set_same marks slot mark 0 within)
     ∙ ap (λ k. get_or (slice_set marks slot mark) k 0) is ∙ e)))

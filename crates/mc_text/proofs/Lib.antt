@@ -1,4 +1,5 @@
 pub mod Lists
+pub mod Searches
 pub mod LineLemmas
 pub mod PieceLemmas
 pub mod FedPieceLemmas

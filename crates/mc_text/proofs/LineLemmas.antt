@@ -1,5 +1,5 @@
 -- The lines of a text, between line feeds, and the words of a line, between spaces.
-use Rattle.std.proofs.Common.{◌≡◌, ℕ, suc, ◌+◌, ◌<◌, ◌≤◌, Bool, true, false, not, eqb, cond, List}
+use Rattle.std.proofs.Common.{◌≡◌, ℕ, ◌+◌, ◌<◌, ◌≤◌, Bool, true, false, not, eqb, cond, List}
 use Rattle.std.proofs.Common.{[], ◌∷◌, length, take, drop, get_or, Option, Some, None, unwrap_or}
 use Rattle.std.proofs.Common.{refl, sym, ap, ◌∙◌, arith, append_assoc, length-take}
 use Rattle.std.specs.Prelude.{position}
@@ -7,44 +7,30 @@ use Rattle.std.specs.List.{slice_split, onto_first, join_with_byte, position_or_
 use Rattle.std.proofs.lemmas.Bool.{not-true}
 use Rattle.std.proofs.lemmas.Bool.Decides.{nat_tests}
 use Rattle.std.proofs.lemmas.Option.{cond_some}
-use Rattle.std.proofs.lemmas.List.{append-nil, take_all, drop_all, drop_more, get_or-take}
+use Rattle.std.proofs.lemmas.List.{append-nil, take_all, drop_all, drop_more}
 use Rattle.std.proofs.lemmas.List.Concat.{flat_map-cons}
-use Rattle.std.proofs.lemmas.List.Elements.{All-from_recursion}
 use Rattle.std.proofs.lemmas.List.Quantifiers.{position-Some}
-use Rattle.std.proofs.lemmas.List.Splits.{slice_split_none, length-slice_split}
+use Rattle.std.proofs.lemmas.List.Splits.{length-slice_split}
 use Rattle.std.proofs.lemmas.List.Splits.{join_with_byte-slice_split}
-use Rattle.std.proofs.lemmas.List.Sums.{fails_before_first}
 use Rattle.mc_text.specs.Lines.{numbered, lines_from, lines_of, join_lines, HasNoByte, HasNoLineFeed}
 use Rattle.mc_text.specs.Lines.{OnlyLastMayBeUnended}
 use Rattle.mc_text.specs.Lines.{words_of}
-use Rattle.mc_text.proofs.Lists.{slice_split-found, slice_split-not_found}
+use Rattle.mc_text.proofs.Searches.{none_passes-from_position, none_passes-take_position}
+use Rattle.mc_text.proofs.Searches.{slice_split-found, slice_split-none_passes, slice_split-not_found}
 
 -- the length of a nonempty text is not zero, as a test
 length-not_zero : (text : List ℕ) → 0 < length text → eqb (length text) 0 ≡ false
 length-not_zero text some = grind (arith, nat_tests)
 
--- a text whose byte at each place is another one doesn't have this byte
-HasNoByte-from_each : (c : ℕ) (text : List ℕ)
-    → ((k : ℕ) → k < length text → eqb (get_or text k 0) c ≡ false) → HasNoByte c text
-HasNoByte-from_each c [] none = tt
-HasNoByte-from_each c (b ∷ text) none =
-    (none 0 (omega arith), HasNoByte-from_each c text (λ k lt. none (suc k) (omega (arith, lt))))
-
 -- a text in which the byte isn't found doesn't have it
 pub HasNoByte-from_position : (c : ℕ) (text : List ℕ) → position (λ b. eqb b c) text ≡ None
     → HasNoByte c text
-HasNoByte-from_position c text none =
-    let past : length text ≤ position_or_len (λ b. eqb b c) text = grind (arith, nat_tests) in
-    HasNoByte-from_each c text (λ k lt. fails_before_first (λ b. eqb b c) text k 0 (omega (arith, past)))
+HasNoByte-from_position c text none = none_passes-from_position (λ b. eqb b c) text none
 
 -- the bytes before the first such byte don't have it
 pub HasNoByte-take_position : (c : ℕ) (text : List ℕ) (end : ℕ)
     → position (λ b. eqb b c) text ≡ Some end → HasNoByte c (take end text)
-HasNoByte-take_position c text end found =
-    let at = position-Some (λ b. eqb b c) text end 0 found in
-    HasNoByte-from_each c (take end text) (λ k lt.
-    let before : k < end = omega (arith, lt, length-take end text) in
-    ap (λ b. eqb b c) (get_or-take end text k 0 before) ∙ at.2 k before)
+HasNoByte-take_position c text end found = none_passes-take_position (λ b. eqb b c) text 0 end found
 
 -- ---- lines
 
@@ -67,9 +53,7 @@ lines_from-line_feed n text end found =
 pub lines_from-unended : (n : ℕ) (text : List ℕ) → HasNoLineFeed text → eqb (length text) 0 ≡ false
     → lines_from n text ≡ record { number = n; bytes = text; ended = false } ∷ []
 lines_from-unended n text none some =
-    let one = slice_split_none (λ b. eqb b 10) text
-    (All-from_recursion (λ b. eqb b 10 ≡ false) text none) in
-    rw (one, some) refl
+    let one = slice_split-none_passes (λ b. eqb b 10) text none in rw (one, some) refl
 
 -- if no line feed is found, the text is such a line
 pub lines_from-no_line_feed : (n : ℕ) (text : List ℕ) → position (λ b. eqb b 10) text ≡ None

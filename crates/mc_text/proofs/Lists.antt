@@ -1,13 +1,8 @@
--- Lists: the elements at their places, the parts between separators, and what holds of each element.
-use Rattle.std.proofs.Common.{◌≡◌, ℕ, zero, suc, ◌+◌, ◌<◌, ◌≤◌, ◌⊎◌, inl, inr, Bool, false, List}
-use Rattle.std.proofs.Common.{[], ◌∷◌, ◌++◌, ◌||◌, length, get_or, take, drop, map, Some, None, refl, ap}
-use Rattle.std.proofs.Common.{arith, Bor}
-use Rattle.std.specs.Prelude.{position, slice_get}
-use Rattle.std.specs.List.{slice_split, position_or_len, AllByRecursion, list_any}
-use Rattle.std.proofs.lemmas.Bool.Decides.{nat_tests}
-use Rattle.std.proofs.lemmas.List.Elements.{All-from_get_or}
-use Rattle.std.proofs.lemmas.List.Splits.{slice_split_first, slice_split_none}
-use Rattle.std.proofs.lemmas.List.Sums.{fails_before_first}
+-- Lists: the elements at their places, and what holds of each element.
+use Rattle.std.proofs.Common.{◌≡◌, ℕ, zero, suc, ◌<◌, ◌⊎◌, inl, inr, Bool, List, [], ◌∷◌, ◌++◌, ◌||◌}
+use Rattle.std.proofs.Common.{length, get_or, map, Some, refl, ap, arith, Bor}
+use Rattle.std.specs.Prelude.{slice_get}
+use Rattle.std.specs.List.{AllByRecursion, list_any}
 
 -- ---- the elements at their places
 
@@ -35,22 +30,6 @@ module _ {X : Type 0} where
         | inl before ↦ inl before
         | inr last ↦ inr (omega (arith, last.0), last.1)
       ]
-
--- ---- the parts between separators
-
-module _ {X : Type 0} (p : X → Bool) where
-  -- the first separator ends the first part
-  pub slice_split-found : (xs : List X) (d : X) (end : ℕ) → position p xs ≡ Some end
-      → slice_split p xs ≡ take end xs ∷ slice_split p (drop (end + 1) xs)
-  slice_split-found xs d end found = grind (arith, nat_tests, slice_split_first p xs d)
-
-  -- without a separator the list is one part
-  pub slice_split-not_found : (xs : List X) → position p xs ≡ None → slice_split p xs ≡ xs ∷ []
-  slice_split-not_found [] none = refl
-  slice_split-not_found (x ∷ xs) none =
-      let past : length (x ∷ xs) ≤ position_or_len p (x ∷ xs) = grind (arith, nat_tests) in
-      slice_split_none p (x ∷ xs) (All-from_get_or (λ y. p y ≡ false) (x ∷ xs) x
-      (λ k lt. fails_before_first p (x ∷ xs) k x (omega (arith, past))))
 
 -- ---- what holds of each element
 

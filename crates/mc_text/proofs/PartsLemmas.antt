@@ -4,8 +4,7 @@ use Rattle.std.proofs.Common.{length, take, Option, Some, None, Ok, Err, refl, s
 use Rattle.std.proofs.Common.{◌∙◌, arith, length-take, inl, inr, ltb, leb}
 use Rattle.std.proofs.lemmas.Bool.{cases_Bool, ltb-true, ltb-false, lt-ltb, le-ltb, le-leb, lt-leb}
 use Rattle.std.proofs.lemmas.Bool.Decides.{nat_tests}
-use Rattle.std.specs.Prelude.{codes, position}
-use Rattle.std.specs.List.{position_or_len}
+use Rattle.std.specs.Prelude.{codes}
 use Rattle.std.specs.Io.KnownBytes.{Consumes, IsAtEnd}
 use Rattle.std.specs.Str.{bytes_eq}
 use Rattle.std.proofs.Math.Seq.{take-append-add, take-append_seam, get_or-append_seam}
@@ -14,6 +13,7 @@ use Rattle.mc_text.specs.declared.bundle.bundle_fault.BundleFault.TheVariants as
 use Rattle.mc_text.specs.PartsReading.{ReadsAs, magic_of, rest_of_part}
 use Rattle.mc_text.specs.Steps.{◌>>=◌}
 use Rattle.mc_text.specs.BundleReading.{line_at, part_bytes_at}
+use Rattle.mc_text.proofs.Searches.{position-none_passes}
 use Rattle.mc_text.proofs.BundleWords.{HasNoByte, line_at-complete}
 use Rattle.mc_text.proofs.BundlePlaces.{part_bytes_at-complete}
 
@@ -60,22 +60,12 @@ reads_as-no_magic (Some text) (Some later) buffer n size within taken end other 
 
 -- ---- lines
 
--- the search for a byte that a text doesn't have ends at the text's length
-position_or_len-absent_byte : (c : ℕ) (xs : List ℕ) → HasNoByte c xs
-    → position_or_len (λ b. eqb b c) xs ≡ length xs
-position_or_len-absent_byte c [] h = refl
-position_or_len-absent_byte c (x ∷ xs) h = rw h.0 (omega (arith, position_or_len-absent_byte c xs h.1))
-
--- a line feed that a text doesn't have has no place there
-position-absent_byte : (xs : List ℕ) → HasNoByte 10 xs → position (λ b. eqb b 10) xs ≡ None
-position-absent_byte xs without = grind (arith, nat_tests, position_or_len-absent_byte 10 xs without)
-
 -- fewer than 96 bytes without a line feed, to the input's end, are read as the fault `NoEnd`
 line_at-no_end : (text : List ℕ) → HasNoByte 10 text → length text < 96 → line_at text ≡ Err faults.NoEnd
 unfolding line_at
 line_at-no_end text without short =
     let whole : take 96 text ≡ text = take_all 96 text (omega arith) in
-    rw (whole, position-absent_byte text without, lt-ltb (length text) 96 short) refl
+    rw (whole, position-none_passes (λ b. eqb b 10) text without, lt-ltb (length text) 96 short) refl
 
 -- 96 bytes without a line feed are read as the fault `BadPartLine`
 line_at-too_long : (taken later : List ℕ) → HasNoByte 10 taken → length taken ≡ 96
@@ -86,8 +76,9 @@ line_at-too_long taken later without long =
     ap (λ n. take n (taken ++ later)) (sym long) ∙ take-append_seam taken later in
     let enough : ltb (length (taken ++ later)) 96 ≡ false =
     le-ltb (length (taken ++ later)) 96 (omega (arith, long, length-append taken later)) in
-    rw (front, position-absent_byte taken without, enough) refl
+    rw (front, position-none_passes (λ b. eqb b 10) taken without, enough) refl
 
+-- fewer than 96 bytes without a line feed, up to the input's end, are read as `NoEnd`
 pub reads_as-no_end : {X : Type 0} (view : X → List ℕ) (old mid new : Option (List ℕ)) (taken : List ℕ)
     → Consumes old mid taken → Consumes mid new [] → IsAtEnd new → HasNoByte 10 taken
     → length taken < 96 → ReadsAs view old new (Err faults.NoEnd) line_at
@@ -99,6 +90,7 @@ reads_as-no_end view (Some text) (Some between) (Some later) taken first second 
     first ∙ ap (λ l. taken ++ l) (second ∙ end) ∙ append-nil taken in
     ap line_at whole ∙ line_at-no_end taken without short
 
+-- 96 bytes without a line feed are read as `BadPartLine`, whatever follows
 pub reads_as-line_too_long : {X : Type 0} (view : X → List ℕ) (old new : Option (List ℕ)) (taken : List ℕ)
     → Consumes old new taken → HasNoByte 10 taken → length taken ≡ 96
     → ReadsAs view old new (Err faults.BadPartLine) line_at
@@ -126,6 +118,7 @@ rest_of_part-truncated : (left : ℕ) (text : List ℕ) → length text ≤ left
 unfolding part_bytes_at
 rest_of_part-truncated left text less = rw (le-leb (length text) left less) refl
 
+-- an input that ends within the rest of a part is read as `Truncated`
 pub reads_as-rest_truncated : (old mid new : Option (List ℕ)) (left : ℕ) (bytes more : List ℕ)
     → Consumes old mid bytes → Consumes mid new more → IsAtEnd new
     → length bytes + length more ≤ left
@@ -160,6 +153,7 @@ rest_of_part-other_byte bytes later b other =
     (omega (arith, length-append bytes (b ∷ later))) in
     rw (longer, get_or-append_seam bytes b later 0, other) refl
 
+-- another byte than a line feed after a part is read as `BadPartLine`
 pub reads_as-rest_other_byte : (old mid new : Option (List ℕ)) (left : ℕ) (bytes : List ℕ) (b : ℕ)
     → Consumes old mid bytes → Consumes mid new (b ∷ []) → length bytes ≡ left → eqb b 10 ≡ false
     → ReadsAs {X = Unit {0}} {Y = Unit {0}} (λ x. x) old new (Err faults.BadPartLine) (rest_of_part left)

@@ -22,7 +22,7 @@ use Rattle.mc_text.specs.BundleReading.{with_parts_after, parts_from, bundle_of}
 use Rattle.mc_text.specs.PartsReading.{ReadsAs, opened_part, opened_by_line}
 use Rattle.mc_text.specs.PartsReading.{opened_at, opened_next, PartsState, IsValidPartsState}
 use Rattle.mc_text.specs.PartsReading.{parts_from_current, current_part}
-use Rattle.mc_text.specs.PartsReading.{prepend_parts, part_and_rest, parts_of_opened}
+use Rattle.mc_text.specs.PartsReading.{place_within, prepend_parts, part_and_rest, parts_of_opened}
 
 -- ---- a line
 
@@ -67,7 +67,8 @@ part_for_line-opened_part n room line after text (Some s) =
       | inl large ↦ rw large refl
       | inr fits ↦ rw fits
           (part_bytes-then_parts n (room - part_room line s.1) s.0 (suc n - 1) (part_bytes_at s.1 after)
-          ∙ ap (λ m. part_and_rest s.0 [] s.1 m (room - part_room line s.1) after)
+          ∙ ap (λ m. part_and_rest s.0 [] s.1
+          (record { parts = m; room = room - part_room line s.1; rest = after }))
           (sym (suc-minus_one n)))
     ]
 
@@ -179,8 +180,9 @@ rest_of_part-opened_at name done left parts room text (Ok f) is =
     opened_at parts room f.1 >>= λ o. prepend_parts (p ∷ []) (parts_after_line o))
     (part_bytes_at-take left text f is)
 
+-- a part and those after it are the part, what the next line opens, and the parts after that
 part_and_rest-opened_next : (name done : List ℕ) (left parts room : ℕ) (text : List ℕ)
-    → part_and_rest name done left parts room text
+    → part_and_rest name done left (record { parts = parts; room = room; rest = text })
     ≡ (opened_next false left parts room text >>= λ o.
     prepend_parts (record { name = name; bytes = done ++ take left text } ∷ []) (parts_after_line o))
 part_and_rest-opened_next name done left parts room text =
@@ -208,6 +210,7 @@ reads_as-fault : {X Y : Type 0} (view : X → Y) (other : List ℕ) (new : Optio
 reads_as-fault view other new faults.Read read reads there = absurd (there refl)
 reads_as-fault view other new fault read reads there = reads
 
+-- a result `Err`, if the input's bytes are known and no read failed
 pub reads_as-err : {X Y : Type 0} (view : X → Y) (old new : Option (List ℕ))
     (answer : Result X BundleFault) (read : List ℕ → Result (Y × List ℕ) BundleFault)
     (text : List ℕ) (fault : BundleFault) → ReadsAs view old new answer read → old ≡ Some text
@@ -266,6 +269,7 @@ part_bytes_at-nil : (left : ℕ) → part_bytes_at left [] ≡ Err faults.Trunca
 unfolding part_bytes_at
 part_bytes_at-nil left = rw (le-leb 0 left (omega arith)) refl
 
+-- if the input ends within a part, the bundle is truncated
 pub parts_from_current-truncated : (s : PartsState) (done text : List ℕ) → IsValidPartsState s
     → s.stage ≡ stages.Part
     → text ≡ [] → parts_from_current s done text ≡ Err faults.Truncated
@@ -319,9 +323,11 @@ part_and_rest-moved name done taken parts room (Ok f) =
     let part : PartText = record { name = name; bytes = bytes } in Ok (part ∷ others))
     (sym (append_assoc done taken f.0))
 
+-- a part and those after it are the same before and after a read of some of the part's bytes
 pub part_and_rest-read_more : (name done taken later : List ℕ) (m parts room : ℕ)
-    → part_and_rest name done (length taken + m) parts room (taken ++ later)
-    ≡ part_and_rest name (done ++ taken) m parts room later
+    → part_and_rest name done (length taken + m)
+    (record { parts = parts; room = room; rest = taken ++ later })
+    ≡ part_and_rest name (done ++ taken) m (record { parts = parts; room = room; rest = later })
 part_and_rest-read_more name done taken later m parts room =
     ap (λ r. r >>= λ f. parts_from parts room f.1 >>= λ others.
     let part : PartText = record { name = name; bytes = done ++ f.0 } in Ok (part ∷ others))
@@ -348,5 +354,5 @@ parts_from_current-read_more s done taken later remaining failed borrows rules i
     let name = some_from_is_some s.name (rules.named is) in
     let left : length taken + (s.left - length taken) ≡ s.left = omega arith in
     rw (is, name.1)
-    (ap (λ n. part_and_rest name.0 done n s.parts s.room (taken ++ later)) (sym left)
+    (ap (λ n. part_and_rest name.0 done n (place_within s (taken ++ later))) (sym left)
     ∙ part_and_rest-read_more name.0 done taken later (s.left - length taken) s.parts s.room)

@@ -1,12 +1,12 @@
 -- The lines of a text that comes in pieces.
-use Rattle.std.proofs.Common.{◌≡◌, ℕ, ◌+◌, ◌≤◌, true, false, eqb, List, ◌∷◌, ◌++◌, length, take, drop, Some}
+use Rattle.std.proofs.Common.{◌≡◌, ℕ, ◌+◌, ◌≤◌, true, eqb, List, ◌∷◌, ◌++◌, length, take, drop, Some}
 use Rattle.std.proofs.Common.{refl, sym, ap, ◌∙◌, arith, append_assoc}
 use Rattle.std.specs.Prelude.{position}
 use Rattle.std.specs.List.{slice_split}
-use Rattle.std.proofs.lemmas.List.Elements.{All-from_recursion}
 use Rattle.std.proofs.lemmas.List.Quantifiers.{position-Some}
-use Rattle.std.proofs.lemmas.List.Splits.{slice_split_at, length-slice_split}
+use Rattle.std.proofs.lemmas.List.Splits.{length-slice_split}
 use Rattle.mc_text.specs.Lines.{numbered, lines_from, HasNoLineFeed}
+use Rattle.mc_text.proofs.Searches.{slice_split-append_passing}
 use Rattle.mc_text.proofs.BundleWords.{HasNoByte-append, split_at_byte}
 use Rattle.mc_text.proofs.LineLemmas.{HasNoByte-take_position, numbered-more}
 
@@ -27,8 +27,7 @@ lines_from-line_and_rest : (n : ℕ) (line rest : List ℕ) → HasNoLineFeed li
     → lines_from n (line ++ 10 ∷ rest)
     ≡ record { number = n; bytes = line; ended = true } ∷ lines_from (n + 1) rest
 lines_from-line_and_rest n line rest none =
-    let parts = slice_split_at (λ b. eqb b 10) line 10 rest
-    (All-from_recursion (λ b. eqb b 10 ≡ false) line none) refl in
+    let parts = slice_split-append_passing (λ b. eqb b 10) line 10 rest none refl in
     let more = length-slice_split (λ b. eqb b 10) rest in
     ap (numbered n) parts
     ∙ numbered-more n line (slice_split (λ b. eqb b 10) rest) (omega (arith, more))

@@ -18,6 +18,7 @@ use Rattle.mc_text.proofs.PartsMeaning.{part_bytes_at-take, prepend_parts-nil}
 
 -- ---- the current part before the others
 
+-- a part and those after it are the part with its bytes, and those after it
 part_and_rest-prepend : (name done : List ℕ) (left parts room : ℕ) (text : List ℕ)
     (found : Result (List ℕ × List ℕ) BundleFault) → part_bytes_at left text ≡ found
     → (found >>= λ f. parts_from parts room f.1 >>= λ others.
@@ -29,13 +30,15 @@ part_and_rest-prepend name done left parts room text (Ok f) is =
     ap (λ bytes. let p : PartText = record { name = name; bytes = done ++ bytes } in
     prepend_parts (p ∷ []) (parts_from parts room f.1)) (part_bytes_at-take left text f is)
 
+-- the same of the current part, if it has a name
 current_and_rest-prepend : (name : Option (List ℕ)) (s : PartsState) (done text : List ℕ)
-    → current_and_rest name done s.left s.parts s.room text
+    → current_and_rest name s done text
     ≡ prepend_parts (part_if_named name (done ++ take s.left text)) (rest_after_part name s text)
 current_and_rest-prepend None s done text = refl
 current_and_rest-prepend (Some name) s done text =
     part_and_rest-prepend name done s.left s.parts s.room text (part_bytes_at s.left text) refl
 
+-- at each stage the parts from the current one on are it and those after it
 parts_at_stage-prepend : (stage : Stage) (s : PartsState) (done text : List ℕ)
     → parts_at_stage stage s done text
     ≡ prepend_parts (current_part_at_stage stage s done text) (rest_at_stage stage s text)
@@ -103,6 +106,7 @@ consumes_within-trans a b c most between after first more = (
   Consumes-trans a b c first.0 more.0 first.2 more.2,
 )
 
+-- reading that went on once goes on with a step that reads no more than may come
 pub advances : (a b c : PartsState) → Advances a b → b.borrows ≡ c.borrows
     → ConsumesWithin (max_to_come b) (max_to_come c) b.remaining c.remaining → Advances a c
 advances a b c first borrows more = (
@@ -111,5 +115,6 @@ advances a b c first borrows more = (
       (max_to_come c) first.1 more,
 )
 
+-- reading that went on twice went on
 pub advances_trans : (a b c : PartsState) → Advances a b → Advances b c → Advances a c
 advances_trans a b c first then = advances a b c first (sym then.0) then.1

@@ -17,7 +17,7 @@ abbrev pub numbers_between_dots : List ℕ → List ℕ
 numbers_between_dots text = map (digits_value 10) (slice_split (λ b. b == 46) text)
 
 -- the address with these octets, if they are four below 256 and the text is how they are written
-abbrev pub address_if_dotted : List ℕ → List ℕ → Option ℕ
+abbrev pub address_if_dotted : (text octets : List ℕ) → Option ℕ
 address_if_dotted text octets =
     if (length octets == 4) && list_all (λ n. nat_lt n 256) octets
     && bytes_eq (ipv4_text octets) text
@@ -38,7 +38,7 @@ octets_in_order Little octets = reverse octets
 abbrev pub address_of_octets : {E : Type 0} → Order → Result (List ℕ) E → Option ℕ
 address_of_octets order (Ok octets) =
     if length octets == 4 then Some (from_be_bytes w32 (octets_in_order order octets)) else None
-address_of_octets order (Err e) = None
+address_of_octets order (Err fault) = None
 
 -- the address that a word of a kernel's table shows, if it shows one
 unfoldable pub address_of_word : Order → List ℕ → Option ℕ

@@ -12,13 +12,13 @@ use Rattle.hex.specs.Hex.{hex_digit_value}
 -- an address's octets in the order in which the digits write them: first to last on a big-endian
 -- machine, last to first on a little-endian one
 abbrev pub printed_octets : Order → ℕ → List ℕ
-printed_octets Big a = octets_of a
-printed_octets Little a = reverse (octets_of a)
+printed_octets Big address = octets_of address
+printed_octets Little address = reverse (octets_of address)
 
 -- the word's pairs of hexadecimal digits are the address's octets in that order
 abbrev pub IsAddressWord : Order → List ℕ → ℕ → Type 0
-IsAddressWord order word a = decode_of word ≡ Ok (printed_octets order a)
+IsAddressWord order word address = decode_of word ≡ Ok (printed_octets order address)
 
 -- the value of a hexadecimal digit, in upper or lower case; 16 for every other byte
 abbrev pub hex_value_or_16 : ℕ → ℕ
-hex_value_or_16 c = unwrap_or (hex_digit_value c) 16
+hex_value_or_16 byte = unwrap_or (hex_digit_value byte) 16

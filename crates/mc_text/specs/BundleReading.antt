@@ -28,7 +28,7 @@ Gives = Steps.Gives IsMemory
 -- The bytes before the line feed at a place, and those after it. Without a line feed the text ends
 -- too early if fewer bytes are left than the longest line has, and else the line is too long.
 abbrev pub cut_line : List ℕ → Option ℕ → Result (List ℕ × List ℕ) BundleFault
-cut_line rest (Some n) = Ok (take n rest, drop (n + 1) rest)
+cut_line rest (Some place) = Ok (take place rest, drop (place + 1) rest)
 cut_line rest None =
     if nat_lt (length rest) max_line then Err faults.NoEnd else Err faults.BadPartLine
 
@@ -43,14 +43,14 @@ is_part_name name =
 
 -- the name and the length that two words write, if the first is a part's name and the second a
 -- number without leading zeros
-abbrev pub name_and_length : List ℕ → List ℕ → Option (List ℕ × ℕ)
+abbrev pub name_and_length : (name word : List ℕ) → Option (List ℕ × ℕ)
 name_and_length name word =
     if is_part_name name && is_plain_decimal word then Some (name, digits_value 10 word) else None
 
 -- the name before the space at a place and the length after it, if they are a name and a length
 abbrev pub cut_words : List ℕ → Option ℕ → Option (List ℕ × ℕ)
 cut_words words None = None
-cut_words words (Some n) = name_and_length (take n words) (drop (n + 1) words)
+cut_words words (Some place) = name_and_length (take place words) (drop (place + 1) words)
 
 -- the name and the length in a part's line without its `part `, on both sides of the first space
 unfoldable pub parse_name_and_length : List ℕ → Option (List ℕ × ℕ)
@@ -70,30 +70,30 @@ pub record BundlePlace : Type 0 where
   pub rest : List ℕ
 
 -- the bytes of a part of this size at the front, and those after the line feed that follows them
-unfoldable pub part_bytes_at : ℕ → List ℕ → Result (List ℕ × List ℕ) BundleFault
+unfoldable pub part_bytes_at : (size : ℕ) → (rest : List ℕ) → Result (List ℕ × List ℕ) BundleFault
 part_bytes_at size rest =
     if nat_le (length rest) size then Err faults.Truncated
     else if slice_index rest size == 10 then Ok (take size rest, drop (size + 1) rest)
     else Err faults.BadPartLine
 
 -- how many bytes a part of this size and its line take, each with its line feed
-abbrev pub part_room : List ℕ → ℕ → ℕ
+abbrev pub part_room : (line : List ℕ) → (size : ℕ) → ℕ
 part_room line size = length line + 1 + (size + 1)
 
 -- whether this part is over a limit: no more parts may come, it is larger than any may be, or it
 -- doesn't fit into the room that the bundle has left
-abbrev pub is_too_large : BundlePlace → List ℕ → ℕ → Bool
+abbrev pub is_too_large : BundlePlace → (line : List ℕ) → (size : ℕ) → Bool
 is_too_large place line size =
     (place.parts == 0) || nat_lt max_part size || nat_lt place.room (part_room line size)
 
 -- the place after a part that took `taken` bytes with its line, where `rest` follows
-abbrev pub place_after : BundlePlace → ℕ → List ℕ → BundlePlace
+abbrev pub place_after : BundlePlace → (taken : ℕ) → (rest : List ℕ) → BundlePlace
 place_after place taken rest =
     record { parts = place.parts - 1; room = place.room - taken; rest = rest }
 
 -- the part that begins with a line of this name and length, before the bytes `after`, and the place
 -- after it
-abbrev pub part_for_line : BundlePlace → List ℕ → List ℕ → Option (List ℕ × ℕ)
+abbrev pub part_for_line : BundlePlace → (line after : List ℕ) → Option (List ℕ × ℕ)
     → Result (Option (PartText × BundlePlace)) BundleFault
 part_for_line place line after None = Err faults.BadPartLine
 part_for_line place line after (Some header) =
@@ -123,13 +123,13 @@ abbrev pub with_parts_after : Option (PartText × BundlePlace)
 with_parts_after None next = Ok []
 with_parts_after (Some found) next = next found.1 >>= λ parts. Ok (found.0 ∷ parts)
 
--- the parts at the front of the bytes `rest`, of which no more may come than the first number says,
--- and no more than `room` bytes with their lines
-unfoldable pub parts_from : ℕ → ℕ → List ℕ → Result (List PartText) BundleFault
+-- the parts at the front of the bytes `rest`, of which no more than `parts` may come, and no more
+-- than `room` bytes with their lines
+unfoldable pub parts_from : (parts room : ℕ) → (rest : List ℕ) → Result (List PartText) BundleFault
 parts_from zero room rest = next_part_from (record { parts = 0; room = room; rest = rest }) >>= λ _. Ok []
-parts_from (suc n) room rest =
-    next_part_from (record { parts = suc n; room = room; rest = rest }) >>= λ found.
-    with_parts_after found (λ place. parts_from n place.room place.rest)
+parts_from (suc fewer) room rest =
+    next_part_from (record { parts = suc fewer; room = room; rest = rest }) >>= λ found.
+    with_parts_after found (λ place. parts_from fewer place.room place.rest)
 
 -- the parts of the bundle that a text is, which begins with a line of 17 bytes
 unfoldable pub bundle_of : List ℕ → Result (List PartText) BundleFault

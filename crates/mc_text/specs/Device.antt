@@ -20,27 +20,28 @@ pub record OutputState : Type 0 where
   pub failed : ℕ
 
 -- how many calls failed, after a read: it fails if it returns an error
-abbrev pub failures_after_read : Result ℕ DeviceFault → ℕ → ℕ
-failures_after_read (Ok n) before = before
-failures_after_read (Err e) before = before + 1
+abbrev pub failures_after_read : Result ℕ DeviceFault → (before : ℕ) → ℕ
+failures_after_read (Ok count) before = before
+failures_after_read (Err fault) before = before + 1
 
 -- how many calls failed, after a write: it fails if it returns an error, or takes no byte of a text
 -- that has some
-abbrev pub failures_after_write : Result ℕ DeviceFault → List ℕ → ℕ → ℕ
-failures_after_write (Ok n) text before =
-    if (n == 0) && nat_lt 0 (length text) then before + 1 else before
-failures_after_write (Err e) text before = before + 1
+abbrev pub failures_after_write : Result ℕ DeviceFault → (text : List ℕ) → (before : ℕ) → ℕ
+failures_after_write (Ok count) text before =
+    if (count == 0) && nat_lt 0 (length text) then before + 1 else before
+failures_after_write (Err fault) text before = before + 1
 
 -- how many calls failed, after a function that stops at the first failure: one more if the fault is
 -- the device's own
 abbrev pub failures_after : {X E : Type 0} → (E → Bool) → Result X E → ℕ → ℕ
-failures_after is_own (Ok x) before = before
-failures_after is_own (Err e) before = cond (is_own e) (before + 1) before
+failures_after is_own (Ok value) before = before
+failures_after is_own (Err fault) before = cond (is_own fault) (before + 1) before
 
 -- whether a device's fault is its own: each is
 abbrev pub is_failure : DeviceFault → Bool
-is_failure e = true
+is_failure fault = true
 
 -- some bytes from the text's front, but not all, were appended to what an output had taken
-abbrev pub AppendsProperPrefix : Option (List ℕ) → Option (List ℕ) → List ℕ → Type 0
-AppendsProperPrefix old new text = (k : ℕ) × (k < length text) × Appends old new (take k text)
+abbrev pub AppendsProperPrefix : (old new : Option (List ℕ)) → (text : List ℕ) → Type 0
+AppendsProperPrefix old new text =
+    (count : ℕ) × (count < length text) × Appends old new (take count text)

@@ -22,5 +22,5 @@ abbrev pub range_text : ℕ × ℕ → List ℕ
 range_text range = dotted range.0 ++ (codes "/" ++ decimal range.1)
 
 -- whether the range has the group
-abbrev pub has_group : ℕ × ℕ → ℕ → Bool
+abbrev pub has_group : (range : ℕ × ℕ) → (group : ℕ) → Bool
 has_group range group = nat_le range.0 group && nat_lt (group - range.0) (range_size range.1)

@@ -23,18 +23,18 @@ pub record LineText : Type 0 where
   pub bytes : List ℕ
   pub ended : Bool
 
--- The lines of the parts between line feeds, from the number n on. A line feed ends each but the
--- last; the last is a line only if it has bytes.
-abbrev pub numbered : ℕ → List (List ℕ) → List LineText
-numbered n [] = []
-numbered n (part ∷ []) =
-    if length part == 0 then [] else record { number = n; bytes = part; ended = false } ∷ []
-numbered n (part ∷ next ∷ more) =
-    record { number = n; bytes = part; ended = true } ∷ numbered (n + 1) (next ∷ more)
+-- The lines that the parts between line feeds are, of which the first has this number. A line feed
+-- ends each but the last; the last is a line only if it has bytes.
+abbrev pub numbered : (number : ℕ) → (parts : List (List ℕ)) → List LineText
+numbered number [] = []
+numbered number (part ∷ []) =
+    if length part == 0 then [] else record { number = number; bytes = part; ended = false } ∷ []
+numbered number (part ∷ next ∷ more) =
+    record { number = number; bytes = part; ended = true } ∷ numbered (number + 1) (next ∷ more)
 
--- the lines of a text, whose first has the number n
-abbrev pub lines_from : ℕ → List ℕ → List LineText
-lines_from n text = numbered n (slice_split (λ b. b == 10) text)
+-- the lines of a text, of which the first has this number
+abbrev pub lines_from : (number : ℕ) → (text : List ℕ) → List LineText
+lines_from number text = numbered number (slice_split (λ byte. byte == 10) text)
 
 -- the lines of a text, numbered from 1
 abbrev pub lines_of : List ℕ → List LineText
@@ -56,4 +56,4 @@ OnlyLastMayBeUnended (line ∷ next ∷ more) = IsTrue line.ended × OnlyLastMay
 
 -- the words of a line: its longest stretches without a space, in order
 abbrev pub words_of : List ℕ → List (List ℕ)
-words_of line = filter (λ part. not (length part == 0)) (slice_split (λ b. b == 32) line)
+words_of line = filter (λ part. not (length part == 0)) (slice_split (λ byte. byte == 32) line)

@@ -11,14 +11,14 @@ padded name = name ++ replicate (max_name - length name) 0
 
 -- the name in these fields
 abbrev pub name_of : Inside → List ℕ
-name_of a = take a.length a.bytes
+name_of inside = take inside.length inside.bytes
 
 -- these fields have a part's name, and zeros after it
-pub record IsNameInside (a : Inside) : Type 0 where
-  pub name : IsPartName (name_of a)
-  pub within : a.length ≤ max_name
-  pub full : length a.bytes ≡ max_name
-  pub zeros : a.bytes ≡ padded (name_of a)
+pub record IsNameInside (inside : Inside) : Type 0 where
+  pub name : IsPartName (name_of inside)
+  pub within : inside.length ≤ max_name
+  pub full : length inside.bytes ≡ max_name
+  pub zeros : inside.bytes ≡ padded (name_of inside)
 
 -- the fields of a name
 abbrev pub inside_of : List ℕ → Inside

@@ -10,13 +10,13 @@ use Rattle.mc_text.specs.Bundle.{max_line}
 use Rattle.mc_text.specs.PartsReading.{PartsState}
 
 -- at most `most` less `after` bytes were read
-abbrev pub ConsumesWithin : ℕ → ℕ → Option (List ℕ) → Option (List ℕ) → Type 0
+abbrev pub ConsumesWithin : (most after : ℕ) → (remaining left : Option (List ℕ)) → Type 0
 ConsumesWithin most after remaining left =
     (bytes : List ℕ) × (length bytes + after ≤ most) × Consumes remaining left bytes
 
 -- how many bytes come before a part's line: at the start the first line of the bundle, and else
 -- what is left of the part before, with its line feed
-abbrev pub bytes_before_line : Bool → ℕ → ℕ
+abbrev pub bytes_before_line : (start : Bool) → (left : ℕ) → ℕ
 bytes_before_line start left = if start then 17 else left + 1
 
 -- the most bytes that may come in a part that was opened: its own with their line feed, what the

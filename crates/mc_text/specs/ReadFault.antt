@@ -10,10 +10,10 @@ is_read Read = true
 is_read Memory = false
 
 -- some bytes were read, and appended to the old ones
-abbrev pub ReadsOnto : Option (List ℕ) → Option (List ℕ) → List ℕ → List ℕ → Type 0
+abbrev pub ReadsOnto : (remaining later : Option (List ℕ)) → (old new : List ℕ) → Type 0
 ReadsOnto remaining later old new = (bytes : List ℕ) × Consumes remaining later bytes × (new ≡ old ++ bytes)
 
 -- at most `limit` bytes were read
-abbrev pub ConsumesUpTo : ℕ → Option (List ℕ) → Option (List ℕ) → Type 0
+abbrev pub ConsumesUpTo : (limit : ℕ) → (remaining later : Option (List ℕ)) → Type 0
 ConsumesUpTo limit remaining later =
     (bytes : List ℕ) × (length bytes ≤ limit) × Consumes remaining later bytes

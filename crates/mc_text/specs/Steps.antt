@@ -4,13 +4,13 @@ use Rattle.std.specs.Prelude.{◌≡◌, Result, Ok, Err}
 -- the second step, made with the value of the first; a fault of the first is that of both
 infixl 10 ◌>>=◌
 abbrev pub ◌>>=◌ : {A B E : Type 0} → Result A E → (A → Result B E) → Result B E
-Ok x >>= f = f x
-Err e >>= f = Err e
+Ok x >>= next = next x
+Err fault >>= next = Err fault
 
 -- a step, whose fault is converted
 abbrev pub map_fault : {A E F : Type 0} → (E → F) → Result A E → Result A F
 map_fault as_ours (Ok x) = Ok x
-map_fault as_ours (Err e) = Err (as_ours e)
+map_fault as_ours (Err fault) = Err (as_ours fault)
 
 -- The function's result, with `view` applied, is that of the step. Nothing is claimed where the
 -- fault is a silent one, such as lack of memory.

@@ -3,7 +3,7 @@
 ghost use Rattle.std.specs.Prelude.{◌≡◌, ◌≢◌, ◌↔◌, ℕ, ◌<◌, Contains, IfOk, IfNone, IfSome};
 ghost use Rattle.std.specs.Prelude.{length, get_or, true};
 ghost use Rattle.std.specs.List.Sorted.{IsStrictlyIncreasing};
-ghost use Rattle.mc_text.specs.Index.{AreMarked, slot_in};
+ghost use Rattle.mc_text.specs.Index.{AreMarked, index_slot};
 
 use crate::memory::Memory;
 use std::alloc::Global;
@@ -20,10 +20,10 @@ const SLOTS_PER_NUMBER: usize = 32;
 const MAX_SLOTS: usize = 65_536;
 
 /// The slot of a number, among `slots`.
-fn slot_of(number: u64, slots: usize) -> usize
+fn index_slot(number: u64, slots: usize) -> usize
     requires positive { 0 < slots }
     ensures within { result < slots }
-    ensures value { result ≡ slot_in slots number }
+    ensures value { result ≡ index_slot slots number }
 {
     (number.wrapping_mul(HASH_MULTIPLIER) >> 48) as usize & (slots - 1)
 }
@@ -40,21 +40,21 @@ fn slots_for(count: usize) -> usize
 
 /// The mark of a place, which is never 0: one more than the place modulo 65,535. (In two bytes, so that
 /// the marks of 4,096 numbers take 128 KiB.)
-fn mark_of(place: usize) -> u16
+fn mark_of_place(place: usize) -> u16
     ensures { result ≢ 0 }
 {
     (place % 65_535) as u16 + 1
 }
 
 /// The slots, with a mark at that of each number. If two numbers share a slot, the later one marks it.
-fn marks_of(alloc: Global, numbers: &[u64]) -> Result<Vec<u16>, Memory>
+fn marks_of_places(alloc: Global, numbers: &[u64]) -> Result<Vec<u16>, Memory>
     ensures some { IfOk result (λ marks. 0 < length marks.items) }
     ensures each { IfOk result (λ marks. AreMarked marks.items numbers.now) }
 {
     let slots = slots_for(numbers.len());
     let mut marks = vec![in alloc; 0; slots]?;
     for place in 0..numbers.len() {
-        marks[slot_of(numbers[place], slots)] = mark_of(place);
+        marks[index_slot(numbers[place], slots)] = mark_of_place(place);
     }
     Ok(marks)
 }
@@ -92,7 +92,7 @@ impl Index {
     {
         numbers.sort_unstable();
         numbers.dedup();
-        let marks = marks_of(alloc, &numbers)?;
+        let marks = marks_of_places(alloc, &numbers)?;
         Ok(Index { numbers, marks })
     }
 
@@ -119,7 +119,7 @@ impl Index {
         ensures none { IfNone result (¬ Contains self.now number) }
         ensures ascending { IsStrictlyIncreasing self.now }
     {
-        let mark = self.marks[slot_of(number, self.marks.len())];
+        let mark = self.marks[index_slot(number, self.marks.len())];
         if mark == 0 {
             return None;
         }

@@ -1,7 +1,7 @@
-//! Texts as operators and kernels write them: addresses, ranges of groups, lines, words and numbers. Beside them it has
-//! inputs and outputs of bytes, names of network devices, the bundle (one stream of named parts) and
-//! an index of numbers. Of multicast it knows only two ranges of addresses: the groups that routers
-//! forward and the sources that hosts may send from. Nothing here depends on a domain.
+//! Texts as operators and kernels write them: addresses, ranges of groups, lines, words and numbers.
+//! Beside them it has inputs and outputs of bytes, names of network devices, the bundle (one stream of
+//! named parts) and an index of numbers. Of multicast it knows only two ranges of addresses: the groups
+//! that routers forward and the sources that hosts may send from. Nothing here depends on a domain.
 #![tactic(auto)]
 
 mod bundle;

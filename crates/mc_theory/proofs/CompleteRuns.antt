@@ -76,7 +76,8 @@ is_accepted-from_right n net low high right =
     let range : InRange n is (start n 255) = first_picks-in_range n k (start n 255) in
     let range' : InRange n js (start n n.ttl) = first_picks-in_range n k (start n n.ttl) in
     let done = none_waits-after_first_picks n 255 (λ is h. (right 255 is high (omega arith) h).clean) in
-    let done' = none_waits-after_first_picks n n.ttl (λ is h. (right n.ttl is (omega arith) high h).clean) in (
+    let done' = none_waits-after_first_picks n n.ttl
+    (λ is h. (right n.ttl is (omega arith) high h).clean) in (
       entries_of n (run n is (start n 255)).carried,
       is_accepted-from_two_runs n is js net low high range (first_picks-lossless n k (start n 255)) done
           (right 255 is high (omega arith) range).clean range' (first_picks-lossless n k (start n n.ttl))

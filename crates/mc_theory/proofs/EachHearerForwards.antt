@@ -219,12 +219,12 @@ is_handled-sends : (n : Net) (w : Waiting) (incoming : ℕ) (all : List (ℕ × 
 is_handled-sends n w incoming all f row = record {
   carried = λ pairs k h l row' pair lt on. (let same = row_equal-from_exact (n.row w.router) w.vif incoming
       pairs all row' row in
-      (is_sent_by_pair-sends n w.router w.ttl (k, h) all f (subst (λ ps. In (k, h) ps) same.1 pair) lt).carried
-      l on);
+      let listed = subst (λ ps. In (k, h) ps) same.1 pair in
+      (is_sent_by_pair-sends n w.router w.ttl (k, h) all f listed lt).carried l on);
   strayed = λ pairs k h row' pair lt off. (let same = row_equal-from_exact (n.row w.router) w.vif incoming
       pairs all row' row in
-      (is_sent_by_pair-sends n w.router w.ttl (k, h) all f (subst (λ ps. In (k, h) ps) same.1 pair) lt).strayed
-      off);
+      let listed = subst (λ ps. In (k, h) ps) same.1 pair in
+      (is_sent_by_pair-sends n w.router w.ttl (k, h) all f listed lt).strayed off);
   unfollowed = λ row'. absurd (let both : Exact incoming all ≡ Open = sym row ∙ row' in cc);
 }
 
@@ -420,9 +420,10 @@ are_all_handled-complete_run n t ps net complete =
     let f = run n ps (start n t) in
     let all = wait_or_handled-run n ps (start n t) net complete.in_range complete.lossless
     (wait_or_handled-start n t net) in
+    let head = (starts_with_source_copy-run n t ps).head in
     record {
       origins = have_origins-run n t ps;
-      first = subst (λ cs. In (source_copy n t) cs) (sym (starts_with_source_copy-run n t ps).head) (inl refl);
+      first = subst (λ cs. In (source_copy n t) cs) (sym head) (inl refl);
       handled = λ c r v c_in on other. elim (all c r v c_in on other) [
         | inl z ↦ absurd (subst (λ ws. In (waits_at c.ttl (r, v)) ws) complete.none_waits z)
         | inr d ↦ d

@@ -15,7 +15,7 @@ use Rattle.mc_topology.specs.Flows.{ttl_of, flow_of, flow_of_values, flow_rows, 
 use Rattle.mc_topology.specs.Interfaces.{interface_of, interface_of_values, interfaces_in}
 use Rattle.mc_topology.specs.Lans.{lan_name_of, lan_rows, lans_in}
 use Rattle.mc_topology.specs.Names.{is_name, is_device}
-use Rattle.mc_topology.specs.Reading.{require_utf8, parse_toml, document_of, check_version, topology_in}
+use Rattle.mc_topology.specs.Reading.{parse_toml, document_of, check_version, topology_in}
 use Rattle.mc_topology.specs.Reading.{parse_topology}
 use Rattle.mc_topology.specs.Routers.{order_of, router_of, routers_in}
 use Rattle.mc_topology.specs.Sources.{source_of, source_of_values, sources_in}
@@ -39,7 +39,7 @@ pub parse_topology-example : parse_topology example_text ≡ Ok (record {
   flows = (record { source = 167772165; lan = 0; group = 4009820675; ttl = 3 }) ∷ [];
 })
 unfolding
-    toml_on_literals is_utf8 chars digits parse_topology topology_in document_of parse_toml require_utf8
+    toml_on_literals is_utf8 chars digits parse_topology topology_in document_of parse_toml
     after_byte with_byte is_bounded
     check_version lans_in lan_rows lan_name_of
     routers_in router_of order_of interfaces_in interface_of interface_of_values sources_in source_of

@@ -17,7 +17,7 @@ use Rattle.mc_topology.specs.Sources.{sources_in}
 use Rattle.mc_topology.specs.Flows.{flows_in}
 use Rattle.mc_topology.specs.Answer.{◌>>=◌, out_of_memory}
 use Rattle.mc_topology.specs.Bounds.{is_bounded}
-use Rattle.mc_topology.specs.Reading.{require_utf8, parse_toml, document_of, check_version, topology_in}
+use Rattle.mc_topology.specs.Reading.{parse_toml, document_of, check_version, topology_in}
 use Rattle.mc_topology.specs.Reading.{sources_and_flows_in, interfaces_and_flows_in, parse_topology}
 use Rattle.mc_topology.specs.Denotation.{DenotesTopology}
 use Rattle.mc_topology.specs.Topology.{TopologyValue}
@@ -59,7 +59,7 @@ DenotesTopology-unique text t u is_t is_u =
 document_of-NotToml_by_cases : (text : List ℕ) (b : Bool) → is_utf8 text ≡ b → length text ≤ 16777216
     → is_bounded text ≡ true
     → (IsUtf8 text → parse_document text ≡ None) → document_of text ≡ Err NotToml
-unfolding document_of parse_toml require_utf8
+unfolding document_of parse_toml
 document_of-NotToml_by_cases text true is few bounded none =
     let read = none (IsUtf8-from_is_utf8 text is) in
     rw (le-leb (length text) 16777216 few, bounded, is, read) refl

@@ -310,7 +310,7 @@ topology_in-from_denotes ms t is =
 pub parse_unbounded_topology-denotes : (text : List ℕ) (t : TopologyValue)
     → parse_unbounded_topology text ≡ Ok t
     → DenotesTopology text t
-unfolding parse_unbounded_topology table_of parse_toml require_utf8
+unfolding parse_unbounded_topology table_of parse_toml
 parse_unbounded_topology-denotes text t e =
     let a = located_ok _ (table_of text) topology_in t e in
     let small = test_ok (nat_le (length text) 16777216) TooMany _ a.0 a.1 in
@@ -328,7 +328,7 @@ parse_unbounded_topology-denotes text t e =
 -- and what a text denotes is read without the bounds
 pub parse_unbounded_topology-from_denotes : (text : List ℕ) (t : TopologyValue) → DenotesTopology text t
     → parse_unbounded_topology text ≡ Ok t
-unfolding parse_unbounded_topology table_of parse_toml require_utf8
+unfolding parse_unbounded_topology table_of parse_toml
 parse_unbounded_topology-from_denotes text t is =
     rw (
       le-leb (length text) 16777216 is.few,

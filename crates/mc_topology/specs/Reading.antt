@@ -25,7 +25,7 @@ use Rattle.mc_topology.specs.Flows.{flows_in}
 use Rattle.mc_topology.specs.Topology.{TopologyValue}
 
 -- the text, which has to be UTF-8 (else NotToml)
-unfoldable pub require_utf8 : List ℕ → Result (List ℕ) TopologyFaultKind
+abbrev pub require_utf8 : List ℕ → Result (List ℕ) TopologyFaultKind
 require_utf8 text = if is_utf8 text then Ok text else Err NotToml
 
 -- the table of a text, which has to be UTF-8 and TOML (else NotToml)

@@ -39,7 +39,7 @@ use std::alloc::Global;
 use toml::Table;
 
 /// Parses a text as TOML, if it is within the bounds.
-#[tactic(auto, unfolding(crate::specs::Reading::document_of, crate::specs::Reading::parse_toml, crate::specs::Reading::require_utf8))]
+#[tactic(auto, unfolding(crate::specs::Reading::document_of, crate::specs::Reading::parse_toml))]
 fn document_of(alloc: Global, text: &[u8]) -> Result<Table, TopologyFault>
     ensures found { IfOk result (λ table. document_of text.now ≡ Ok (table_view table)) }
     ensures fault { IfErr result (λ fault. fault ≢ out_of_memory →

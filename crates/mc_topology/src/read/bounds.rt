@@ -2,9 +2,10 @@
 //! value has a mark of its own, and each pair is compared with the header above it.
 
 ghost use Rattle.std.specs.Prelude.{◌≡◌, ◌<◌, ◌≤◌, ◌^◌, length};
-ghost use Rattle.mc_topology.specs.Bounds.{after_outside_byte, after_one_line_byte, after_multi_line_byte, after_byte, is_blank, is_mark};
-ghost use Rattle.mc_topology.specs.Bounds.{is_outside, is_skipped_in_header, part_with_byte, part_after, nesting_after};
-ghost use Rattle.mc_topology.specs.Bounds.{header_after, with_byte, is_bounded};
+ghost use Rattle.mc_topology.specs.Bounds.{after_outside_byte, after_one_line_byte, after_multi_line_byte};
+ghost use Rattle.mc_topology.specs.Bounds.{after_byte, is_blank, is_mark, is_outside, is_skipped_in_header};
+ghost use Rattle.mc_topology.specs.Bounds.{part_with_byte, part_after, nesting_after, header_after};
+ghost use Rattle.mc_topology.specs.Bounds.{with_byte, is_bounded};
 
 use mc_text::MAX_TEXT;
 

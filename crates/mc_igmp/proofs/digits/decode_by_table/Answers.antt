@@ -8,13 +8,14 @@ use Rattle.mc_igmp.proofs.digits.decode_by_table.Goals as goal
 pub loop-i-preserved : goal.loop-i-preserved
 loop-i-preserved c =
     let at = c.loop-i in
+    let digits = c.args.digits.now in
+    let high = c.hex_value_or_16-high in
+    let low = c.hex_value_or_16-low in
     record {
-      digits = decode_pairs_more c.args.digits.now at.bytes at.i at.values c.hex_value_or_16-high.result
-          c.hex_value_or_16-low.result c.byte_of.result (omega arith) (omega arith)
-          c.hex_value_or_16-high.ensures c.hex_value_or_16-low.ensures c.byte_of.ensures at.invariant.digits;
-      others = decode_pairs_refused_more c.args.digits.now at.i at.values c.hex_value_or_16-high.result
-          c.hex_value_or_16-low.result (omega arith) c.hex_value_or_16-high.ensures c.hex_value_or_16-low.ensures
-          at.invariant.others;
+      digits = decode_pairs_more digits at.bytes at.i at.values high.result low.result c.byte_of.result
+          (omega arith) (omega arith) high.ensures low.ensures c.byte_of.ensures at.invariant.digits;
+      others = decode_pairs_refused_more digits at.i at.values high.result low.result
+          (omega arith) high.ensures low.ensures at.invariant.others;
     }
 
 pub returns-clause-found : goal.returns-clause-found

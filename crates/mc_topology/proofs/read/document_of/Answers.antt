@@ -1,11 +1,11 @@
 use Rattle.std.proofs.Common.{refl, le-leb, sym}
 use Rattle.std.proofs.lemmas.Str.{is_utf8-from_IsUtf8}
-use Rattle.mc_topology.specs.Reading.{require_utf8, parse_toml, document_of}
+use Rattle.mc_topology.specs.Reading.{parse_toml, document_of}
 use Rattle.mc_topology.proofs.ReadLemmas.{document_of-NotToml}
 use Rattle.mc_topology.proofs.read.document_of.Goals as goal
 
 pub returns-in-Ok-clause-found : goal.returns-in-Ok-clause-found
-unfolding document_of parse_toml require_utf8
+unfolding document_of parse_toml
 returns-in-Ok-clause-found c =
     let (utf8, reads) = c.in-Ok.ensures.ok in
     let few = le-leb _ _ c.if-text-gt-MAX_TEXT.false in

@@ -40,8 +40,8 @@ loop-source-preserved c =
       count = before.count;
       each = AreListedUpTo-missed c.args.channels.now c.args.group_record.now.group
           c.args.group_record.now.kind c.args.before c.in-Some.source c.pair_number-number.result
-          c.next.new.self c.args.group_record.now.sources c.loop-source.self.states.items c.args.self.now.states.items
-          pair missed (rw c.in-Some.ensures.steps at before.each);
+          c.next.new.self c.args.group_record.now.sources c.loop-source.self.states.items
+          c.args.self.now.states.items pair missed (rw c.in-Some.ensures.steps at before.each);
       more = λ none.
           let parts = c.asks_more_by-self-in-None-place_of.ensures none in
           let earlier = (rw c.in-Some.ensures.steps at before.more) parts.0 in (

@@ -2,7 +2,7 @@ use Rattle.std.proofs.Common.{sym, ◌∙◌, ap, ◌+◌, ◌∷◌, List, ℕ,
 use Rattle.std.specs.Prelude.{◌==◌}
 use Rattle.std.specs.List.{slice_split}
 use Rattle.std.proofs.lemmas.List.{take_rest}
-use Rattle.mc_text.proofs.Lists.{slice_split-found, slice_split-not_found}
+use Rattle.mc_text.proofs.Searches.{slice_split-found, slice_split-not_found}
 use Rattle.mc_tables.proofs.cache.outgoing.split_at_colon.Goals as goal
 
 pub returns-in_err-colon-clause-only : goal.returns-in_err-colon-clause-only

@@ -1,5 +1,6 @@
 use Rattle.mc_text.proofs.FindByte.{position-first_byte}
+use Rattle.memchr.specs.Find.{is_byte}
 use Rattle.mc_text.proofs.text.byte_search.find_byte.Goals as goal
 
 pub returns : goal.returns
-returns c = position-first_byte c.args.byte c.args.text.now c.memchr.result c.memchr.ensures
+returns c = position-first_byte (is_byte c.args.byte) c.args.text.now c.memchr.result c.memchr.ensures

@@ -1,9 +1,9 @@
-use Rattle.std.proofs.Common.{◌≡◌, [], Ok, Err, Some, None, ap, subst, sym, inl, inr, ◌∙◌}
+use Rattle.std.proofs.Common.{◌≡◌, Ok, Err, Some, None, ap, subst, sym, inl, inr, ◌∙◌}
 use Rattle.std.proofs.lemmas.List.{append-nil}
 use Rattle.mc_text.specs.Steps.{◌>>=◌}
 use Rattle.mc_text.specs.PartsReading.{PartsState, parts_state, parts_from_current, current_part}
 use Rattle.mc_text.specs.PartsReading.{prepend_parts, opened_next}
-use Rattle.mc_text.specs.PartsReading.{parts_of_opened, part_and_rest}
+use Rattle.mc_text.specs.PartsReading.{parts_of_opened}
 use Rattle.mc_text.proofs.PartsMeaning.{reads_as-ok, reads_as-err, parts_from_current-opened_next}
 use Rattle.mc_text.proofs.bundle.parts.Parts.next.Goals as goal
 use Rattle.mc_text.proofs.bundle.parts.Parts.next.Goals.{in-Start, in-Part}
@@ -30,7 +30,7 @@ returns-in-Ok-Some-clause-opened g c = λ text done remaining _.
       read.1,
       subst (λ (s : PartsState). parts_from_current s done text
           ≡ prepend_parts (current_part s done text)
-          (part_and_rest part.name [] part.size part.parts part.room read.0)) c.self.view_is all,
+          (parts_of_opened (Some part) read.0)) c.self.view_is all,
     )
 
 pub returns-in-Ok-None-clause-ended : goal.returns-in-Ok-None-clause-ended

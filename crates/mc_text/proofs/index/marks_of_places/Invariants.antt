@@ -1,6 +1,6 @@
 use Rattle.std.proofs.Common.{◌≡◌, length, take}
 use Rattle.mc_text.proofs.IndexLemmas.{AreMarkedInSlots}
-use Rattle.mc_text.proofs.index.marks_of.Given as goal
+use Rattle.mc_text.proofs.index.marks_of_places.Given as goal
 
 -- the slots of the numbers before are marked
 abbrev pub invariant-loop-place : goal.invariant-loop-place

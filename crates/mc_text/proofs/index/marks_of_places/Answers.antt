@@ -1,16 +1,16 @@
 use Rattle.std.proofs.Common.{◌∙◌, ℕ, subst, sym, arith}
 use Rattle.std.proofs.lemmas.List.{length-set}
 use Rattle.mc_text.proofs.IndexLemmas.{AreMarkedInSlots, marked_in_slots_all, marked_in_slots_more}
-use Rattle.mc_text.proofs.index.marks_of.Goals as goal
+use Rattle.mc_text.proofs.index.marks_of_places.Goals as goal
 
 pub loop-place-preserved : goal.loop-place-preserved
 loop-place-preserved c = record {
-  counted = length-set c.loop-place.marks.items c.slot_of.result c.mark_of.result
+  counted = length-set c.loop-place.marks.items c.index_slot.result c.mark_of_place.result
       ∙ c.loop-place.invariant.counted;
   marked = marked_in_slots_more c.slots_for-slots.result c.loop-place.marks.items c.args.numbers.now
-      c.loop-place.place c.mark_of.result c.slot_of.result 0 c.loop-place.invariant.marked
-      (omega (arith, c.loop-place-test.true, c.loop-place.auto.place-end)) c.slot_of.ensures.value
-      (omega (arith, c.slot_of.ensures.within, c.loop-place.invariant.counted)) c.mark_of.ensures;
+      c.loop-place.place c.mark_of_place.result c.index_slot.result 0 c.loop-place.invariant.marked
+      (omega (arith, c.loop-place-test.true, c.loop-place.auto.place-end)) c.index_slot.ensures.value
+      (omega (arith, c.index_slot.ensures.within, c.loop-place.invariant.counted)) c.mark_of_place.ensures;
 }
 
 pub returns-clause-each : goal.returns-clause-each

@@ -13,7 +13,7 @@ AreDistinct numbers = IsDistinct (eq_by_cmp nat_cmp) numbers
 -- that numbers that are alike get different ones (multiplicative hashing: Knuth, The Art of Computer
 -- Programming, volume 3, section 6.4).
 abbrev pub hash_by : (multiplier number : ℕ) → ℕ
-hash_by multiplier number = number * multiplier % 18446744073709551616 / 2 ^ 32
+hash_by multiplier number = number * multiplier % 2 ^ 64 / 2 ^ 32
 
 -- the slot of a number among `slots`: a hash of it, scaled down to the number of slots
 abbrev pub slot_of : (slots number : ℕ) → ℕ

@@ -18,8 +18,9 @@ use Rattle.mc_filter.specs.declared.tally.ChannelState.{ChannelState}
 use Rattle.mc_text.specs.Pair.{pair_of}
 use Rattle.mc_filter.specs.ChannelPlaces.{AreAnswersAtPlaces, AreGroupsOf, AreNumbersOf, IsAnswerAtPlace}
 use Rattle.mc_filter.specs.ChannelPlaces.{IsChannelPlace, channel_at}
-use Rattle.mc_filter.specs.Tallies.{AreTallied, is_unwanted}
+use Rattle.mc_filter.specs.Tallies.{is_unwanted}
 use Rattle.mc_filter.proofs.MergedLemmas.{Decides-wanted}
+use Rattle.mc_filter.proofs.TallyLemmas.{AreTallied}
 
 -- a list that has what another list's items map to has what each maps to
 pub contains-map : (f : ℕ × ℕ → ℕ) (xs : List (ℕ × ℕ)) (made kept : List ℕ) → made ≡ map f xs

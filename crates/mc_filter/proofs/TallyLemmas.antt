@@ -18,9 +18,18 @@ use Rattle.mc_filter.specs.declared.tally.ChannelState.{ChannelState}
 use Rattle.mc_filter.specs.declared.tally.ChannelState.TheVariants.{Included, Listed}
 use Rattle.mc_filter.specs.SourceFilter.{has}
 use Rattle.mc_filter.specs.FilterBuilding.{kind_admits, wanted}
-use Rattle.mc_filter.specs.Tallies.{AreStatesAfterRecord, AreTallied, IsTallied, channel_numbered}
+use Rattle.mc_filter.specs.Tallies.{AreStatesAfterRecord, IsTallied, channel_numbered}
 use Rattle.mc_filter.specs.Tallies.{excludes_after}
 use Rattle.mc_filter.specs.Tallies.{state_after_listing, state_after_record}
+
+-- IsTallyOf, of the numbers of EXCLUDE records and the states that a tally has
+abbrev pub AreTallied : (groups channels : List ℕ) → List Record → (excludes : List ℕ)
+    → List ChannelState → (left : List Record) → Type 0
+AreTallied groups channels records excludes state left =
+    (g c s : ℕ) (d : ChannelState) → g < length groups → c < length channels →
+    channel_numbered channels c ≡ (s, get_or groups g 0) →
+    IsTallied (get_or state c d) (get_or excludes g 0)
+    (wanted left (get_or groups g 0) s) (wanted records (get_or groups g 0) s)
 
 -- a source that a record lists twice counts once
 state_after_listing-twice : (of_kind : Kind) (excludes : ℕ) (state : ChannelState)
@@ -31,6 +40,7 @@ state_after_listing-twice kind.Exclude excludes state = grind (arith, nat_tests)
 state_after_listing-twice (kind.Change type) excludes state = refl
 state_after_listing-twice (kind.Unknown type) excludes state = refl
 
+-- a state after a listing is that after it and a record that lists the source or not
 pub state_after_record-listed : (listed : Bool) (of_kind : Kind) (excludes : ℕ) (state : ChannelState)
     → state_after_record listed of_kind excludes (state_after_listing of_kind excludes state)
     ≡ state_after_listing of_kind excludes state
@@ -53,6 +63,7 @@ AreListedUpTo channels group of_kind excludes left sources now old =
     → state_after_record (eqb group g && has left s) of_kind excludes (get_or now c d)
     ≡ state_after_record (eqb group g && has sources s) of_kind excludes (get_or old c d)
 
+-- what is false with one case is true with another case by that alone
 and_or-false : (a b c : Bool) → (a && b) ≡ false → (a && (b || c)) ≡ (a && c)
 and_or-false true true c h = absurd cc
 and_or-false true false c h = refl

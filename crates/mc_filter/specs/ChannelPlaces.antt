@@ -16,7 +16,7 @@ abbrev pub IsWantedAnswer : List Record → ℕ × ℕ → Bool → Type 0
 IsWantedAnswer records channel answer = IsTrue answer ↔ Wants records channel.1 channel.0
 
 -- the source and the group of the channel at a place
-abbrev pub channel_at : List ℕ → ChannelPlace → ℕ × ℕ
+abbrev pub channel_at : (channels : List ℕ) → ChannelPlace → ℕ × ℕ
 channel_at channels place = channel_numbered channels place.channel
 
 -- the place is that of a group among the groups, and of a channel of that group among the channels
@@ -34,13 +34,15 @@ abbrev pub AreNumbersOf : (numbers : List ℕ) → (channels : List (ℕ × ℕ)
 AreNumbersOf numbers channels = All (λ number. Contains channels (pair_of number)) numbers
 
 -- the answer is yes exactly if the channel at the place is wanted
-abbrev pub IsAnswerAtPlace : List ℕ → List Record → ChannelPlace → Bool → Type 0
+abbrev pub IsAnswerAtPlace : (channels : List ℕ) → List Record → ChannelPlace → Bool → Type 0
 IsAnswerAtPlace channels records place answer = IsWantedAnswer records (channel_at channels place) answer
 
 -- each answer is right for the channel at its place
-abbrev pub AreAnswersAtPlaces : List ℕ → List Record → List ChannelPlace → List Bool → Type 0
-AreAnswersAtPlaces channels records places answers = (i : ℕ) (d : ChannelPlace) → i < length answers
-    → IsAnswerAtPlace channels records (get_or places i d) (get_or answers i false)
+abbrev pub AreAnswersAtPlaces : (channels : List ℕ) → List Record → List ChannelPlace
+    → (answers : List Bool) → Type 0
+AreAnswersAtPlaces channels records places answers =
+    (index : ℕ) (default : ChannelPlace) → index < length answers
+    → IsAnswerAtPlace channels records (get_or places index default) (get_or answers index false)
 
 -- Each answer is right for the channel at its place, whatever groups, channels and records the
 -- tally counts.

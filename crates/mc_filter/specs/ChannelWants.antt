@@ -18,11 +18,12 @@ is_wanted_group channels records group =
 abbrev pub AreAllOfKind : Kind → (channels : List (ℕ × ℕ)) → List Record → (group : ℕ) → (sources : List ℕ)
     → Type 0
 AreAllOfKind kind.Exclude channels records group sources = IsTrue (is_wanted_group channels records group)
-AreAllOfKind kind.Include channels records group sources = All (λ s. Contains channels (s, group)) sources
+AreAllOfKind kind.Include channels records group sources =
+    All (λ source. Contains channels (source, group)) sources
 AreAllOfKind (kind.Change type) channels records group sources = Unit {0}
 AreAllOfKind (kind.Unknown type) channels records group sources = Unit {0}
 
 -- the records ask for no more than the channels
 abbrev pub AreAllAskedFor : (channels : List (ℕ × ℕ)) → List Record → Type 0
 AreAllAskedFor channels records =
-    All (λ r. AreAllOfKind r.kind channels records r.group r.sources) records
+    All (λ asked. AreAllOfKind asked.kind channels records asked.group asked.sources) records

@@ -11,7 +11,7 @@ use Rattle.mc_filter.specs.declared.filter_builder.FilterBuilder.{FilterBuilder}
 use Rattle.mc_filter.specs.SourceFilter.{has, admits}
 
 -- whether a record of a kind admits a source, by whether its list has the source
-abbrev pub kind_admits : Kind → Bool → Bool
+abbrev pub kind_admits : Kind → (listed : Bool) → Bool
 kind_admits kind.Include listed = listed
 kind_admits kind.Exclude listed = not listed
 kind_admits (kind.Change type) listed = false
@@ -30,19 +30,20 @@ is_exclude_mode Include = false
 is_exclude_mode Exclude = true
 
 -- whether the record is for the group and admits the source
-abbrev pub wanted_by : ℕ → ℕ → Record → Bool
-wanted_by group s r = r.group == group && kind_admits r.kind (has r.sources s)
+abbrev pub wanted_by : (group source : ℕ) → Record → Bool
+wanted_by group source group_record =
+    group_record.group == group && kind_admits group_record.kind (has group_record.sources source)
 
 -- whether the record is an EXCLUDE record for the group
-abbrev pub is_exclude_for : ℕ → Record → Bool
-is_exclude_for group r = r.group == group && is_exclude r.kind
+abbrev pub is_exclude_for : (group : ℕ) → Record → Bool
+is_exclude_for group group_record = group_record.group == group && is_exclude group_record.kind
 
 -- whether some record is for the group and admits the source
-abbrev pub wanted : List Record → ℕ → ℕ → Bool
-wanted records group s = list_any (wanted_by group s) records
+abbrev pub wanted : List Record → (group source : ℕ) → Bool
+wanted records group source = list_any (wanted_by group source) records
 
 -- whether some record is an EXCLUDE record for the group
-abbrev pub has_exclude : List Record → ℕ → Bool
+abbrev pub has_exclude : List Record → (group : ℕ) → Bool
 has_exclude records group = list_any (is_exclude_for group) records
 
 -- The filter so far, the sources that were included and the records that are left want together
@@ -51,6 +52,6 @@ pub record BuildsFilter (records : List Record) (group : ℕ) (filter_builder : 
     (left : List Record) : Type 0 where
   pub excludes : (is_exclude_mode filter_builder.filter.mode || has_exclude left group)
       ≡ has_exclude records group
-  pub wants : (s : ℕ) →
-      ((admits filter_builder.filter s || has filter_builder.included.items s) || wanted left group s)
-      ≡ wanted records group s
+  pub wants : (source : ℕ) →
+      ((admits filter_builder.filter source || has filter_builder.included.items source)
+      || wanted left group source) ≡ wanted records group source

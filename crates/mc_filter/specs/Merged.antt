@@ -9,27 +9,30 @@ use Rattle.mc_filter.specs.declared.filter.Mode.TheVariants.{Include, Exclude}
 use Rattle.mc_filter.specs.SourceFilter.{SourceFilter}
 
 -- the record is for the group, and of this kind
-abbrev pub IsRecordFor : ℕ → Kind → Record → Type 0
-IsRecordFor group of_kind r = (r.group ≡ group) × (r.kind ≡ of_kind)
+abbrev pub IsRecordFor : (group : ℕ) → Kind → Record → Type 0
+IsRecordFor group of_kind group_record =
+    (group_record.group ≡ group) × (group_record.kind ≡ of_kind)
 
 -- some record for the group is an EXCLUDE record
-abbrev pub HasExclude : List Record → ℕ → Type 0
+abbrev pub HasExclude : List Record → (group : ℕ) → Type 0
 HasExclude records group = Any (IsRecordFor group kind.Exclude) records
 
 -- the source is in the union of the INCLUDE lists for the group
-abbrev pub InSomeInclude : List Record → ℕ → ℕ → Type 0
-InSomeInclude records group source = Any (λ r. IsRecordFor group kind.Include r
-    × Contains r.sources source) records
+abbrev pub InSomeInclude : List Record → (group source : ℕ) → Type 0
+InSomeInclude records group source =
+    Any (λ group_record. IsRecordFor group kind.Include group_record
+    × Contains group_record.sources source) records
 
 -- the source is in the intersection of the EXCLUDE lists for the group
-abbrev pub InEachExclude : List Record → ℕ → ℕ → Type 0
-InEachExclude records group source = All (λ r. IsRecordFor group kind.Exclude r
-    → Contains r.sources source) records
+abbrev pub InEachExclude : List Record → (group source : ℕ) → Type 0
+InEachExclude records group source =
+    All (λ group_record. IsRecordFor group kind.Exclude group_record
+    → Contains group_record.sources source) records
 
 -- The records for the group merge to this mode and these sources. If there is an EXCLUDE record:
 -- EXCLUDE, of the intersection of the EXCLUDE lists less the sources of all INCLUDE lists.
 -- Otherwise: INCLUDE, of the union of the INCLUDE lists.
-abbrev pub IsMergedIn : Mode → List ℕ → List Record → ℕ → Type 0
+abbrev pub IsMergedIn : Mode → (sources : List ℕ) → List Record → (group : ℕ) → Type 0
 IsMergedIn Exclude sources records group =
     HasExclude records group
     × ((source : ℕ) → Contains sources source ↔

@@ -4,7 +4,7 @@ ghost use Rattle.std.specs.Prelude.{◌≡◌, ◌<◌, ℕ, Bool, Contains, IfO
 ghost use Rattle.std.specs.Prelude.{length, map, slice_get, vec_len};
 ghost use Rattle.std.specs.List.{All};
 ghost use Rattle.mc_text.specs.Pair.{pair_number};
-ghost use Rattle.mc_filter.specs.ChannelPlaces.{AreAnswersOfTally, AreGroupsOf, AreNumbersOf};
+ghost use Rattle.mc_filter.specs.ChannelPlaces.{AreAnswersOfTally, AreNumbersOf};
 ghost use Rattle.mc_filter.specs.ChannelPlaces.{IsChannelPlace, IsWantedAnswer, channel_at};
 ghost use Rattle.mc_filter.specs.ChannelWants.{AreAllAskedFor};
 ghost use Rattle.mc_filter.specs.Tallies.{CountsRecord, IsTallyOf, KeepsToChannels};
@@ -12,7 +12,7 @@ ghost use Rattle.mc_filter.specs.Tallies.{KeepToChannelsUnlessMore};
 
 use crate::tally::Tally;
 use mc_igmp::{Record, ReportList};
-use mc_text::{Addr, Index, Memory, pair_number, pair_numbers};
+use mc_text::{Addr, Index, Memory, index_of_groups, pair_number, pair_numbers};
 use std::alloc::Global;
 use std::marker::Model;
 
@@ -21,26 +21,6 @@ use std::marker::Model;
 struct ChannelPlace {
     group: usize,
     channel: usize,
-}
-
-/// The group of each channel, as a number.
-fn group_numbers(alloc: Global, asked: &[(Addr, Addr)]) -> Result<Vec<u64>, Memory>
-    ensures { IfOk result (λ numbers. numbers.items ≡ map (λ channel. channel.1) asked.now) }
-{
-    let mut numbers = Vec::with_capacity(alloc, asked.len())?;
-    for channel in asked {
-        numbers.push(u64::from(channel.1.to_bits()))?;
-    }
-    Ok(numbers)
-}
-
-/// An index of the groups of channels.
-fn index_of_groups(alloc: Global, asked: &[(Addr, Addr)]) -> Result<Index, Memory>
-    ensures each { IfOk result (λ groups. All (λ channel. Contains groups channel.1) asked.now) }
-    ensures only { IfOk result (λ groups. AreGroupsOf groups asked.now) }
-{
-    let numbers = group_numbers(alloc, asked)?;
-    Index::of(alloc, numbers)
 }
 
 /// An index of channels.

@@ -22,7 +22,7 @@ pub use io::{
     read_to_limit, write_all,
 };
 pub use memory::Memory;
-pub use pair::{pair_number, pair_numbers, pair_of_number};
+pub use pair::{index_of_groups, pair_number, pair_numbers, pair_of_number};
 pub use text::{
     Addr, GroupRange, Line, Lines, MAX_TEXT, Order, Words, are_hex_digits, bytes_of_hex_digits,
     decimal, find_byte, hex_value_or_16, is_device_name,

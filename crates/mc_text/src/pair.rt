@@ -1,8 +1,9 @@
 //! A source and a group as one number, which is faster to compare and to look up than the pair.
 
-ghost use Rattle.std.specs.Prelude.{◌≡◌, IfOk, map};
+ghost use Rattle.std.specs.Prelude.{◌≡◌, ◌↔◌, ℕ, Contains, IfOk, map};
 ghost use Rattle.mc_text.specs.Pair.{pair_number, pair_of};
 
+use crate::index::Index;
 use crate::memory::Memory;
 use crate::text::Addr;
 use std::alloc::Global;
@@ -39,4 +40,28 @@ pub fn pair_numbers(alloc: Global, pairs: &[(Addr, Addr)]) -> Result<Vec<u64>, M
         numbers.push(pair_number(pair.0, pair.1))?;
     }
     Ok(numbers)
+}
+
+/// The group of each pair of a source and a group, as a number, in their order.
+fn group_numbers(alloc: Global, pairs: &[(Addr, Addr)]) -> Result<Vec<u64>, Memory>
+    ensures { IfOk result (λ numbers. numbers.items ≡ map (λ pair. pair.1) pairs.now) }
+{
+    let mut numbers = Vec::with_capacity(alloc, pairs.len())?;
+    for pair in pairs {
+        numbers.push(u64::from(pair.1.to_bits()))?;
+    }
+    Ok(numbers)
+}
+
+/// An index of the groups of pairs of a source and a group.
+///
+/// # Errors
+///
+/// `Memory` if an allocation is refused.
+pub fn index_of_groups(alloc: Global, pairs: &[(Addr, Addr)]) -> Result<Index, Memory>
+    ensures { IfOk result (λ groups. (group : ℕ) →
+        Contains groups group ↔ Contains (map (λ pair. pair.1) pairs.now) group) }
+{
+    let numbers = group_numbers(alloc, pairs)?;
+    Index::of(alloc, numbers)
 }

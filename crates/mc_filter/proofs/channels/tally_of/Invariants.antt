@@ -1,12 +1,11 @@
 use Rattle.std.proofs.Common.{◌≡◌, length}
-use Rattle.mc_filter.specs.Tallies.{AreTallied, KeepToChannelsUnlessMore}
+use Rattle.mc_filter.specs.Tallies.{IsTallyOf, KeepToChannelsUnlessMore}
 use Rattle.mc_filter.proofs.channels.tally_of.Given as goal
 
 abbrev pub invariant-loop-group_record : goal.invariant-loop-group_record
 invariant-loop-group_record l = record {
   groups : length l.tally.excludes.items ≡ length l.fn.groups;
   channels : length l.tally.states.items ≡ length l.fn.channels;
-  each : AreTallied l.fn.groups l.fn.channels l.fn.reports l.tally.excludes.items
-      l.tally.states.items l.group_record-iterator;
+  each : IsTallyOf l.fn.groups l.fn.channels l.fn.reports l.tally l.group_record-iterator;
   more : KeepToChannelsUnlessMore l.fn.groups l.fn.channels l.fn.reports l.tally l.group_record-iterator;
 }

@@ -2,7 +2,7 @@ use Rattle.std.proofs.Common.{◌≡◌, ℕ, List, [], length}
 use Rattle.std.specs.List.{All}
 use Rattle.mc_igmp.specs.declared.record.Record.{Record}
 use Rattle.mc_filter.specs.ChannelPlaces.{AreAnswersAtPlaces, IsChannelPlace}
-use Rattle.mc_filter.specs.Tallies.{AreTallied}
+use Rattle.mc_filter.specs.Tallies.{IsTallyOf}
 use Rattle.mc_filter.proofs.channels.wanted_answers.Given as goal
 
 abbrev pub invariant-loop-place : goal.invariant-loop-place
@@ -11,6 +11,6 @@ invariant-loop-place l = record {
   each : (groups channels : List ℕ) (records : List Record)
       → length l.fn.tally.excludes.items ≡ length groups
       → All (IsChannelPlace groups channels) l.fn.places
-      → AreTallied groups channels records l.fn.tally.excludes.items l.fn.tally.states.items []
+      → IsTallyOf groups channels records l.fn.tally []
       → AreAnswersAtPlaces channels records l.fn.places l.answers.items;
 }

@@ -1,4 +1,5 @@
 pub mod Explained
+pub mod ExplanationValues
 pub mod RowText
 pub mod EverySourceText
 pub mod Indented

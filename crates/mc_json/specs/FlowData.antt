@@ -219,25 +219,3 @@ wrong_data number f w = object_data (wrong_members number f w)
 -- the events of a travel, if they are asked for
 abbrev pub events_if_asked : TopologyValue → Net → (events_asked : Bool) → List Event → Option (List Data)
 events_if_asked t n events_asked es = if events_asked then Some (map (event_data t n) es) else None
-
--- what is written of the flow with this number, from what is found of it and what explains that
-abbrev pub wrong_flow_of : DomainFacts → (flow : ℕ) → Certainty → (found_ttl : ℕ) → Finding → List Event
-    → (also : List ℕ) → (behind : Data) → (why : List Data) → (events_asked : Bool) → WrongFlow
-wrong_flow_of d flow certainty found_ttl finding events also behind why events_asked = record {
-  certainty = certainty;
-  also = map (lan_data d.topology) also;
-  at_flow_ttl = optional_finding_data d.topology certainty.shown_by.at_flow_ttl;
-  behind = behind;
-  events = events_if_asked d.topology (d.nets flow) events_asked events;
-  finding = finding_data d.topology finding;
-  found_ttl = found_ttl;
-  wanted = map (lan_data d.topology) (lans_wanting d flow);
-  why = why;
-}
-
--- the line of such a flow
-abbrev pub wrong_line : DomainFacts → (flow : ℕ) → Flow → Certainty → (found_ttl : ℕ) → Finding → List Event
-    → (also : List ℕ) → (behind : Data) → (why : List Data) → (events_asked : Bool) → List ℕ
-wrong_line d flow f certainty found_ttl finding events also behind why events_asked =
-    line_of (wrong_data flow f
-    (wrong_flow_of d flow certainty found_ttl finding events also behind why events_asked))

@@ -54,8 +54,6 @@ use Rattle.mc_json.specs.FlowData.{tree_data}
 use Rattle.mc_json.specs.ObjectLines.{AreObjectLines, BeginsObject, IsNotVerdict}
 use Rattle.mc_json.specs.RowData.{line_of}
 use Rattle.mc_json.specs.RowData.{lan_data}
-use Rattle.mc_json.specs.BehindData.{behind_data}
-use Rattle.mc_json.specs.WhyData.{why_data}
 use Rattle.mc_json.proofs.EachLineLemmas.{are_object_lines-asked, are_object_lines-asked_more}
 use Rattle.mc_json.proofs.EachLineLemmas.{are_object_lines-asked_services}
 use Rattle.mc_json.proofs.EachLineLemmas.{are_object_lines-domain, are_object_lines-right}
@@ -68,10 +66,11 @@ use Rattle.mc_run.specs.AuditEnd.{FlowAnswer, begin_lines, count, end_text_or_ob
 use Rattle.mc_run.specs.AuditEnd.{end_objects, end_text, is_right, is_unknown, is_unwanted, is_wrong}
 use Rattle.mc_run.specs.AuditEnd.{option_words, strict_lines, strict_line, summary_line}
 use Rattle.mc_run.specs.AuditEnd.{summary_of_flows}
-use Rattle.mc_run.specs.AuditObjects.{key_of_tree, tree_line, tree_number}
+use Rattle.mc_run.specs.AuditObjects.{found_travel, key_of_tree, tree_line, tree_number}
 use Rattle.mc_run.specs.AuditRun.{AreFlowAnswers, IsFlowAnswer, AuditedValue, is_whole, is_yes, excluded}
 use Rattle.mc_run.specs.AuditRun.{AreYesWords, trees_shown, yes_object}
-use Rattle.mc_run.specs.AuditText.{Explanation, events_if_shown, explanation_lines, right_line}
+use Rattle.mc_explain.specs.ExplanationValues.{ExplanationValue}
+use Rattle.mc_run.specs.AuditText.{events_if_shown, explanation_lines, right_line}
 use Rattle.mc_run.specs.AuditText.{at_flow_ttl_text, behind_text, deeper_shown_from_text}
 use Rattle.mc_run.specs.AuditText.{found_flow_line, known_word, searched_lines, second_behind_text}
 use Rattle.mc_run.specs.AuditText.{shown_by_text, shown_from_text}
@@ -399,7 +398,7 @@ no_yes_line-behind_text d summary flow (Some b) ok =
 
 -- the lines of an explanation
 no_yes_line-explanation_lines : (d : DomainFacts) (summary : List SummaryValue) (flow : ℕ)
-    (x : Explanation) → IsValidTopology d.topology → AreLinesWithoutYes
+    (x : ExplanationValue) → IsValidTopology d.topology → AreLinesWithoutYes
     (explanation_lines d summary flow x)
 no_yes_line-explanation_lines d summary flow x ok =
     no_yes_line-append (causes_text d summary flow x.printed) _
@@ -418,13 +417,11 @@ no_yes_line-explanation_lines d summary flow x ok =
 -- the lines of a flow with a finding, in text or in JSON
 no_yes_line-wrong_lines_or_object : (json travels : Bool) (d : DomainFacts)
     (summary : List SummaryValue) (flow : ℕ)
-    (ttl : ℕ) (travel : Travel) (x : Explanation) → IsValidTopology d.topology
+    (ttl : ℕ) (travel : Travel) (x : ExplanationValue) → IsValidTopology d.topology
     → AreLinesWithoutYes (wrong_lines_or_object json travels d summary flow ttl travel x)
 no_yes_line-wrong_lines_or_object true travels d summary flow ttl travel x ok =
     no_yes_line-objects _
-    (are_object_lines-wrong d flow (flow_at d.topology flow) x.certainty ttl travel.finding
-    travel.events.items x.also
-    (behind_data d summary flow x.behind) (why_data d summary flow x.printed x.search) travels)
+    (are_object_lines-wrong d summary (found_travel travels flow ttl travel) x)
 no_yes_line-wrong_lines_or_object false travels d summary flow ttl travel x ok =
     let t = d.topology in
     no_yes_line-append (found_flow_line t (flow_at t flow) x.certainty.known travel.finding) _
@@ -436,7 +433,7 @@ no_yes_line-wrong_lines_or_object false travels d summary flow ttl travel x ok =
 
 -- the lines of a flow's answer
 no_yes_line-answer_lines : (o : AuditOptions) (whole : Bool) (d : DomainFacts) (summary : List SummaryValue)
-    (printed : List Tree) (flow : ℕ) (x : Examined) (e : Explanation) (wanted : List ℕ)
+    (printed : List Tree) (flow : ℕ) (x : Examined) (e : ExplanationValue) (wanted : List ℕ)
     → IsValidTopology d.topology
     → AreLinesWithoutYes (answer_lines o whole d summary printed flow x e wanted)
 no_yes_line-answer_lines o whole d summary printed flow (Certified entries) e wanted ok =

@@ -55,7 +55,7 @@ use Rattle.mc_run.specs.AuditExplanation.{IsBehindAt255, IsBehindIfStray, IsFoun
 use Rattle.mc_run.specs.AuditExplanation.{IsFoundAtFlowTtlIf, IsFoundBelow, IsShownBy, IsShownFromAt255}
 use Rattle.mc_run.specs.AuditExplanation.{IsShownFromUnless, certain_finding, is_known_wrong}
 use Rattle.mc_run.specs.AuditExplanation.{search_context, without_remedies}
-use Rattle.mc_run.specs.AuditText.{Explanation}
+use Rattle.mc_explain.specs.ExplanationValues.{ExplanationValue}
 use Rattle.mc_run.specs.MakeRun.{IsExamined}
 
 -- ---- entries by ascending numbers of their LANs
@@ -450,7 +450,7 @@ is_behind_at_255-unique whole d flow (FoundAtFlowTtl a b) (FoundAtTtl255 c) s t 
 -- ---- whole explanations
 
 -- Two explanations are the same.
-pub record IsSameExplanation (x y : Explanation) : Type 0 where
+pub record IsSameExplanation (x y : ExplanationValue) : Type 0 where
   pub printed : x.printed ≡ y.printed
   pub search : HaveSameSearch x.search y.search
   pub also : x.also ≡ y.also
@@ -549,8 +549,9 @@ same_certainty x y known shown = λ i. record { known = known i; shown_by = show
 
 -- so two explanations of a flow are the same
 pub is_explanation-unique : (d : DomainValue) (summary : List SummaryValue) (excluded : List Bool)
-    (whole : Bool) (flow : ℕ) (a b : ExaminedFlights) (x y : Explanation) → IsDomain d → HaveSameFlights a b
-    → IsExplanation d summary excluded whole flow a x → IsExplanation d summary excluded whole flow b y
+    (whole : Bool) (flow : ℕ) (a b : ExaminedFlights) (x y : ExplanationValue) → IsDomain d
+    → HaveSameFlights a b → IsExplanation d summary excluded whole flow a x
+    → IsExplanation d summary excluded whole flow b y
     → IsSameExplanation x y
 is_explanation-unique d summary excluded whole flow a b x y ok same p q =
     let search = is_search_if_missed-unique (facts d) summary excluded flow a b x.search y.search same

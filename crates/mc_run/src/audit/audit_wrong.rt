@@ -2,7 +2,8 @@
 
 ghost use Rattle.std.specs.Prelude.{◌≡◌, ◌<◌, ◌++◌, IfOk, OnOk, length};
 ghost use Rattle.std.specs.String.{string_bytes};
-ghost use Rattle.mc_run.specs.AuditPieces.{audited_value, explanation_lines_of, explanation_value};
+ghost use Rattle.mc_explain.specs.ExplanationValues.{explanation_value};
+ghost use Rattle.mc_run.specs.AuditPieces.{audited_value, explanation_lines_of};
 ghost use Rattle.mc_run.specs.AuditPieces.{searched_lines_of, explained_lines_of, status_of_wrong_flow};
 ghost use Rattle.mc_run.specs.AuditPieces.{wrong_flow_lines_of, behind_lines_of, second_behind_of};
 ghost use Rattle.mc_run.specs.AuditPieces.{wrong_lines_of, wrong_object_of};

@@ -7,9 +7,11 @@ returns-then-not-events_asked c = record {
       (rw (
         c.topology-topology.ensures.topology,
         c.flow.ensures,
+        c.in_ok-behind.ensures,
+        c.in_ok-why.ensures,
         c.in_ok-wanted.ensures,
         ← c.requires.number,
-      ) at (c.object.ensures _ (c.value-fields.ensures _ _ (c.value-2.ensures _ _
+      ) at (c.in_ok-object.ensures _ (c.value-fields.ensures _ _ (c.value-2.ensures _ _
       (c.value.ensures _ _ (c.list.ensures _ _ c.wrong_fields.ensures c.lan_names.ensures)
       c.optional_finding_value-at_flow_ttl.ensures) refl)
       c.finding_value.ensures)));
@@ -21,10 +23,12 @@ returns c = record {
       (rw (
         c.topology-topology.ensures.topology,
         c.flow.ensures,
+        c.in_ok-behind.ensures,
+        c.in_ok-why.ensures,
         c.in_ok-wanted.ensures,
         c.deref.ensures.value,
         ← c.requires.number,
-      ) at (c.object-2.ensures _
+      ) at (c.in_ok-object-2.ensures _
       (c.list-2.ensures _ _ (c.value-fields.ensures _ _ (c.value-2.ensures _ _
       (c.value.ensures _ _ (c.list.ensures _ _ c.wrong_fields.ensures c.lan_names.ensures)
       c.optional_finding_value-at_flow_ttl.ensures) refl)

@@ -9,7 +9,7 @@ use Rattle.mc_theory.specs.Certificates.{Entry}
 use Rattle.mc_theory.specs.Events.{Event, Outcome}
 use Rattle.mc_theory.specs.Events.Outcome.{Open, NoRow, OtherVif, Sent}
 use Rattle.mc_theory.specs.Nets.{Interface, Net, Row}
-use Rattle.mc_theory.specs.Nets.Row.{Exact, Open as open_row, NoRow as no_row}
+use Rattle.mc_theory.specs.CertificateOfCopies.{row_pairs}
 use Rattle.mc_forward.specs.ListedTables.{DomainFacts}
 use Rattle.mc_explain.specs.WantedText.{lans_wanting}
 use Rattle.mc_replay.specs.declared.finding.Finding.{Finding}
@@ -102,12 +102,10 @@ finding_data t (Missed lan) = finding_at_lan t (codes "Missed") lan
 abbrev pub passed_vif : (ttl : ℕ) → ℕ × ℕ → List ℕ
 passed_vif ttl p = if nat_lt p.1 ttl then p.0 ∷ [] else []
 
--- The vifs by which a row sends a copy that came with this TTL, in the row's order, which is ascending,
--- whether they are placed or not.
+-- the vifs by which a row sends a copy that came with this TTL, whether they are placed or not, in the row's
+-- order, which is ascending
 abbrev pub passed_vifs : (ttl : ℕ) → Row → List ℕ
-passed_vifs ttl (Exact incoming pairs) = flat_map (passed_vif ttl) pairs
-passed_vifs ttl open_row = []
-passed_vifs ttl no_row = []
+passed_vifs ttl row = flat_map (passed_vif ttl) (row_pairs row)
 
 -- the vifs by which copies went in an event that sent some
 abbrev pub sent_vifs : Net → Event → List ℕ

@@ -1,11 +1,11 @@
 -- The text of a line's fact (Lines), with the names of the topology and of the vif tables.
 use Rattle.std.specs.Prelude.{ℕ, Bool, true, false, List, [], codes, decimal}
 use Rattle.mc_theory.specs.Nets.{Row as NetRow}
-use Rattle.mc_theory.specs.Nets.Row.{Exact, Open, NoRow}
 use Rattle.mc_topology.specs.Topology.{TopologyValue, lan_name, router_name}
 use Rattle.mc_explain.specs.EverySourceText.{every_source_text}
 use Rattle.mc_explain.specs.ShownNames.{routers_text}
 use Rattle.mc_explain.specs.RowText.{device_name_text, device_text, flow_row_text, incoming_text}
+use Rattle.mc_explain.specs.RowText.{of_entry_or}
 use Rattle.mc_explain.specs.TopologyLans.{interface_at}
 use Rattle.mc_lines.specs.FlowContext.{FlowContext, flow_of, row_of}
 use Rattle.mc_lines.specs.Lines.{FactValue}
@@ -18,9 +18,7 @@ interface_text t interface = device_name_text (interface_at t interface).device
 
 -- the number of a row's incoming vif; nothing for a row without one
 abbrev pub incoming_number_text : NetRow → List ℕ
-incoming_number_text (Exact incoming pairs) = decimal incoming
-incoming_number_text Open = []
-incoming_number_text NoRow = []
+incoming_number_text row = of_entry_or [] (λ incoming pairs. decimal incoming) row
 
 -- whether something holds, as `true` or `false`
 abbrev pub flag_text : Bool → List ℕ

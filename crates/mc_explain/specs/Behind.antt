@@ -56,12 +56,12 @@ abbrev pub is_other_leak : Net → (own i : Interface) → Bool
 is_other_leak n own i = not (is_open (n.row i.0)) && not (is_sender (Some own) i)
 
 -- these routers and then router r, unless it is one of them
-abbrev pub with_router : List ℕ → ℕ → List ℕ
-with_router routers r = if list_any (λ q. q == r) routers then routers else (routers ++ r ∷ [])
+abbrev pub with_router_once : List ℕ → ℕ → List ℕ
+with_router_once routers r = if list_any (λ q. q == r) routers then routers else (routers ++ r ∷ [])
 
 -- these routers and then the stray's, if its row isn't followed
 abbrev pub with_open_router : Net → List ℕ → Interface → List ℕ
-with_open_router n routers i = if is_open (n.row i.0) then with_router routers i.0 else routers
+with_open_router n routers i = if is_open (n.row i.0) then with_router_once routers i.0 else routers
 
 -- the routers whose rows aren't followed, of those at which copies left, each once
 abbrev pub open_routers : Net → List Interface → List ℕ

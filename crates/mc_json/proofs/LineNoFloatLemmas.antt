@@ -18,7 +18,7 @@ use Rattle.serde_json.specs.Written.{has_float, members_have_float}
 use Rattle.mc_lines.specs.CauseLines.{cause_items, cause_lines}
 use Rattle.mc_lines.specs.ExplanationText.{context_of}
 use Rattle.mc_lines.specs.Filled.{joined_sentences}
-use Rattle.mc_lines.specs.FlowContext.{FlowContext, flow_of, row_of}
+use Rattle.mc_lines.specs.FlowContext.{FlowContext, flow_of, row_for_flow}
 use Rattle.mc_lines.specs.Lines.{FactValue, Line}
 use Rattle.mc_lines.specs.Lines.FactValue.{Lan, Router, Device, Interface, IncomingDevice, IncomingVif, Row}
 use Rattle.mc_lines.specs.Lines.FactValue.{EverySourceRow, Flag, Number, Routers}
@@ -66,8 +66,8 @@ no_float-fact_data c (Lan lan) = refl
 no_float-fact_data c (Router router) = refl
 no_float-fact_data c (Device router vif) = no_float-device_data (c.domain.vifs router vif)
 no_float-fact_data c (Interface interface) = refl
-no_float-fact_data c (IncomingDevice router) = no_float-incoming_device c.domain router (row_of c router)
-no_float-fact_data c (IncomingVif router) = no_float-incoming_vif (row_of c router)
+no_float-fact_data c (IncomingDevice router) = no_float-incoming_device c.domain router (row_for_flow c router)
+no_float-fact_data c (IncomingVif router) = no_float-incoming_vif (row_for_flow c router)
 no_float-fact_data c (Row router) = no_float-flow_row_data c.domain c.flow router
 no_float-fact_data c (EverySourceRow router) =
     no_float-every_source_row_data c.domain router (every_source_of c.summary (flow_of c).group router)

@@ -27,7 +27,7 @@ use Rattle.mc_json.specs.FlowData.{event_data, events_if_asked, finding_data, pa
 use Rattle.mc_json.specs.FlowData.{interface_router, interface_vif, outcome_data, reached_data, right_data}
 use Rattle.mc_json.specs.EndData.{unlisted_data}
 use Rattle.serde_json.specs.Data.{null}
-use Rattle.mc_json.specs.AskedData.{address_data, asked_data_of, service_data, source_data}
+use Rattle.mc_json.specs.AskedData.{address_data, asked_data_of, service_data, want_source_data}
 use Rattle.mc_asked.specs.ListWants.{Want}
 use Rattle.mc_explain.specs.declared.asked.asked_text.AskedLine.{AskedLine}
 use Rattle.mc_json.specs.FlowData.{optional_finding_data, shown_from_data, tree_data, wrong_data}
@@ -257,8 +257,8 @@ no_float-addresses : (addresses : List ℕ) → HaveNoFloat (map address_data ad
 no_float-addresses addresses = no_float-map address_data (λ address. refl) addresses
 
 -- a want's source, or null for any
-no_float-source_data : (source : ℕ) → has_float (source_data source) ≡ false
-no_float-source_data source = elim (source == 0) as (λ b.
+no_float-want_source_data : (source : ℕ) → has_float (want_source_data source) ≡ false
+no_float-want_source_data source = elim (source == 0) as (λ b.
     has_float (cond b null (address_data source)) ≡ false) [
       | true ↦ refl
       | false ↦ refl
@@ -271,7 +271,7 @@ no_float-asked_data t line = rw (
   no_float-addresses line.listed.now,
   no_float-routers t line.routers.now.none_out.items,
   no_float-routers t line.routers.now.forwards.items,
-  no_float-source_data line.want.now.1,
+  no_float-want_source_data line.want.now.1,
   no_float-routers t line.routers.now.every_source.items,
 )
 

@@ -23,8 +23,8 @@ abbrev pub address_data : ℕ → Data
 address_data address = string (dotted address)
 
 -- the source of a want, or null for any
-abbrev pub source_data : ℕ → Data
-source_data source = if source == any_source then null else address_data source
+abbrev pub want_source_data : ℕ → Data
+want_source_data source = if source == any_source then null else address_data source
 
 -- a want and its LANs, the listed sources of its group, and the routers by what they have for it: an entry
 -- that goes out to no LAN (`none_out`), one that goes out to a LAN (`forwards`), or a (*,G) or (*,*) entry
@@ -36,7 +36,7 @@ asked_object t line listed none_out forwards star = single_member (codes "asked"
     ∷ (codes "listed", list_data (map address_data listed))
     ∷ (codes "none", routers_data t none_out)
     ∷ (codes "routers", routers_data t forwards)
-    ∷ (codes "source", source_data line.0.1)
+    ∷ (codes "source", want_source_data line.0.1)
     ∷ (codes "star", routers_data t star) ∷ []))
 
 -- the object of a line that the audit has made

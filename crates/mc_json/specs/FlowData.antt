@@ -112,13 +112,13 @@ abbrev pub sent_vifs : Net → Event → List ℕ
 sent_vifs n e = passed_vifs e.ttl (n.row e.router)
 
 -- vifs by their numbers
-abbrev pub vifs_data : List ℕ → Data
-vifs_data vifs = list_data (map count_data vifs)
+abbrev pub vif_numbers_data : List ℕ → Data
+vif_numbers_data vifs = list_data (map count_data vifs)
 
 -- an event that sent no copies, with this outcome
 abbrev pub event_without_copies_data : TopologyValue → Event → (outcome : List ℕ) → Data
 event_without_copies_data t e outcome = object_data (
-    (codes "onto", vifs_data [])
+    (codes "onto", vif_numbers_data [])
     ∷ (codes "outcome", string outcome)
     ∷ (codes "router", router_data t e.router)
     ∷ (codes "ttl", count_data e.ttl)
@@ -128,7 +128,7 @@ event_without_copies_data t e outcome = object_data (
 abbrev pub event_with_copies_data : TopologyValue → Event → (copies strays : ℕ) → (vifs : List ℕ) → Data
 event_with_copies_data t e copies strays vifs = object_data (
     (codes "copies", count_data copies)
-    ∷ (codes "onto", vifs_data vifs)
+    ∷ (codes "onto", vif_numbers_data vifs)
     ∷ (codes "outcome", string (codes "sent"))
     ∷ (codes "router", router_data t e.router)
     ∷ (codes "strays", count_data strays)

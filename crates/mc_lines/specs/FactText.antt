@@ -7,7 +7,7 @@ use Rattle.mc_explain.specs.ShownNames.{routers_text}
 use Rattle.mc_explain.specs.RowText.{device_name_text, device_text, flow_row_text, incoming_text}
 use Rattle.mc_explain.specs.RowText.{of_entry_or}
 use Rattle.mc_explain.specs.TopologyLans.{interface_at}
-use Rattle.mc_lines.specs.FlowContext.{FlowContext, flow_of, row_of}
+use Rattle.mc_lines.specs.FlowContext.{FlowContext, flow_of, row_for_flow}
 use Rattle.mc_lines.specs.Lines.{FactValue}
 use Rattle.mc_lines.specs.Lines.FactValue.{Lan, Router, Device, Interface, IncomingDevice, IncomingVif, Row}
 use Rattle.mc_lines.specs.Lines.FactValue.{EverySourceRow, Flag, Number, Routers}
@@ -31,8 +31,8 @@ fact_text c (Lan lan) = lan_name c.domain.topology lan
 fact_text c (Router router) = router_name c.domain.topology router
 fact_text c (Device router vif) = device_text c.domain router vif
 fact_text c (Interface interface) = interface_text c.domain.topology interface
-fact_text c (IncomingDevice router) = incoming_text c.domain router (row_of c router)
-fact_text c (IncomingVif router) = incoming_number_text (row_of c router)
+fact_text c (IncomingDevice router) = incoming_text c.domain router (row_for_flow c router)
+fact_text c (IncomingVif router) = incoming_number_text (row_for_flow c router)
 fact_text c (Row router) = flow_row_text c.domain c.flow router
 fact_text c (EverySourceRow router) = every_source_text c.domain c.summary (flow_of c).group router
 fact_text c (Flag flag) = flag_text flag

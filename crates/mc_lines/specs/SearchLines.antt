@@ -19,7 +19,7 @@ use Rattle.mc_explain.specs.declared.searches.shown_line.ShownLine.{ShownLine}
 use Rattle.mc_explain.specs.declared.searches.shown_line.ShownLine.TheVariants.{One, Expected}
 use Rattle.mc_explain.specs.RowText.{of_entry_or}
 use Rattle.mc_explain.specs.ShownLines.{shown_lines}
-use Rattle.mc_lines.specs.FlowContext.{FlowContext, row_of}
+use Rattle.mc_lines.specs.FlowContext.{FlowContext, row_for_flow}
 use Rattle.mc_lines.specs.Lines.{Line, line}
 use Rattle.mc_lines.specs.Lines.FactValue.{Lan, Router, Device, Interface, IncomingDevice, IncomingVif, Row}
 use Rattle.mc_lines.specs.Lines.FactValue.{EverySourceRow, Flag, Number, Routers}
@@ -116,7 +116,7 @@ search_line c (EverySource lan router) = line (codes "every_source")
     ++ codes "which is not audited: {row}") ∷ [])
     ((codes "lan", Lan lan) ∷ (codes "router", Router router) ∷ (codes "row", EverySourceRow router) ∷ [])
 search_line c (FromUnplaced lan router) =
-    from_unplaced_line (incoming_reason c.domain router (row_of c router)) lan router
+    from_unplaced_line (incoming_reason c.domain router (row_for_flow c router)) lan router
 search_line c (DoesNotSend lan router vif from carried) = line (codes "does_not_send")
     (missing_sentence carried ∷ [])
     ((codes "carried", Flag carried)

@@ -12,7 +12,7 @@ ghost use Rattle.mc_replay.specs.PastStrays.{finding_of_double};
 ghost use Rattle.std.specs.List.{list_any};
 ghost use Rattle.mc_explain.specs.Behind.{IsBehind, IsBehindIn, double_causes, is_missed, is_open};
 ghost use Rattle.mc_explain.specs.Behind.{is_other_leak, missed_lans, missed_unless_open, open_routers};
-ghost use Rattle.mc_explain.specs.Behind.{second_causes, with_open_router, with_router};
+ghost use Rattle.mc_explain.specs.Behind.{second_causes, with_open_router, with_router_once};
 ghost use Rattle.mc_explain.specs.Explained.{sender_causes};
 ghost use Rattle.mc_explain.specs.ShownNeed.{need_of_two_copies as least_of_two_copies};
 
@@ -92,7 +92,7 @@ fn has_router(routers: &[RouterNo], router: RouterNo) -> bool
 
 /// Adds a router, unless it is there.
 fn add_router(routers: &mut Vec<RouterNo>, router: RouterNo) -> Result<(), Memory>
-    ensures { OnOk result (routers.new.items ≡ with_router routers.old.items router) }
+    ensures { OnOk result (routers.new.items ≡ with_router_once routers.old.items router) }
 {
     if !has_router(routers, router) {
         routers.push(router)?;

@@ -31,7 +31,7 @@ use Rattle.mc_cert.specs.Certificate.{Tree, IsWritableEntry, IsWritableTree}
 use Rattle.mc_cert.specs.Object.{text_of, number_of, object_of, text_at, number_at, list_of}
 use Rattle.mc_cert.specs.Object.{list_at, in_range, whole_at, at_most}
 use Rattle.mc_cert.specs.Entries.{entry_keys, lan_in, router_of, vif_of, forwarder_of, entry_of}
-use Rattle.mc_cert.specs.Entries.{entries_of}
+use Rattle.mc_cert.specs.Entries.{entries_in_rows}
 use Rattle.mc_cert.specs.VersionOne.{are_texts_of_flow, flow_at, flow_keys, reached_rows, flow_of}
 use Rattle.mc_cert.specs.VersionTwo.{tree_entry_rows, tree_of, below_count, shared_flow_keys, tree_no_of}
 use Rattle.mc_cert.specs.VersionTwo.{shared_flow_of}
@@ -208,10 +208,10 @@ entry_of-from_denotes t d e is =
     )
     refl
 
-entries_of-denotes : (t : TopologyValue) (list : At) (rows : List Data) (es : Tree)
-    → length rows ≤ 1024 → entries_of t list rows ≡ Ok es → DenotesEntries t rows es
-unfolding entries_of
-entries_of-denotes t list rows es few e =
+entries_in_rows-denotes : (t : TopologyValue) (list : At) (rows : List Data) (es : Tree)
+    → length rows ≤ 1024 → entries_in_rows t list rows ≡ Ok es → DenotesEntries t rows es
+unfolding entries_in_rows
+entries_in_rows-denotes t list rows es few e =
     record {
       few = few;
       each = each_row-denotes_all (λ n d. locate_fault (entry_place list (n + 1)) (entry_of t d))
@@ -219,10 +219,10 @@ entries_of-denotes t list rows es few e =
           (λ n d x read. entry_of-denotes t d x (map_fault_ok _ (entry_of t d) x read)) rows es e;
     }
 
-entries_of-from_denotes : (t : TopologyValue) (list : At) (rows : List Data) (es : Tree)
-    → DenotesEntries t rows es → entries_of t list rows ≡ Ok es
-unfolding entries_of
-entries_of-from_denotes t list rows es are =
+entries_in_rows-from_denotes : (t : TopologyValue) (list : At) (rows : List Data) (es : Tree)
+    → DenotesEntries t rows es → entries_in_rows t list rows ≡ Ok es
+unfolding entries_in_rows
+entries_in_rows-from_denotes t list rows es are =
     each_row-from_denotes (λ n d. locate_fault (entry_place list (n + 1)) (entry_of t d))
     (λ _. DenotesEntry t)
     (λ n d x is. ap (locate_fault (entry_place list (n + 1))) (entry_of-from_denotes t d x is)) [] rows
@@ -298,7 +298,7 @@ flow_of-denotes t n d es e =
           (HasText-from_text_at (codes "source") o.0 source.0 source.1);
       list = subst (HasRows (codes "reached") o.0) same
           (HasRows-from_list_at (codes "reached") o.0 rows.0 rows.1);
-      entries = entries_of-denotes t (at.Flow (n + 1)) r.0 es few r.2;
+      entries = entries_in_rows-denotes t (at.Flow (n + 1)) r.0 es few r.2;
     }
 
 pub flow_of-from_denotes : (t : TopologyValue) (n : ℕ) (d : Data) (es : Tree) → DenotesFlow t n d es
@@ -314,7 +314,7 @@ flow_of-from_denotes t n d es is =
       are_texts_of_flow-dotted is.flow,
       at_most-complete 1024 is.rows is.entries.few,
     )
-    (entries_of-from_denotes t (at.Flow (n + 1)) is.rows es is.entries)
+    (entries_in_rows-from_denotes t (at.Flow (n + 1)) is.rows es is.entries)
 
 -- ---- trees, and the flows with the number of one
 
@@ -328,7 +328,7 @@ tree_of-denotes t n d es e =
     record {
       rows = r.0;
       list = AreRows-from_list_of d r.0 (rows.1 ∙ ap Ok same);
-      entries = entries_of-denotes t (at.Tree (n + 1)) r.0 es few r.2;
+      entries = entries_in_rows-denotes t (at.Tree (n + 1)) r.0 es few r.2;
     }
 
 pub tree_of-from_denotes : (t : TopologyValue) (n : ℕ) (d : Data) (es : Tree) → DenotesTree t d es
@@ -336,7 +336,7 @@ pub tree_of-from_denotes : (t : TopologyValue) (n : ℕ) (d : Data) (es : Tree) 
 unfolding tree_of tree_entry_rows
 tree_of-from_denotes t n d es is =
     rw (list_of-from_AreRows d is.rows is.list, at_most-complete 1024 is.rows is.entries.few)
-    (entries_of-from_denotes t (at.Tree (n + 1)) is.rows es is.entries)
+    (entries_in_rows-from_denotes t (at.Tree (n + 1)) is.rows es is.entries)
 
 below_count-sound : (count : ℕ) (o : Option ℕ) (n : ℕ) → below_count count o ≡ Ok n
     → (o ≡ Some n) × (n < count)

@@ -168,14 +168,14 @@ module _ {A : Type 0} (text : A → List ℕ) (f : A → Data) where
       ∙ append_assoc (comma_if later) (text x) _
       ∙ ap₂ (λ s rest. comma_if later ++ (s ++ rest)) here (listed_after-items_text true xs all)
 
-certificate_text-compact : (flows trees flow_items tree_items : List ℕ) → flows ++ 93 ∷ [] ≡ flow_items
+certificate_json-compact : (flows trees flow_items tree_items : List ℕ) → flows ++ 93 ∷ [] ≡ flow_items
     → trees ++ 93 ∷ [] ≡ tree_items
     → codes "{\"flows\":[" ++ flows ++ codes "],\"trees\":[" ++ trees ++ codes "],\"version\":2}"
     ≡ 123 ∷ (quoted (codes "flows") ++ 58 ∷ ((91 ∷ flow_items)
     ++ (44 ∷ (quoted (codes "trees") ++ 58 ∷ ((91 ∷ tree_items)
     ++ (44 ∷ (quoted (codes "version") ++ 58 ∷ (decimal 2 ++ 125 ∷ []))))))))
 unfolding escape_byte
-certificate_text-compact flows trees flow_items tree_items e f =
+certificate_json-compact flows trees flow_items tree_items e f =
     let start = codes "{\"flows\":[" in
     let middle = codes ",\"trees\":[" in
     let tail = codes ",\"version\":2}" in
@@ -484,7 +484,7 @@ pub version_two_text-compact : (t : TopologyValue) (tree_numbers : List ℕ) (tr
     ≡ compact_text (object (document t tree_numbers trees))
 unfolding escape_byte
 version_two_text-compact t tree_numbers trees rules written =
-    certificate_text-compact (listed (flow_texts t.flows tree_numbers)) (listed (map (tree_text t) trees)) _ _
+    certificate_json-compact (listed (flow_texts t.flows tree_numbers)) (listed (map (tree_text t) trees)) _ _
     (listed_after-items_text (λ p. flow_text p.0 p.1) flow_data false (zip t.flows tree_numbers)
     (AllByRecursion-from_always (λ p. flow_text p.0 p.1 ≡ compact_text (flow_data p)) flow_text-compact
     (zip t.flows tree_numbers)))

@@ -14,7 +14,7 @@ use Rattle.mc_topology.specs.Topology.{TopologyValue}
 use Rattle.mc_cert.specs.contracts.reached.ReachedOrd.TheImpl.{ghosts as by_order}
 use Rattle.mc_cert.specs.contracts.reached.ReachedOrd.TheImpl.Laws.{matches_eq-law}
 use Rattle.mc_cert.specs.Certificate.{Tree, tree_at, IsWritableTree}
-use Rattle.mc_cert.specs.CertificateText.{version_two_text, certificate_text}
+use Rattle.mc_cert.specs.CertificateText.{version_two_text, certificate_json}
 use Rattle.mc_cert.specs.Distinct.{same_tree, find_tree, with_tree, distinct_trees, tree_number_of}
 use Rattle.mc_cert.specs.Trees.{trees_of, IsTreeNumberMap, AreSharedTrees}
 use Rattle.mc_cert.proofs.DistinctLemmas.{same_tree-Decides, same_tree-flip_false, find_tree-push_new}
@@ -139,7 +139,7 @@ tree_numbers-AreSharedTrees trees (n ∷ numbers) named =
 -- the text of the distinct trees and the flows' numbers is the certificate's
 pub version_two_text-AreSharedTrees : (t : TopologyValue) (trees : List Tree) (numbers : List ℕ)
     → AreSharedTrees trees numbers
-    → version_two_text t numbers trees ≡ certificate_text t (trees_of trees numbers)
+    → version_two_text t numbers trees ≡ certificate_json t (trees_of trees numbers)
 version_two_text-AreSharedTrees t trees numbers shared =
     ap (λ ns. version_two_text t ns trees) (tree_numbers-AreSharedTrees trees numbers shared.named)
     ∙ ap (λ (ts : List Tree). version_two_text t (map (tree_number_of ts) (trees_of trees numbers)) ts)

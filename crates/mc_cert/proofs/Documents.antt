@@ -39,32 +39,39 @@ use Rattle.mc_cert.proofs.JsonValues.{HasReadBack-member, IsReadBack-object}
 
 -- ---- the value
 
+-- the members for a forwarder, if there is one
 abbrev pub forwarder_members : TopologyValue → Option Interface → Members
 forwarder_members t None = no_members
 forwarder_members t (Some i) = member (codes "router") (string (router_name t i.0))
     (member (codes "vif") (number (unsigned i.1)) no_members)
 
+-- the members of an entry's object
 abbrev pub entry_members : TopologyValue → Entry → Members
 entry_members t e =
     member (codes "lan") (string (lan_name t e.lan))
     (member (codes "need") (number (unsigned e.need))
     (member (codes "rank") (number (unsigned e.rank)) (forwarder_members t e.forwarder)))
 
+-- an entry's object
 abbrev pub entry_data : TopologyValue → Entry → Data
 entry_data t e = object (entry_members t e)
 
+-- the list of a tree's entries
 abbrev pub tree_data : TopologyValue → Tree → Data
 tree_data t es = array (items_from (entry_data t) es)
 
+-- the members of a flow's object, with the number of its tree
 abbrev pub flow_members : Flow × ℕ → Members
 flow_members p =
     member (codes "group") (string (dotted p.0.group))
     (member (codes "source") (string (dotted p.0.source))
     (member (codes "tree") (number (unsigned p.1)) no_members))
 
+-- a flow's object
 abbrev pub flow_data : Flow × ℕ → Data
 flow_data p = object (flow_members p)
 
+-- the members of the whole certificate
 abbrev pub document : TopologyValue → List ℕ → List Tree → Members
 document t tree_numbers trees =
     member (codes "flows") (array (items_from flow_data (zip t.flows tree_numbers)))

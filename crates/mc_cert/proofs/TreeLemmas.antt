@@ -97,6 +97,7 @@ module _ (trees now : List Tree) (es : Tree) (n : ℕ) (grown : now ≡ with_tre
       ap₂ (λ t ts. t ∷ ts) (tree_at-with_tree_same m (named zero m (omega arith)))
       (trees_of-with_tree numbers (λ k d lt. named (suc k) d (omega (arith, lt))))
 
+  -- after a tree and its number are added, the flows have that tree as the last one
   pub trees_of-push : (numbers : List ℕ) → AreSharedTrees trees numbers
       → trees_of now (numbers ++ n ∷ []) ≡ trees_of trees numbers ++ es ∷ []
   trees_of-push numbers shared =
@@ -104,6 +105,7 @@ module _ (trees now : List Tree) (es : Tree) (n : ℕ) (grown : now ≡ with_tre
       ∙ ap₂ (λ ts t. ts ++ t ∷ []) (trees_of-with_tree numbers shared.named)
       (ap (λ o. unwrap_or o []) (slice_get-find_tree now es n here).1)
 
+  -- what is kept of shared trees stays so, for a tree that a text can have and fewer than 4,096 flows
   pub AreSharedTrees-push : (numbers : List ℕ) → AreSharedTrees trees numbers → length numbers < 4096
       → IsWritableTree es → AreSharedTrees now (numbers ++ n ∷ [])
   AreSharedTrees-push numbers shared few list =

@@ -11,7 +11,7 @@ use Rattle.mc_theory.specs.Flights.{Copy, Flight, is_sender, start}
 use Rattle.mc_theory.specs.Findings.{Finding as FindingValue, first_copy_on, first_double, sender_on}
 use Rattle.mc_theory.specs.Findings.Finding.{Clean, Duplicate, Loop, Stray, Missed}
 use Rattle.mc_theory.specs.Hops.{hops_of_copy_until}
-use Rattle.mc_forward.specs.Domains.{DomainValue, net_of, ttl_of}
+use Rattle.mc_forward.specs.Domains.{DomainValue, net_of}
 use Rattle.mc_replay.specs.FindingValues.{optional_finding_value}
 use Rattle.mc_replay.specs.PastStrays.{EndsPastStrays, finding_of_double}
 use Rattle.mc_explain.specs.Explained.{circle_cause, sender_causes}
@@ -39,9 +39,9 @@ second_causes n cs (Some c) = double_causes n cs c (finding_of_double n cs c)
 
 -- The TTL from which on packets show the second copy. None is given where the flow's own TTL is 255, the
 -- greatest.
-abbrev pub second_shown_from : (greatest : Bool) → Net → List Copy → Option Copy → Option ℕ
-second_shown_from greatest n cs None = None
-second_shown_from greatest n cs (Some c) = if greatest then None else Some (need_of_two_copies n cs c.lan)
+abbrev pub second_shown_from : Net → List Copy → Option Copy → Option ℕ
+second_shown_from n cs None = None
+second_shown_from n cs (Some c) = if n.ttl == 255 then None else Some (need_of_two_copies n cs c.lan)
 
 -- ---- what leads out of the domain
 
@@ -92,13 +92,12 @@ unless_second None xs = xs
 unless_second (Some c) xs = []
 
 -- This is what flight g shows, with which the run past the stray ends: `whole` is true where no router is
--- excluded, `greatest` where the flow's own TTL is 255, `own` is the interface of the stray, and `double` is
--- the first double copy, if there is one.
-pub record IsBehindIn (whole greatest : Bool) (t : TopologyValue) (n : Net) (own : Interface) (g : Flight)
+-- excluded, `own` is the interface of the stray, and `double` is the first double copy, if there is one.
+pub record IsBehindIn (whole : Bool) (t : TopologyValue) (n : Net) (own : Interface) (g : Flight)
     (double : Option Copy) (b : Behind) : Type 0 where
   pub finding : optional_finding_value b.finding ≡ option_map (finding_of_double n g.carried) double
   pub causes : b.causes.items ≡ second_causes n g.carried double
-  pub shown : b.shown_from ≡ second_shown_from greatest n g.carried double
+  pub shown : b.shown_from ≡ second_shown_from n g.carried double
   pub strays : b.strays.items ≡ unless_second double (filter (is_other_leak n own) g.strays)
   pub not_followed : b.open_routers.items ≡ unless_second double (open_routers n g.strays)
   pub missed : b.missed.items ≡ unless_second double
@@ -108,5 +107,5 @@ pub record IsBehindIn (whole greatest : Bool) (t : TopologyValue) (n : Net) (own
 pub record IsBehind (whole : Bool) (d : DomainValue) (flow : ℕ) (own : Interface) (b : Behind) : Type 0 where
   pub flight : Flight
   pub run : EndsPastStrays (net_of d flow) (start (net_of d flow) 255) flight
-  pub shows : IsBehindIn whole (ttl_of d flow == 255) d.topology (net_of d flow) own flight
+  pub shows : IsBehindIn whole d.topology (net_of d flow) own flight
       (first_double [] flight.carried) b

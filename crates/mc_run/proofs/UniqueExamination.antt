@@ -388,10 +388,10 @@ optional_finding-same_value (Some x) (Some y) e =
     ap Some (sym (finding_value-injective x) ∙ ap finding_of_value same ∙ finding_value-injective y)
 
 -- behind the same flight there is one thing
-is_behind_in-unique : (whole greatest : Bool) (t : TopologyValue) (n : Net) (own : Interface) (g : Flight)
-    (double : Option Copy) (x y : Behind) → IsBehindIn whole greatest t n own g double x
-    → IsBehindIn whole greatest t n own g double y → IsSameBehind x y
-is_behind_in-unique whole greatest t n own g double x y p q = record {
+is_behind_in-unique : (whole : Bool) (t : TopologyValue) (n : Net) (own : Interface) (g : Flight)
+    (double : Option Copy) (x y : Behind) → IsBehindIn whole t n own g double x
+    → IsBehindIn whole t n own g double y → IsSameBehind x y
+is_behind_in-unique whole t n own g double x y p q = record {
   finding = optional_finding-same_value x.finding y.finding (p.finding ∙ sym q.finding);
   causes = p.causes ∙ sym q.causes;
   shown_from = p.shown ∙ sym q.shown;
@@ -406,9 +406,9 @@ is_behind-unique : (whole : Bool) (d : DomainValue) (flow : ℕ) (own : Interfac
 is_behind-unique whole d flow own x y p q =
     let n = net_of d flow in
     let same = ends_past_strays-unique n (start n 255) p.flight q.flight p.run q.run in
-    is_behind_in-unique whole (ttl_of d flow == 255) d.topology n own q.flight
+    is_behind_in-unique whole d.topology n own q.flight
     (first_double [] q.flight.carried) x y
-    (subst (λ (g : Flight). IsBehindIn whole (ttl_of d flow == 255) d.topology n own g
+    (subst (λ (g : Flight). IsBehindIn whole d.topology n own g
     (first_double [] g.carried) x) same p.shows) q.shows
 
 -- two that aren't there

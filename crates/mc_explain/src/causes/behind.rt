@@ -261,8 +261,8 @@ fn behind_with_second(
     requires finding { optional_finding_value finding
         ≡ Some (finding_of_double (net_in view.now) flight.now.flight.carried second.now) }
     ensures { (whole : Bool) (own : Interface) → IfOk result
-        (IsBehindIn whole ((net_in view.now).ttl == 255) view.now.domain.topology (net_in view.now) own
-        flight.now.flight (Some second.now)) }
+        (IsBehindIn whole view.now.domain.topology (net_in view.now) own flight.now.flight
+        (Some second.now)) }
 {
     let copies = flight.copies();
     let causes = second_causes(alloc, view, copies, first_copies, second, &finding)?;
@@ -312,8 +312,8 @@ fn behind_without_second(
 ) -> Result<Behind, Memory>
     requires first_copies { HoldsFirstOfEachKey (λ c. c.lan) first_copies.now.by_lan
         flight.now.flight.carried }
-    ensures { IfOk result (IsBehindIn whole ((net_in view.now).ttl == 255) view.now.domain.topology
-        (net_in view.now) own flight.now.flight None) }
+    ensures { IfOk result (IsBehindIn whole view.now.domain.topology (net_in view.now) own
+        flight.now.flight None) }
 {
     let strays = other_leaks(alloc, view, own, flight.strays())?;
     let open_routers = routers_with_open_rows(alloc, view, flight.strays())?;

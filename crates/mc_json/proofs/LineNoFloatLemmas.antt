@@ -66,7 +66,8 @@ no_float-fact_data c (Lan lan) = refl
 no_float-fact_data c (Router router) = refl
 no_float-fact_data c (Device router vif) = no_float-device_data (c.domain.vifs router vif)
 no_float-fact_data c (Interface interface) = refl
-no_float-fact_data c (IncomingDevice router) = no_float-incoming_device c.domain router (row_for_flow c router)
+no_float-fact_data c (IncomingDevice router) =
+    no_float-incoming_device c.domain router (row_for_flow c router)
 no_float-fact_data c (IncomingVif router) = no_float-incoming_vif (row_for_flow c router)
 no_float-fact_data c (Row router) = no_float-flow_row_data c.domain c.flow router
 no_float-fact_data c (EverySourceRow router) =

@@ -8,7 +8,7 @@ use Rattle.mc_text.proofs.BundleWords.{HasNoByte}
 use Rattle.mc_topology.specs.Topology.{IsValidTopology}
 use Rattle.mc_forward.specs.ListedTables.{DomainFacts}
 use Rattle.mc_explain.specs.declared.causes.Cause.{Cause}
-use Rattle.mc_explain.specs.declared.searches.search_line.SearchLine.{SearchLine}
+use Rattle.mc_explain.specs.declared.searches.searching.LanSearch.{LanSearch}
 use Rattle.mc_explain.specs.Indented.{AreIndented}
 use Rattle.mc_explain.specs.ShownLines.{shown_lines}
 use Rattle.mc_explain.proofs.IndentedLemmas.{are_indented-append, are_indented-flat_map}
@@ -76,7 +76,8 @@ are_indented-causes_text d summary flow causes ok =
 
 -- those after four spaces too
 pub are_indented-deeper_causes_text : (d : DomainFacts) (summary : List SummaryValue) (flow : ℕ)
-    (causes : List Cause) → IsValidTopology d.topology → AreIndented (deeper_causes_text d summary flow causes)
+    (causes : List Cause) → IsValidTopology d.topology
+    → AreIndented (deeper_causes_text d summary flow causes)
 are_indented-deeper_causes_text d summary flow causes ok =
     let c = context_of d summary flow in
     are_indented-flat_map (cause_items deeper_line_text c) causes
@@ -99,11 +100,12 @@ are_indented-more_lines more =
 
 -- the text of a search is a sequence of lines that begin with two spaces
 pub are_indented-search_text : (d : DomainFacts) (summary : List SummaryValue) (flow : ℕ)
-    (lines : List SearchLine) (sent_on took_none : List ℕ) → IsValidTopology d.topology
-    → AreIndented (search_text d summary flow lines sent_on took_none)
-are_indented-search_text d summary flow lines sent_on took_none ok =
+    (found : LanSearch) → IsValidTopology d.topology → AreIndented (search_text d summary flow found)
+are_indented-search_text d summary flow found ok =
     let c = context_of d summary flow in
-    let shown = shown_lines lines in
+    let shown = shown_lines found.lines.items in
+    let sent_on = found.reach.sent_on.items in
+    let took_none = found.reach.took_none.items in
     are_indented-append (reach_items line_text c sent_on took_none) (first_lines_text c shown)
     (are_indented-lines [] c (reach_lines sent_on took_none) tt ok
     (well_formed-reach_lines sent_on took_none))

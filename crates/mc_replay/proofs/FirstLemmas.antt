@@ -71,8 +71,8 @@ pub record FirstCopiesSoFar (firsts old : List (Option Copy)) (cs : List Copy) (
   pub filled : HoldsFirstOfEachKey (λ (c : Copy). c.lan) firsts (take k cs)
   pub second : first_some found (first_double (take k cs) (drop k cs)) ≡ first_double [] cs
 
--- before the copies after the first k are looked at, no second copy is found, where the first k are on as many
--- LANs
+-- before the copies after the first k are looked at, no second copy is found, where the first k are on as
+-- many LANs
 pub first_copies_so_far-none : (firsts : List (Option Copy)) (cs : List Copy) (k : ℕ)
     → HoldsFirstOfEachKey (λ (c : Copy). c.lan) firsts (take k cs) → first_double [] (take k cs)
     ≡ None → FirstCopiesSoFar firsts firsts cs k None

@@ -411,8 +411,7 @@ no_yes_line-explanation_lines d summary flow x ok =
     searched : (s : Option LanSearch) → AreLinesWithoutYes (searched_lines d summary flow s)
     searched None = no_yes_line-no_lines
     searched (Some found) = no_yes_line-indented_lines _
-        (are_indented-search_text d summary flow found.lines.items
-        found.reach.sent_on.items found.reach.took_none.items ok)
+        (are_indented-search_text d summary flow found ok)
 
 -- the lines of a flow with a finding, in text or in JSON
 no_yes_line-wrong_lines_or_object : (json travels : Bool) (d : DomainFacts)

@@ -26,20 +26,21 @@ use Rattle.mc_maker.specs.declared.examined_flights.ExaminedFlights.TheVariants.
 use Rattle.mc_maker.specs.declared.examined_flights.ExaminedFlights.TheVariants.{FoundAtTtl255}
 use Rattle.mc_maker.specs.declared.examined_flights.ExaminedFlights.TheVariants.{FoundAtFlowTtl}
 use Rattle.mc_explain.specs.declared.searches.searching.LanSearch.{LanSearch}
-use Rattle.mc_lines.specs.ExplanationText.{causes_text}
-use Rattle.mc_lines.specs.ExplanationText.{search_text}
+use Rattle.mc_lines.specs.ExplanationText.{causes_text, context_of, first_lines_text}
+use Rattle.mc_lines.specs.Filled.{line_text}
+use Rattle.mc_lines.specs.SearchLines.{reach_items, search_items}
+use Rattle.mc_explain.specs.ShownLines.{shown_lines}
 use Rattle.mc_explain.specs.WantedText.{also_missed_text, lans_wanting}
 use Rattle.mc_explain.specs.BehindText.{leaks_behind_text}
 use Rattle.mc_explain.specs.declared.causes.Cause.{Cause}
 use Rattle.mc_explain.specs.declared.causes.behind.Behind.{Behind}
 use Rattle.mc_explain.specs.declared.causes.explanation.Certainty.{Certainty}
-use Rattle.mc_explain.specs.declared.searches.search_line.SearchLine.{SearchLine}
 use Rattle.mc_json.specs.BehindData.{behind_data, found_behind_data, stray_data}
 use Rattle.mc_json.specs.EndData.{routers_data}
 use Rattle.mc_json.specs.FlowData.{WrongFlow, events_if_asked, finding_data, optional_finding_data}
 use Rattle.mc_json.specs.FlowData.{shown_from_data, wrong_data}
 use Rattle.mc_json.specs.RowData.{lan_data, line_of, list_data, object_data}
-use Rattle.mc_json.specs.WhyData.{search_data}
+use Rattle.mc_json.specs.LineData.{line_values}
 use Rattle.mc_json.specs.WhyData.{causes_data}
 use Rattle.mc_json.specs.WhyData.{search_data_if_any, why_data}
 use Rattle.mc_json.specs.WrongLine.{wrong_flow_of}
@@ -77,9 +78,8 @@ searched_lines-same_search d summary flow None None same = refl
 searched_lines-same_search d summary flow None (Some b) same = absurd same
 searched_lines-same_search d summary flow (Some a) None same = absurd same
 searched_lines-same_search d summary flow (Some a) (Some b) same =
-    ap (λ (ls : List SearchLine).
-    search_text d summary flow ls a.reach.sent_on.items a.reach.took_none.items) same.0
-    ∙ ap₂ (λ (sent took : List ℕ). search_text d summary flow b.lines.items sent took) same.1 same.2
+    let c = context_of d summary flow in
+    λ i. reach_items line_text c (same.1 i) (same.2 i) ++ first_lines_text c (shown_lines (same.0 i))
 
 -- the lines of a travel's events
 events_if_shown-same_events : (travels : Bool) (t : TopologyValue) (a b : FinishedTravel)
@@ -182,9 +182,8 @@ found_data-same_travel d summary flow None None same = refl
 found_data-same_travel d summary flow None (Some b) same = absurd same
 found_data-same_travel d summary flow (Some a) None same = absurd same
 found_data-same_travel d summary flow (Some a) (Some b) same =
-    ap (λ (ls : List SearchLine).
-    search_data d summary flow ls a.reach.sent_on.items a.reach.took_none.items) same.0
-    ∙ ap₂ (λ (sent took : List ℕ). search_data d summary flow b.lines.items sent took) same.1 same.2
+    let c = context_of d summary flow in
+    λ i. reach_items line_values c (same.1 i) (same.2 i) ++ search_items line_values c (same.0 i)
 
 -- the values of causes and of a search
 why_data-same_explanation : (d : DomainFacts) (summary : List SummaryValue) (flow : ℕ)

@@ -68,9 +68,7 @@ shown_by_text t ttl shown_by =
 -- the lines of the search, if there was one
 abbrev pub searched_lines : DomainFacts → List SummaryValue → (flow : ℕ) → Option LanSearch → List ℕ
 searched_lines d summary flow None = []
-searched_lines d summary flow (Some found) =
-    search_text d summary flow found.lines.items found.reach.sent_on.items
-    found.reach.took_none.items
+searched_lines d summary flow (Some found) = search_text d summary flow found
 
 -- the line `shown by` after four spaces; nothing where no TTL is given
 abbrev pub deeper_shown_from_text : Option ℕ → List ℕ

@@ -19,6 +19,7 @@ pub mod SearchNames
 pub mod ShownNames
 pub mod ExpectingRouters
 pub mod ShownLines
+pub mod RoutersForWant
 pub mod AskedText
 pub mod UnlistedText
 pub mod UnlistedLines

@@ -9,6 +9,7 @@ use Rattle.mc_theory.specs.Nets.{Net}
 use Rattle.mc_forward.specs.ListedTables.{DomainFacts}
 use Rattle.mc_explain.specs.ExcludedText.{excluded_routers}
 use Rattle.mc_explain.specs.ExplanationValues.{ExplanationValue}
+use Rattle.mc_explain.specs.RoutersForWant.{RoutersForWant}
 use Rattle.mc_explain.specs.UnlistedPairs.{with_routers}
 use Rattle.mc_explain.specs.UnlistedText.{further_rows, shown_unlisted_pairs}
 use Rattle.serde_json.specs.Data.{Data}
@@ -112,12 +113,11 @@ are_object_lines-summary asked right unknown unwanted wrong =
 -- ---- what hosts ask for
 
 -- a want that no flow answers
-pub are_object_lines-asked : (t : TopologyValue) (line : Want × List ℕ)
-    (listed none_out forwards star : List ℕ)
-    → AreObjectLines (line_of (asked_object t line listed none_out forwards star))
+pub are_object_lines-asked : (t : TopologyValue) (line : Want × List ℕ) (listed : List ℕ)
+    (routers : RoutersForWant) → AreObjectLines (line_of (asked_object t line listed routers))
 unfolding escape_byte
-are_object_lines-asked t line listed none_out forwards star =
-    are_object_lines-one (asked_object t line listed none_out forwards star) refl refl
+are_object_lines-asked t line listed routers =
+    are_object_lines-one (asked_object t line listed routers) refl refl
 
 -- how many further wants there are, if any
 are_object_lines-asked_more_if : (more : ℕ) (none : Bool)

@@ -18,4 +18,5 @@ pub use Rattle.mc_forward.specs.Domains
 pub use Rattle.mc_forward.specs.ListedTables
 pub use Rattle.mc_explain.specs.ExplanationValues
 pub use Rattle.mc_explain.specs.Indented
+pub use Rattle.mc_explain.specs.RoutersForWant
 pub use Rattle.mc_explain.specs.UnlistedLines

@@ -20,10 +20,8 @@ use Rattle.mc_maker.specs.declared.examination.Examined.{Examined}
 use Rattle.mc_maker.specs.declared.examination.Examined.TheVariants.{Certified, Found}
 use Rattle.mc_tables.specs.Summary.{SummaryValue}
 use Rattle.mc_forward.specs.ListedTables.{DomainFacts, facts, flow_pairs}
-use Rattle.mc_asked.specs.Forwarding.{routers_in}
 use Rattle.mc_asked.specs.ListWants.{Want}
 use Rattle.mc_asked.specs.declared.forwarding.RouterState.{RouterState}
-use Rattle.mc_asked.specs.declared.forwarding.RouterState.TheVariants.{EverySource, NoneOut, Forwards}
 use Rattle.mc_lines.specs.ExplanationText.{causes_text, deeper_causes_text}
 use Rattle.mc_explain.specs.AskedText.{IsAskedLine, asked_more_text, listed_sources, services_text}
 use Rattle.mc_explain.specs.Indented.{AreIndented, HasNoLineFeed, indented}
@@ -37,6 +35,7 @@ use Rattle.mc_explain.specs.BehindText.{leaks_behind_text}
 use Rattle.mc_explain.specs.declared.causes.Cause.{Cause}
 use Rattle.mc_explain.specs.declared.causes.behind.Behind.{Behind}
 use Rattle.mc_explain.specs.declared.causes.explanation.ShownBy.{ShownBy}
+use Rattle.mc_explain.specs.RoutersForWant.{routers_by_state}
 use Rattle.mc_explain.proofs.AskedLineLemmas.{are_asked_lines-asked_more, are_asked_lines-asked_text}
 use Rattle.mc_explain.proofs.AskedLineLemmas.{are_asked_lines-services}
 use Rattle.mc_explain.proofs.BehindTextLemmas.{are_indented-leaks_behind_text}
@@ -546,7 +545,7 @@ no_yes_line-asked_line_of : (json : Bool) (t : TopologyValue) (are_excluded : Bo
 no_yes_line-asked_line_of json t are_excluded states None ok = no_yes_line-no_lines
 no_yes_line-asked_line_of true t are_excluded states (Some line) ok =
     no_yes_line-objects _ (are_object_lines-asked t line (listed_sources (flow_pairs t.flows) line.0.0)
-    (routers_in NoneOut states) (routers_in Forwards states) (routers_in EverySource states))
+    (routers_by_state states))
 no_yes_line-asked_line_of false t are_excluded states (Some line) ok =
     no_yes_line-asked_text _ (are_asked_lines-asked_text t are_excluded (flow_pairs t.flows) states line ok)
 

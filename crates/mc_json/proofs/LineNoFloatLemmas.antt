@@ -166,6 +166,6 @@ no_float-found_flow_data d summary found x =
     w.finding w.found_ttl w.wanted w.why (no_float-lans t x.also)
     (no_float-optional_finding t x.certainty.shown_by.at_flow_ttl)
     (no_float-behind_data d summary found.flow x.behind)
-    (no_float-events_if_asked t (d.nets found.flow) found.events_asked found.travel.events.items)
-    (no_float-finding_data t found.travel.finding) (no_float-lans t (lans_wanting d found.flow))
+    (no_float-events_if_asked t (d.nets found.flow) found.events)
+    (no_float-finding_data t found.finding) (no_float-lans t (lans_wanting d found.flow))
     (no_float-why_data d summary found.flow x.printed x.search)

@@ -1,6 +1,6 @@
 -- No value of a line has a fraction.
 use Rattle.std.proofs.Common.{◌≡◌, ℕ, Bool, true, false, List, [], ◌∷◌, ◌++◌, Option, Some, None, map}
-use Rattle.std.proofs.Common.{◌==◌, cond, refl}
+use Rattle.std.proofs.Common.{◌==◌, cond, option_map, refl}
 use Rattle.std.proofs.lemmas.Bool.{or_parts}
 use Rattle.mc_tables.specs.CacheTable.{EntryValue}
 use Rattle.mc_tables.specs.VifTable.{VifValue}
@@ -23,7 +23,7 @@ use Rattle.mc_json.specs.RowData.{device_data_of, entry_data, every_source_row_d
 use Rattle.mc_json.specs.RowData.{flow_row_data, row_data}
 use Rattle.mc_json.specs.RowData.{incoming_device, incoming_vif}
 use Rattle.mc_json.specs.RowData.{count_data, lan_data, router_data}
-use Rattle.mc_json.specs.FlowData.{event_data, events_if_asked, finding_data, passed_vifs}
+use Rattle.mc_json.specs.FlowData.{event_data, finding_data, passed_vifs}
 use Rattle.mc_json.specs.FlowData.{interface_router, interface_vif, outcome_data, reached_data, right_data}
 use Rattle.mc_json.specs.EndData.{unlisted_data}
 use Rattle.serde_json.specs.Data.{null}
@@ -234,10 +234,10 @@ no_float-wrong_data number f certainty also below past (Some es) finding found_t
     )
 
 -- events, if they are asked for
-pub no_float-events_if_asked : (t : TopologyValue) (n : Net) (events_asked : Bool) (es : List Event)
-    → EventsHaveNoFloat (events_if_asked t n events_asked es)
-no_float-events_if_asked t n true es = no_float-events t n es
-no_float-events_if_asked t n false es = tt
+pub no_float-events_if_asked : (t : TopologyValue) (n : Net) (events : Option (List Event))
+    → EventsHaveNoFloat (option_map (map (event_data t n)) events)
+no_float-events_if_asked t n (Some events) = no_float-events t n events
+no_float-events_if_asked t n None = tt
 
 -- ---- after the flows
 

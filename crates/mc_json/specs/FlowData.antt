@@ -213,7 +213,3 @@ wrong_members number f w =
 -- a flow with a finding
 abbrev pub wrong_data : (number : ℕ) → Flow → WrongFlow → Data
 wrong_data number f w = object_data (wrong_members number f w)
-
--- the events of a travel, if they are asked for
-abbrev pub events_if_asked : TopologyValue → Net → (events_asked : Bool) → List Event → Option (List Data)
-events_if_asked t n events_asked es = if events_asked then Some (map (event_data t n) es) else None

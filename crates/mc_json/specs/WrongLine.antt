@@ -1,15 +1,16 @@
 -- The line of a flow with a finding, in JSON (docs/FORMATS.md, "What `audit --json` writes"), by the travel
 -- that shows the finding, and the explanation.
-use Rattle.std.specs.Prelude.{ℕ, Bool, List, map}
+use Rattle.std.specs.Prelude.{ℕ, List, Option, map, option_map}
 use Rattle.mc_tables.specs.Summary.{SummaryValue}
 use Rattle.mc_topology.specs.Topology.{flow_at}
+use Rattle.mc_theory.specs.Events.{Event}
 use Rattle.mc_forward.specs.ListedTables.{DomainFacts}
-use Rattle.mc_replay.specs.declared.travel.Travel.{Travel}
+use Rattle.mc_replay.specs.declared.finding.Finding.{Finding}
 use Rattle.mc_explain.specs.ExplanationValues.{ExplanationValue}
 use Rattle.mc_explain.specs.WantedText.{lans_wanting}
 use Rattle.serde_json.specs.Data.{Data}
 use Rattle.mc_json.specs.BehindData.{behind_data}
-use Rattle.mc_json.specs.FlowData.{WrongFlow, events_if_asked, finding_data, optional_finding_data}
+use Rattle.mc_json.specs.FlowData.{WrongFlow, event_data, finding_data, optional_finding_data}
 use Rattle.mc_json.specs.FlowData.{wrong_data}
 use Rattle.mc_json.specs.RowData.{lan_data, line_of}
 use Rattle.mc_json.specs.WhyData.{why_data}
@@ -19,20 +20,20 @@ use Rattle.mc_json.specs.declared.wrong_line.FoundTravel.{FoundTravel}
 pub record FoundTravelValue : Type 0 where
   -- the flow's number
   pub flow : ℕ
-  -- the travel, with its finding
-  pub travel : Travel
-  -- the TTL with which it began
+  -- what the packet meets
+  pub finding : Finding
+  -- the TTL with which it was sent
   pub found_ttl : ℕ
-  -- whether its events are asked for
-  pub events_asked : Bool
+  -- the events of its travel, if they are asked for
+  pub events : Option (List Event)
 
 -- such a travel as a value
 abbrev pub found_travel_value : FoundTravel → FoundTravelValue
 found_travel_value found = record {
   flow = found.flow;
-  travel = found.travel.now;
+  finding = found.finding;
   found_ttl = found.found_ttl;
-  events_asked = found.events_asked;
+  events = option_map (λ events. events.now) found.events;
 }
 
 -- what is written of the travel's flow, beside its number, addresses and TTL
@@ -42,8 +43,8 @@ wrong_flow_of d summary found x = record {
   also = map (lan_data d.topology) x.also;
   at_flow_ttl = optional_finding_data d.topology x.certainty.shown_by.at_flow_ttl;
   behind = behind_data d summary found.flow x.behind;
-  events = events_if_asked d.topology (d.nets found.flow) found.events_asked found.travel.events.items;
-  finding = finding_data d.topology found.travel.finding;
+  events = option_map (map (event_data d.topology (d.nets found.flow))) found.events;
+  finding = finding_data d.topology found.finding;
   found_ttl = found.found_ttl;
   wanted = map (lan_data d.topology) (lans_wanting d found.flow);
   why = why_data d summary found.flow x.printed x.search;

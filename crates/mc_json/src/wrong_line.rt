@@ -21,9 +21,9 @@ use crate::line::push_line;
 use crate::line_values::LineValues;
 use crate::name_values::lan_names;
 use mc_explain::{Certainty, Explanation, lans_wanting};
-use mc_forward::{Domain, FlowView};
+use mc_forward::{Domain, Event, FlowView};
 use mc_lines::{LineContext, add_causes, add_search};
-use mc_replay::Travel;
+use mc_replay::Finding;
 use mc_tables::CacheSummary;
 use mc_text::Memory;
 use mc_topology::Flow;
@@ -35,12 +35,12 @@ use std::alloc::{AllocError, Global};
 pub struct FoundTravel<'a> {
     /// The flow's number, counted from 0.
     pub flow: u32,
-    /// The travel.
-    pub travel: &'a Travel,
-    /// The TTL with which it began.
+    /// What the packet meets.
+    pub finding: Finding,
+    /// The TTL with which it was sent, 1 to 255.
     pub found_ttl: u8,
-    /// That its events are asked for.
-    pub events_asked: bool,
+    /// The events of its travel, in order, if they are asked for.
+    pub events: Option<&'a [Event]>,
 }
 
 /// Adds that a flow isn't right, if that is known, or else null.
@@ -125,11 +125,6 @@ fn wrong_value(
 {
     let view = context.view;
     let topology = view.topology();
-    let FoundTravel {
-        travel,
-        events_asked,
-        ..
-    } = *found;
     let certainty = &explanation.certainty;
     let behind = behind_value(alloc, context, explanation.behind)?;
     let why = why_values(alloc, context, explanation)?;
@@ -139,17 +134,19 @@ fn wrong_value(
         .list("also", lan_names(alloc, topology, explanation.also))
         .value("at_ttl", at_flow_ttl)
         .value("behind", Ok(behind))
-        .value("finding", finding_value(alloc, topology, travel.finding));
-    if !events_asked {
-        return Ok(fields.object()?);
+        .value("finding", finding_value(alloc, topology, found.finding));
+    match found.events {
+        Some(events) => {
+            let events = event_values(alloc, view, events);
+            Ok(fields.list("events", events).object()?)
+        }
+        None => Ok(fields.object()?),
     }
-    let events = event_values(alloc, view, &travel.events);
-    Ok(fields.list("events", events).object()?)
 }
 
-/// Writes the line of a flow with a finding: the travel that shows it, the TTL with which that began,
-/// the LANs that want the flow, and what explains the finding. The travel's events are written if they are
-/// asked for. `summary` has the summary of each router's cache, in the topology's order.
+/// Writes the line of a flow with a finding: the finding, the TTL of the packet that shows it, that
+/// packet's events if they are asked for, the LANs that want the flow, and what explains the finding.
+/// `summary` has the summary of each router's cache, in the topology's order.
 ///
 /// # Errors
 ///

@@ -2,7 +2,7 @@
 use Rattle.std.proofs.Common.{◌≡◌, ℕ, suc, ◌+◌, Bool, true, false, cond, List, [], ◌∷◌, ◌++◌}
 use Rattle.std.proofs.Common.{length, Option, Some, None, refl, sym, ap, ap₂, subst, ◌∙◌, arith}
 use Rattle.std.proofs.Common.{filter, fold, take, ◌&&◌, slice_get}
-use Rattle.std.specs.Prelude.{◌==◌, codes, flat_map, map, ⊤, is_none}
+use Rattle.std.specs.Prelude.{◌==◌, codes, flat_map, if◌then◌else◌, map, option_map, ⊤, is_none}
 use Rattle.mc_files.specs.Files.{FileText}
 use Rattle.mc_tables.specs.Summary.{SummaryValue}
 use Rattle.mc_topology.specs.Topology.{TopologyValue, flow_at}
@@ -37,7 +37,7 @@ use Rattle.mc_explain.specs.declared.causes.behind.Behind.{Behind}
 use Rattle.mc_explain.specs.declared.causes.explanation.Certainty.{Certainty}
 use Rattle.mc_json.specs.BehindData.{behind_data, found_behind_data, stray_data}
 use Rattle.mc_json.specs.EndData.{routers_data}
-use Rattle.mc_json.specs.FlowData.{WrongFlow, events_if_asked, finding_data, optional_finding_data}
+use Rattle.mc_json.specs.FlowData.{WrongFlow, event_data, finding_data, optional_finding_data}
 use Rattle.mc_json.specs.FlowData.{shown_from_data, wrong_data}
 use Rattle.mc_json.specs.RowData.{lan_data, line_of, list_data, object_data}
 use Rattle.mc_json.specs.LineData.{line_values}
@@ -205,7 +205,8 @@ wrong_flow_of-same_travel travels d summary flow ttl a b x y ended same = λ i. 
   also = map (lan_data d.topology) (same.also i);
   at_flow_ttl = optional_finding_data d.topology (same.certainty i).shown_by.at_flow_ttl;
   behind = behind_data-same_behind d summary flow x.behind y.behind same.behind i;
-  events = events_if_asked d.topology (d.nets flow) travels (ended.events i);
+  events = option_map (map (event_data d.topology (d.nets flow)))
+      (if travels then Some (ended.events i) else None);
   finding = finding_data d.topology (ended.finding i);
   found_ttl = ttl;
   wanted = map (lan_data d.topology) (lans_wanting d flow);

@@ -9,7 +9,7 @@ use Rattle.mc_theory.specs.Nets.{Net, Row, Interface}
 use Rattle.mc_theory.specs.Nets.Row.{Exact, Open, NoRow}
 use Rattle.mc_theory.specs.Flights.{Copy, Flight, is_sender, start}
 use Rattle.mc_theory.specs.Findings.{Finding as FindingValue, first_copy_on, first_double, sender_on}
-use Rattle.mc_theory.specs.Findings.Finding.{Clean, Duplicate, Loop, Stray, Missed}
+use Rattle.mc_theory.specs.Findings.Finding.{Duplicate, Loop}
 use Rattle.mc_theory.specs.Hops.{hops_of_copy_until}
 use Rattle.mc_forward.specs.Domains.{DomainValue, net_of}
 use Rattle.mc_replay.specs.FindingValues.{optional_finding_value}
@@ -28,9 +28,7 @@ abbrev pub double_causes : Net → List Copy → Copy → FindingValue → List 
 double_causes n cs c (Duplicate lan) =
     sender_causes c.lan (sender_on cs c.lan) ++ sender_causes c.lan c.sender
 double_causes n cs c (Loop lan) = reverse (map circle_cause (hops_of_copy_until n cs c.lan c))
-double_causes n cs c Clean = []
-double_causes n cs c (Stray router vif) = []
-double_causes n cs c (Missed lan) = []
+double_causes n cs c _ = []
 
 -- why the carried copies show a second copy, if there is a first double one
 abbrev pub second_causes : Net → List Copy → Option Copy → List Cause

@@ -56,6 +56,7 @@ BelongsTo-from_version Two t ms flows is =
           is.each;
     }
 
+-- a denoted certificate belongs to the topology
 pub BelongsTo-from_denotes : (t : TopologyValue) (text : List ℕ) (flows : List Tree)
     → DenotesCertificate t text flows → BelongsTo t flows
 BelongsTo-from_denotes t text flows is = BelongsTo-from_version is.version t is.document flows is.denotes

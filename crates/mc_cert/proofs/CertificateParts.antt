@@ -31,7 +31,7 @@ use Rattle.mc_cert.specs.Certificate.{Tree, IsWritableEntry, IsWritableTree}
 use Rattle.mc_cert.specs.Object.{text_of, number_of, object_of, text_at, number_at, list_of}
 use Rattle.mc_cert.specs.Object.{list_at, in_range, whole_at, at_most}
 use Rattle.mc_cert.specs.Entries.{entry_keys, lan_in, router_of, vif_of, forwarder_of, entry_of}
-use Rattle.mc_cert.specs.Entries.{entries_of}
+use Rattle.mc_cert.specs.Entries.{entries_in_rows}
 use Rattle.mc_cert.specs.VersionOne.{are_texts_of_flow, flow_at, flow_keys, reached_rows, flow_of}
 use Rattle.mc_cert.specs.VersionTwo.{tree_entry_rows, tree_of, below_count, shared_flow_keys, tree_no_of}
 use Rattle.mc_cert.specs.VersionTwo.{shared_flow_of}
@@ -49,6 +49,8 @@ use Rattle.mc_cert.proofs.Fields.{at_most-sound, at_most-complete}
 -- ---- rows
 
 module _ {X : Type 0} (one : ℕ → Data → Result X CertFault) (Denotation : ℕ → Data → X → Type 0) where
+  -- where what is read of each row is denoted by it, what is read of all rows is denoted, after the earlier
+  -- values
   pub each_row-denotes : ((n : ℕ) (d : Data) (x : X) → one n d ≡ Ok x → Denotation n d x)
       → (earlier : List X) (ds : List Data) (xs : List X) → each_row one earlier ds ≡ Ok xs
       → (ys : List X) × (xs ≡ earlier ++ ys) × EachDenotes Denotation (length earlier) ds ys
@@ -67,6 +69,7 @@ module _ {X : Type 0} (one : ℕ → Data → Result X CertFault) (Denotation : 
         ),
       )
 
+  -- the other way round, denoted values are read, after the earlier ones
   pub each_row-from_denotes : ((n : ℕ) (d : Data) (x : X) → Denotation n d x → one n d ≡ Ok x)
       → (earlier : List X) (ds : List Data) (xs : List X) → EachDenotes Denotation (length earlier) ds xs
       → each_row one earlier ds ≡ Ok (earlier ++ xs)
@@ -79,6 +82,7 @@ module _ {X : Type 0} (one : ℕ → Data → Result X CertFault) (Denotation : 
       rw (again (length earlier) d x s.0) (each_row-from_denotes again (earlier ++ x ∷ []) ds xs denoted
       ∙ ap Ok (append_assoc earlier (x ∷ []) xs))
 
+  -- so it is where there are no earlier values
   pub each_row-denotes_all : ((n : ℕ) (d : Data) (x : X) → one n d ≡ Ok x → Denotation n d x)
       → (ds : List Data) (xs : List X) → each_row one [] ds ≡ Ok xs → EachDenotes Denotation 0 ds xs
   each_row-denotes_all takes ds xs e =
@@ -86,6 +90,7 @@ module _ {X : Type 0} (one : ℕ → Data → Result X CertFault) (Denotation : 
       subst (λ (zs : List X). EachDenotes Denotation 0 ds zs) (sym is) denoted
 
 module _ {X : Type 0} (Denotation : ℕ → Data → X → Type 0) where
+  -- as many values are denoted as there are rows
   pub length-EachDenotes : (n : ℕ) (ds : List Data) (xs : List X) → EachDenotes Denotation n ds xs
       → length ds ≡ length xs
   length-EachDenotes n [] [] s = refl
@@ -93,6 +98,7 @@ module _ {X : Type 0} (Denotation : ℕ → Data → X → Type 0) where
   length-EachDenotes n (d ∷ ds) [] s = absurd s
   length-EachDenotes n (d ∷ ds) (x ∷ xs) s = omega (arith, length-EachDenotes (n + 1) ds xs s.1)
 
+  -- what holds of each denoted value holds of all
   pub All-from_EachDenotes : (P : X → Type 0) → ((n : ℕ) (d : Data) (x : X) → Denotation n d x → P x)
       → (n : ℕ) (ds : List Data) (xs : List X) → EachDenotes Denotation n ds xs → All P xs
   All-from_EachDenotes P gives n [] [] s = All-nil P
@@ -208,10 +214,10 @@ entry_of-from_denotes t d e is =
     )
     refl
 
-entries_of-denotes : (t : TopologyValue) (list : At) (rows : List Data) (es : Tree)
-    → length rows ≤ 1024 → entries_of t list rows ≡ Ok es → DenotesEntries t rows es
-unfolding entries_of
-entries_of-denotes t list rows es few e =
+entries_in_rows-denotes : (t : TopologyValue) (list : At) (rows : List Data) (es : Tree)
+    → length rows ≤ 1024 → entries_in_rows t list rows ≡ Ok es → DenotesEntries t rows es
+unfolding entries_in_rows
+entries_in_rows-denotes t list rows es few e =
     record {
       few = few;
       each = each_row-denotes_all (λ n d. locate_fault (entry_place list (n + 1)) (entry_of t d))
@@ -219,10 +225,10 @@ entries_of-denotes t list rows es few e =
           (λ n d x read. entry_of-denotes t d x (map_fault_ok _ (entry_of t d) x read)) rows es e;
     }
 
-entries_of-from_denotes : (t : TopologyValue) (list : At) (rows : List Data) (es : Tree)
-    → DenotesEntries t rows es → entries_of t list rows ≡ Ok es
-unfolding entries_of
-entries_of-from_denotes t list rows es are =
+entries_in_rows-from_denotes : (t : TopologyValue) (list : At) (rows : List Data) (es : Tree)
+    → DenotesEntries t rows es → entries_in_rows t list rows ≡ Ok es
+unfolding entries_in_rows
+entries_in_rows-from_denotes t list rows es are =
     each_row-from_denotes (λ n d. locate_fault (entry_place list (n + 1)) (entry_of t d))
     (λ _. DenotesEntry t)
     (λ n d x is. ap (locate_fault (entry_place list (n + 1))) (entry_of-from_denotes t d x is)) [] rows
@@ -273,6 +279,7 @@ are_texts_of_flow-dotted f = rw (
   (bytes_eq-Decides (dotted f.source) (dotted f.source)).1 refl,
 ) refl
 
+-- the tree that is read of a flow of version 1 is the one that it denotes
 pub flow_of-denotes : (t : TopologyValue) (n : ℕ) (d : Data) (es : Tree) → flow_of t n d ≡ Ok es
     → DenotesFlow t n d es
 unfolding flow_of reached_rows
@@ -298,9 +305,10 @@ flow_of-denotes t n d es e =
           (HasText-from_text_at (codes "source") o.0 source.0 source.1);
       list = subst (HasRows (codes "reached") o.0) same
           (HasRows-from_list_at (codes "reached") o.0 rows.0 rows.1);
-      entries = entries_of-denotes t (at.Flow (n + 1)) r.0 es few r.2;
+      entries = entries_in_rows-denotes t (at.Flow (n + 1)) r.0 es few r.2;
     }
 
+-- and the one that it denotes is read
 pub flow_of-from_denotes : (t : TopologyValue) (n : ℕ) (d : Data) (es : Tree) → DenotesFlow t n d es
     → flow_of t n d ≡ Ok es
 unfolding flow_of reached_rows
@@ -314,10 +322,11 @@ flow_of-from_denotes t n d es is =
       are_texts_of_flow-dotted is.flow,
       at_most-complete 1024 is.rows is.entries.few,
     )
-    (entries_of-from_denotes t (at.Flow (n + 1)) is.rows es is.entries)
+    (entries_in_rows-from_denotes t (at.Flow (n + 1)) is.rows es is.entries)
 
 -- ---- trees, and the flows with the number of one
 
+-- the tree that is read of a value is the one that it denotes
 pub tree_of-denotes : (t : TopologyValue) (n : ℕ) (d : Data) (es : Tree) → tree_of t n d ≡ Ok es
     → DenotesTree t d es
 unfolding tree_of tree_entry_rows
@@ -328,15 +337,16 @@ tree_of-denotes t n d es e =
     record {
       rows = r.0;
       list = AreRows-from_list_of d r.0 (rows.1 ∙ ap Ok same);
-      entries = entries_of-denotes t (at.Tree (n + 1)) r.0 es few r.2;
+      entries = entries_in_rows-denotes t (at.Tree (n + 1)) r.0 es few r.2;
     }
 
+-- and the one that it denotes is read
 pub tree_of-from_denotes : (t : TopologyValue) (n : ℕ) (d : Data) (es : Tree) → DenotesTree t d es
     → tree_of t n d ≡ Ok es
 unfolding tree_of tree_entry_rows
 tree_of-from_denotes t n d es is =
     rw (list_of-from_AreRows d is.rows is.list, at_most-complete 1024 is.rows is.entries.few)
-    (entries_of-from_denotes t (at.Tree (n + 1)) is.rows es is.entries)
+    (entries_in_rows-from_denotes t (at.Tree (n + 1)) is.rows es is.entries)
 
 below_count-sound : (count : ℕ) (o : Option ℕ) (n : ℕ) → below_count count o ≡ Ok n
     → (o ≡ Some n) × (n < count)
@@ -356,6 +366,7 @@ pub record NamesTree (t : TopologyValue) (trees n : ℕ) (d : Data) (number : �
   pub tree_number : HasNumber (codes "tree") members number
   pub in_range : number < trees
 
+-- the number that is read of a flow of version 2 is that of its tree
 pub NamesTree-from_shared_flow_of : (t : TopologyValue) (trees n : ℕ) (d : Data) (m : ℕ)
     → shared_flow_of t trees n d ≡ Ok m → NamesTree t trees n d m
 unfolding shared_flow_of tree_no_of
@@ -385,6 +396,7 @@ NamesTree-from_shared_flow_of t trees n d m e =
       in_range = subst (λ k. k < trees) same lt;
     }
 
+-- and the number of its tree is read
 pub shared_flow_of-from_NamesTree : (t : TopologyValue) (trees n : ℕ) (d : Data) (m : ℕ)
     → NamesTree t trees n d m
     → shared_flow_of t trees n d ≡ Ok m

@@ -215,6 +215,7 @@ IsWritableTree-from_tree_rows t rows trees e =
     (λ _ d es is. IsWritableTree-from_denotes t is.rows es is.entries) 0 rows
     trees (each_row-denotes_all (tree_of t) (λ _. DenotesTree t) (tree_of-denotes t) rows trees e)
 
+-- each number of a tree that is read is below the number of trees
 pub tree_numbers-below_count : (t : TopologyValue) (trees : ℕ) (rows : List Data) (ms : List ℕ)
     → each_row (shared_flow_of t trees) [] rows ≡ Ok ms → All (λ n. n < trees) ms
 tree_numbers-below_count t trees rows ms e =

@@ -32,6 +32,7 @@ module _ {X : Type 0} (p : X → Bool) where
   position_or_len-cons true n m = grind (arith, nat_tests)
   position_or_len-cons false n m = cond_lt-suc (nat_lt n m) n m refl
 
+  -- the place of the first item that passes is 0 if the first one does, or else one more than in the rest
   pub position-cons : (x : X) (xs : List X) → position p (x ∷ xs)
       ≡ cond (p x) (Some 0) (option_map suc (position p xs))
   position-cons x xs = position_or_len-cons (p x) (position_or_len p xs) (length xs)
@@ -118,9 +119,11 @@ same_entry-Decides a b = (
       ((same_forwarder-Decides a.forwarder b.forwarder).1 (ap (λ (x : Entry). x.forwarder) e)),
 )
 
+-- two trees are called the same exactly if they are equal
 pub same_tree-Decides : (a b : Tree) → (same_tree a b ≡ true → a ≡ b) × (a ≡ b → same_tree a b ≡ true)
 same_tree-Decides = pointwise_decides same_entry-Decides
 
+-- trees that differ also differ the other way round
 pub same_tree-flip_false : (a b : Tree) → same_tree a b ≡ false → same_tree b a ≡ false
 same_tree-flip_false a b e = other (same_tree b a) refl where
   other : (c : Bool) → same_tree b a ≡ c → same_tree b a ≡ false
@@ -131,15 +134,18 @@ same_tree-flip_false a b e = other (same_tree b a) refl where
 
 -- ---- numbers of trees
 
+-- a tree that is added as a new one has the last number
 pub find_tree-push_new : (trees : List Tree) (es : Tree) → find_tree trees es ≡ None
     → find_tree (trees ++ es ∷ []) es ≡ Some (length trees)
 find_tree-push_new trees es none = position-push_new (same_tree es) trees es none
     ((same_tree-Decides es es).1 refl)
 
+-- a known tree isn't added
 pub with_tree-known : (trees : List Tree) (es : Tree) (tree_no : ℕ) → find_tree trees es ≡ Some tree_no
     → with_tree trees es ≡ trees
 with_tree-known trees es tree_no e = rw e refl
 
+-- a new tree is added at the end
 pub with_tree-new : (trees : List Tree) (es : Tree) → find_tree trees es ≡ None
     → with_tree trees es ≡ trees ++ es ∷ []
 with_tree-new trees es e = rw e refl
@@ -153,6 +159,7 @@ find_tree-with_tree trees es more tree_no e = by (is_some (find_tree trees more)
   by true = e
   by false = position-append (same_tree es) trees (more ∷ []) tree_no e
 
+-- a tree keeps its number when further trees are added
 pub find_tree-fold_with_tree : (trees : List Tree) (es : Tree) (tree_no : ℕ) (flows : List Tree)
     → find_tree trees es ≡ Some tree_no → find_tree (fold with_tree trees flows) es ≡ Some tree_no
 find_tree-fold_with_tree trees es tree_no [] e = e
@@ -176,6 +183,7 @@ tree_at-with_tree trees es n lt = by (is_some (find_tree trees es)) where
   by true = refl
   by false = tree_at-append trees (es ∷ []) n lt
 
+-- adding a tree makes at most one more
 pub length-with_tree : (trees : List Tree) (es : Tree) → length (with_tree trees es) ≤ length trees + 1
 length-with_tree trees es = by (is_some (find_tree trees es)) where
   by : (b : Bool) → length (cond b trees (trees ++ es ∷ [])) ≤ length trees + 1
@@ -199,6 +207,7 @@ slice_get-find_tree trees es n e =
 
 -- what holds of the trees of all flows holds of the distinct trees
 module _ (P : Tree → Type 0) where
+  -- what holds of all trees and of one more holds after that one is added
   pub All-with_tree : (trees : List Tree) (es : Tree) → All P trees → P es → All P (with_tree trees es)
   All-with_tree trees es all here = by (is_some (find_tree trees es)) where
     by : (b : Bool) → All P (cond b trees (trees ++ es ∷ []))
@@ -212,6 +221,7 @@ module _ (P : Tree → Type 0) where
       All-fold_with_tree (with_tree trees f) flows (All-with_tree trees f all (each zero [] (omega arith)))
       (λ k d lt. each (suc k) d (omega (arith, lt)))
 
+  -- what holds of the trees of all flows holds of the distinct ones
   pub All-distinct_trees : (flows viewed trees : List Tree) → viewed ≡ flows → All P flows
       → trees ≡ distinct_trees viewed → All P trees
   All-distinct_trees flows viewed trees same all made =

@@ -39,32 +39,39 @@ use Rattle.mc_cert.proofs.JsonValues.{HasReadBack-member, IsReadBack-object}
 
 -- ---- the value
 
+-- the members for a forwarder, if there is one
 abbrev pub forwarder_members : TopologyValue → Option Interface → Members
 forwarder_members t None = no_members
 forwarder_members t (Some i) = member (codes "router") (string (router_name t i.0))
     (member (codes "vif") (number (unsigned i.1)) no_members)
 
+-- the members of an entry's object
 abbrev pub entry_members : TopologyValue → Entry → Members
 entry_members t e =
     member (codes "lan") (string (lan_name t e.lan))
     (member (codes "need") (number (unsigned e.need))
     (member (codes "rank") (number (unsigned e.rank)) (forwarder_members t e.forwarder)))
 
+-- an entry's object
 abbrev pub entry_data : TopologyValue → Entry → Data
 entry_data t e = object (entry_members t e)
 
+-- the list of a tree's entries
 abbrev pub tree_data : TopologyValue → Tree → Data
 tree_data t es = array (items_from (entry_data t) es)
 
+-- the members of a flow's object, with the number of its tree
 abbrev pub flow_members : Flow × ℕ → Members
 flow_members p =
     member (codes "group") (string (dotted p.0.group))
     (member (codes "source") (string (dotted p.0.source))
     (member (codes "tree") (number (unsigned p.1)) no_members))
 
+-- a flow's object
 abbrev pub flow_data : Flow × ℕ → Data
 flow_data p = object (flow_members p)
 
+-- the members of the whole certificate
 abbrev pub document : TopologyValue → List ℕ → List Tree → Members
 document t tree_numbers trees =
     member (codes "flows") (array (items_from flow_data (zip t.flows tree_numbers)))
@@ -168,14 +175,14 @@ module _ {A : Type 0} (text : A → List ℕ) (f : A → Data) where
       ∙ append_assoc (comma_if later) (text x) _
       ∙ ap₂ (λ s rest. comma_if later ++ (s ++ rest)) here (listed_after-items_text true xs all)
 
-certificate_text-compact : (flows trees flow_items tree_items : List ℕ) → flows ++ 93 ∷ [] ≡ flow_items
+certificate_json-compact : (flows trees flow_items tree_items : List ℕ) → flows ++ 93 ∷ [] ≡ flow_items
     → trees ++ 93 ∷ [] ≡ tree_items
     → codes "{\"flows\":[" ++ flows ++ codes "],\"trees\":[" ++ trees ++ codes "],\"version\":2}"
     ≡ 123 ∷ (quoted (codes "flows") ++ 58 ∷ ((91 ∷ flow_items)
     ++ (44 ∷ (quoted (codes "trees") ++ 58 ∷ ((91 ∷ tree_items)
     ++ (44 ∷ (quoted (codes "version") ++ 58 ∷ (decimal 2 ++ 125 ∷ []))))))))
 unfolding escape_byte
-certificate_text-compact flows trees flow_items tree_items e f =
+certificate_json-compact flows trees flow_items tree_items e f =
     let start = codes "{\"flows\":[" in
     let middle = codes ",\"trees\":[" in
     let tail = codes ",\"version\":2}" in
@@ -484,7 +491,7 @@ pub version_two_text-compact : (t : TopologyValue) (tree_numbers : List ℕ) (tr
     ≡ compact_text (object (document t tree_numbers trees))
 unfolding escape_byte
 version_two_text-compact t tree_numbers trees rules written =
-    certificate_text-compact (listed (flow_texts t.flows tree_numbers)) (listed (map (tree_text t) trees)) _ _
+    certificate_json-compact (listed (flow_texts t.flows tree_numbers)) (listed (map (tree_text t) trees)) _ _
     (listed_after-items_text (λ p. flow_text p.0 p.1) flow_data false (zip t.flows tree_numbers)
     (AllByRecursion-from_always (λ p. flow_text p.0 p.1 ≡ compact_text (flow_data p)) flow_text-compact
     (zip t.flows tree_numbers)))

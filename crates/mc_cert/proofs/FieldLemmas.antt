@@ -77,6 +77,7 @@ module _ {X : Type 0} (Means : X → Data → Type 0) where
 
 -- ---- an entry
 
+-- before the first key an entry's object has no values
 pub HoldsEntry-none : (t : TopologyValue) → HoldsEntry t None None None None None no_members
 HoldsEntry-none t = record {
   keys = refl;
@@ -88,6 +89,7 @@ HoldsEntry-none t = record {
 }
 
 module _ (t : TopologyValue) (lan need rank router vif : Option ℕ) (d : Data) (ms : Members) where
+  -- the key `lan` adds the LAN
   pub HoldsEntry-lan : (n : ℕ) → IsLanName t.lans n d → HoldsEntry t lan need rank router vif ms
       → HoldsEntry t (Some n) need rank router vif (put (codes "lan") d ms)
   HoldsEntry-lan n is old = record {
@@ -100,6 +102,7 @@ module _ (t : TopologyValue) (lan need rank router vif : Option ℕ) (d : Data) 
     vif_field = Field-other (IsWhole 0 31) vif (codes "vif") (codes "lan") d ms refl old.vif_field;
   }
 
+  -- the key `need` adds the need
   pub HoldsEntry-need : (n : ℕ) → IsWhole 1 255 n d → HoldsEntry t lan need rank router vif ms
       → HoldsEntry t lan (Some n) rank router vif (put (codes "need") d ms)
   HoldsEntry-need n is old = record {
@@ -112,6 +115,7 @@ module _ (t : TopologyValue) (lan need rank router vif : Option ℕ) (d : Data) 
     vif_field = Field-other (IsWhole 0 31) vif (codes "vif") (codes "need") d ms refl old.vif_field;
   }
 
+  -- the key `rank` adds the rank
   pub HoldsEntry-rank : (n : ℕ) → IsWhole 0 255 n d → HoldsEntry t lan need rank router vif ms
       → HoldsEntry t lan need (Some n) router vif (put (codes "rank") d ms)
   HoldsEntry-rank n is old = record {
@@ -124,6 +128,7 @@ module _ (t : TopologyValue) (lan need rank router vif : Option ℕ) (d : Data) 
     vif_field = Field-other (IsWhole 0 31) vif (codes "vif") (codes "rank") d ms refl old.vif_field;
   }
 
+  -- the key `router` adds the router
   pub HoldsEntry-router : (n : ℕ) → IsRouterName t.routers n d → HoldsEntry t lan need rank router vif ms
       → HoldsEntry t lan need rank (Some n) vif (put (codes "router") d ms)
   HoldsEntry-router n is old = record {
@@ -135,6 +140,7 @@ module _ (t : TopologyValue) (lan need rank router vif : Option ℕ) (d : Data) 
     vif_field = Field-other (IsWhole 0 31) vif (codes "vif") (codes "router") d ms refl old.vif_field;
   }
 
+  -- the key `vif` adds the vif
   pub HoldsEntry-vif : (n : ℕ) → IsWhole 0 31 n d → HoldsEntry t lan need rank router vif ms
       → HoldsEntry t lan need rank router (Some n) (put (codes "vif") d ms)
   HoldsEntry-vif n is old = record {
@@ -214,10 +220,12 @@ DenotesTree-from_rows t ds es few each = record {
 
 -- ---- a flow of version 1
 
+-- before the first key the object of a flow of version 1 has no values
 pub HoldsFlow-none : (t : TopologyValue) → HoldsFlow t None None None no_members
 HoldsFlow-none t = record { keys = refl; group_field = refl; reached_field = refl; source_field = refl }
 
 module _ (t : TopologyValue) (group source : Option ℕ) (reached : Option Tree) (d : Data) (ms : Members) where
+  -- the key `group` adds the group
   pub HoldsFlow-group : (a : ℕ) → IsAddress a d → HoldsFlow t group source reached ms
       → HoldsFlow t (Some a) source reached (put (codes "group") d ms)
   HoldsFlow-group a is old = record {
@@ -229,6 +237,7 @@ module _ (t : TopologyValue) (group source : Option ℕ) (reached : Option Tree)
     source_field = Field-other IsAddress source (codes "source") (codes "group") d ms refl old.source_field;
   }
 
+  -- the key `reached` adds the tree
   pub HoldsFlow-reached : (es : Tree) → DenotesTree t d es → HoldsFlow t group source reached ms
       → HoldsFlow t group source (Some es) (put (codes "reached") d ms)
   HoldsFlow-reached es is old = record {
@@ -238,6 +247,7 @@ module _ (t : TopologyValue) (group source : Option ℕ) (reached : Option Tree)
     source_field = Field-other IsAddress source (codes "source") (codes "reached") d ms refl old.source_field;
   }
 
+  -- the key `source` adds the source
   pub HoldsFlow-source : (a : ℕ) → IsAddress a d → HoldsFlow t group source reached ms
       → HoldsFlow t group (Some a) reached (put (codes "source") d ms)
   HoldsFlow-source a is old = record {
@@ -295,10 +305,12 @@ DenotesFlows-from_rows t ds flows count each = record {
 
 -- ---- a flow of version 2
 
+-- before the first key the object of a flow of version 2 has no values
 pub HoldsSharedFlow-none : HoldsSharedFlow None None None no_members
 HoldsSharedFlow-none = record { keys = refl; group_field = refl; source_field = refl; tree_field = refl }
 
 module _ (group source tree : Option ℕ) (d : Data) (ms : Members) where
+  -- the key `group` adds the group
   pub HoldsSharedFlow-group : (a : ℕ) → IsAddress a d → HoldsSharedFlow group source tree ms
       → HoldsSharedFlow (Some a) source tree (put (codes "group") d ms)
   HoldsSharedFlow-group a is old = record {
@@ -308,6 +320,7 @@ module _ (group source tree : Option ℕ) (d : Data) (ms : Members) where
     tree_field = Field-other (IsWhole 0 4095) tree (codes "tree") (codes "group") d ms refl old.tree_field;
   }
 
+  -- the key `source` adds the source
   pub HoldsSharedFlow-source : (a : ℕ) → IsAddress a d → HoldsSharedFlow group source tree ms
       → HoldsSharedFlow group (Some a) tree (put (codes "source") d ms)
   HoldsSharedFlow-source a is old = record {
@@ -317,6 +330,7 @@ module _ (group source tree : Option ℕ) (d : Data) (ms : Members) where
     tree_field = Field-other (IsWhole 0 4095) tree (codes "tree") (codes "source") d ms refl old.tree_field;
   }
 
+  -- the key `tree` adds the number of the tree
   pub HoldsSharedFlow-tree : (n : ℕ) → IsWhole 0 4095 n d → HoldsSharedFlow group source tree ms
       → HoldsSharedFlow group source (Some n) (put (codes "tree") d ms)
   HoldsSharedFlow-tree n is old = record {
@@ -401,10 +415,12 @@ EachDenotes-from_numbers t trees n (d ∷ ds) (m ∷ ms) (here, all) (lt, below)
 
 -- ---- the whole
 
+-- before the first key a certificate of version 1 has no values
 pub HoldsVersionOne-none : (t : TopologyValue) → HoldsVersionOne t None None no_members
 HoldsVersionOne-none t = record { keys = refl; version_field = refl; flows_field = refl }
 
 module _ (t : TopologyValue) (version : Option ℕ) (flows : Option (List Tree)) (d : Data) (ms : Members) where
+  -- the key `version` adds the version
   pub HoldsVersionOne-version : (n : ℕ) → IsWhole 1 1 n d → HoldsVersionOne t version flows ms
       → HoldsVersionOne t (Some n) flows (put (codes "version") d ms)
   HoldsVersionOne-version n is old = record {
@@ -414,6 +430,7 @@ module _ (t : TopologyValue) (version : Option ℕ) (flows : Option (List Tree))
         old.flows_field;
   }
 
+  -- the key `flows` adds the flows' trees
   pub HoldsVersionOne-flows : (ts : List Tree) → DenotesFlows t d ts → HoldsVersionOne t version flows ms
       → HoldsVersionOne t version (Some ts) (put (codes "flows") d ms)
   HoldsVersionOne-flows ts is old = record {
@@ -436,11 +453,13 @@ IsWritableTree-from_flows t version o flows ms held is =
       sym (length-EachDenotes (DenotesFlow t) 0 are.rows flows are.each) ∙ are.count,
     )
 
+-- before the first key a certificate of version 2 has no values
 pub HoldsVersionTwo-none : (t : TopologyValue) → HoldsVersionTwo t None None None no_members
 HoldsVersionTwo-none t = record { keys = refl; version_field = refl; flows_field = refl; trees_field = refl }
 
 module _ (t : TopologyValue) (version : Option ℕ) (numbers : Option (List ℕ)) (trees : Option (List Tree))
     (d : Data) (ms : Members) where
+  -- the key `version` adds the version
   pub HoldsVersionTwo-version : (n : ℕ) → IsWhole 2 2 n d → HoldsVersionTwo t version numbers trees ms
       → HoldsVersionTwo t (Some n) numbers trees (put (codes "version") d ms)
   HoldsVersionTwo-version n is old = record {
@@ -453,6 +472,7 @@ module _ (t : TopologyValue) (version : Option ℕ) (numbers : Option (List ℕ)
         old.trees_field;
   }
 
+  -- the key `flows` adds the numbers of the flows' trees
   pub HoldsVersionTwo-flows : (ns : List ℕ) → DenotesNumbers t d ns → HoldsVersionTwo t version numbers
       trees ms
       → HoldsVersionTwo t version (Some ns) trees (put (codes "flows") d ms)
@@ -465,6 +485,7 @@ module _ (t : TopologyValue) (version : Option ℕ) (numbers : Option (List ℕ)
         old.trees_field;
   }
 
+  -- the key `trees` adds the trees
   pub HoldsVersionTwo-trees : (ts : List Tree) → DenotesTrees t d ts → HoldsVersionTwo t version numbers
       trees ms
       → HoldsVersionTwo t version numbers (Some ts) (put (codes "trees") d ms)

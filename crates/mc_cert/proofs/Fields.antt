@@ -22,20 +22,25 @@ number-from_as_number d n e = grind (arith, e)
 array-from_as_array : (d : Data) (ds : Items) → as_array d ≡ Some ds → d ≡ array ds
 array-from_as_array d ds e = grind (arith, e)
 
+-- a value that is taken as an object is that object
 pub object-from_as_object : (d : Data) (ms : Members) → as_object d ≡ Some ms → d ≡ object ms
 object-from_as_object d ms e = grind (arith, e)
 
+-- a number that is taken as a whole one is that number
 pub unsigned-from_as_u64 : (n : Num) (m : ℕ) → as_u64 n ≡ Some m → n ≡ unsigned m
 unsigned-from_as_u64 n m e = grind (arith, e)
 
 -- ---- texts and numbers
 
+-- a value that is read as a text is that text
 pub string-from_text_of : (d : Data) (text : List ℕ) → text_of d ≡ Ok text → d ≡ string text
 string-from_text_of d text e = string-from_as_str d text (ok_or_ok (as_str d) BadKind text e)
 
+-- a value that is read as a number is that number
 pub number-from_number_of : (d : Data) (n : Num) → number_of d ≡ Ok n → d ≡ number n
 number-from_number_of d n e = number-from_as_number d n (ok_or_ok (as_number d) BadKind n e)
 
+-- a text that is read under a key is there
 pub HasText-from_text_at : (key : List ℕ) (ms : Members) (text : List ℕ) → text_at key ms ≡ Ok text
     → HasText key ms text
 unfolding text_at
@@ -43,11 +48,13 @@ HasText-from_text_at key ms text e =
     let a = bind_ok (at_key key ms) text_of text e in
     ok_or_ok (get_member key ms) MissingKey a.0 a.1 ∙ ap Some (string-from_text_of a.0 text a.2)
 
+-- and a text that is there is read
 pub text_at-from_HasText : (key : List ℕ) (ms : Members) (text : List ℕ) → HasText key ms text
     → text_at key ms ≡ Ok text
 unfolding text_at
 text_at-from_HasText key ms text e = rw e refl
 
+-- a number that is read under a key is there
 pub HasNumber-from_number_at : (key : List ℕ) (ms : Members) (n : Num) → number_at key ms ≡ Ok n
     → get_member key ms ≡ Some (number n)
 unfolding number_at
@@ -55,6 +62,7 @@ HasNumber-from_number_at key ms n e =
     let a = bind_ok (at_key key ms) number_of n e in
     ok_or_ok (get_member key ms) MissingKey a.0 a.1 ∙ ap Some (number-from_number_of a.0 n a.2)
 
+-- and a number that is there is read
 pub number_at-from_HasNumber : (key : List ℕ) (ms : Members) (n : Num) → get_member key ms ≡ Some (number n)
     → number_at key ms ≡ Ok n
 unfolding number_at
@@ -62,6 +70,7 @@ number_at-from_HasNumber key ms n e = rw e refl
 
 -- ---- whole numbers
 
+-- a number that is accepted is whole, and from `low` to `high`
 pub in_range-sound : (low high : ℕ) (o : Option ℕ) (n : ℕ) → in_range low high o ≡ Ok n
     → (o ≡ Some n) × (low ≤ n) × (n ≤ high)
 in_range-sound low high None n e = absurd cc
@@ -70,9 +79,11 @@ in_range-sound low high (Some m) n e =
     let (from, to) = and_parts _ _ passed in
     (ap Some same, leb-true _ _ from, leb-true _ _ to)
 
+-- and such a number is accepted
 pub in_range-complete : (low high n : ℕ) → low ≤ n → n ≤ high → in_range low high (Some n) ≡ Ok n
 in_range-complete low high n from to = rw (le-leb low n from, le-leb n high to) refl
 
+-- a whole number that is read under a key is there, and from `low` to `high`
 pub HasNumber-from_whole_at : (key : List ℕ) (low high : ℕ) (ms : Members) (n : ℕ)
     → whole_at key low high ms ≡ Ok n → HasNumber key ms n × (low ≤ n) × (n ≤ high)
 unfolding whole_at
@@ -85,6 +96,7 @@ HasNumber-from_whole_at key low high ms n e =
       w.2,
     )
 
+-- and such a number that is there is read
 pub whole_at-from_HasNumber : (key : List ℕ) (low high : ℕ) (ms : Members) (n : ℕ) → HasNumber key ms n
     → low ≤ n → n ≤ high → whole_at key low high ms ≡ Ok n
 unfolding whole_at
@@ -93,6 +105,7 @@ whole_at-from_HasNumber key low high ms n has from to = rw (number_at-from_HasNu
 
 -- ---- objects
 
+-- a value that is read as an object is one with known keys
 pub IsObject-from_object_of : (known : List (List ℕ)) (d : Data) (ms : Members) → object_of known d ≡ Ok ms
     → IsObject known d ms
 unfolding object_of
@@ -105,6 +118,7 @@ IsObject-from_object_of known d ms e =
       keys = keys;
     }
 
+-- and such an object is read
 pub object_of-from_IsObject : (known : List (List ℕ)) (d : Data) (ms : Members) → IsObject known d ms
     → object_of known d ≡ Ok ms
 unfolding object_of
@@ -112,6 +126,7 @@ object_of-from_IsObject known d ms is = rw (is.members, is.keys) refl
 
 -- ---- lists
 
+-- a value that is read as a list is a list of these rows
 pub AreRows-from_list_of : (d : Data) (rows : List Data) → list_of d ≡ Ok rows → AreRows d rows
 AreRows-from_list_of d rows e =
     let a = bind_ok (ok_or (as_array d) BadKind) (λ items. Ok (rows_in items)) rows e in (
@@ -120,9 +135,11 @@ AreRows-from_list_of d rows e =
       sym (ok_injective (rows_in a.0) rows a.2),
     )
 
+-- and a list of rows is read
 pub list_of-from_AreRows : (d : Data) (rows : List Data) → AreRows d rows → list_of d ≡ Ok rows
 list_of-from_AreRows d rows are = rw (are.1, are.2) refl
 
+-- a list that is read under a key is there
 pub HasRows-from_list_at : (key : List ℕ) (ms : Members) (rows : List Data) → list_at key ms ≡ Ok rows
     → HasRows key ms rows
 unfolding list_at
@@ -130,11 +147,13 @@ HasRows-from_list_at key ms rows e =
     let a = bind_ok (at_key key ms) list_of rows e in
     (a.0, ok_or_ok (get_member key ms) MissingKey a.0 a.1, AreRows-from_list_of a.0 rows a.2)
 
+-- and a list that is there is read
 pub list_at-from_HasRows : (key : List ℕ) (ms : Members) (rows : List Data) → HasRows key ms rows
     → list_at key ms ≡ Ok rows
 unfolding list_at
 list_at-from_HasRows key ms rows has = rw has.1 (list_of-from_AreRows has.0 rows has.2)
 
+-- rows that are accepted are as they were given, and not too many
 pub at_most-sound : (most : ℕ) (rows taken : List Data) → at_most most rows ≡ Ok taken
     → (rows ≡ taken) × (length taken ≤ most)
 unfolding at_most
@@ -142,6 +161,7 @@ at_most-sound most rows taken e =
     let (same, few) = checked_ok (λ (rs : List Data). nat_le (length rs) most) TooMany rows taken e in
     (same, leb-true (length taken) most few)
 
+-- and rows that aren't too many are accepted
 pub at_most-complete : (most : ℕ) (rows : List Data) → length rows ≤ most → at_most most rows ≡ Ok rows
 unfolding at_most
 at_most-complete most rows few = rw (le-leb (length rows) most few) refl

@@ -58,6 +58,7 @@ take_more end text within =
     let next : end + 1 ≡ suc end = omega arith in
     ap (λ n. take n text) next ∙ take-suc text end 0 within
 
+-- one plain byte more stands for itself
 pub StringSoFar-more : (text : List ℕ) (end : ℕ) → StringSoFar text end → end < length text
     → is_plain (get_or text end 0) ≡ true → StringSoFar text (end + 1)
 StringSoFar-more text end old within is =

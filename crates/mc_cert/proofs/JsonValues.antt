@@ -40,6 +40,7 @@ pub record IsPlain (b : ℕ) : Type 0 where
   pub no_quote : b ≡ 34 → ⊥
   pub no_backslash : b ≡ 92 → ⊥
 
+-- JSON writes plain bytes as they are
 pub escape-plain : (s : List ℕ) → All IsPlain s → escape s ≡ s
 escape-plain [] all = refl
 escape-plain (x ∷ s) all =
@@ -47,6 +48,7 @@ escape-plain (x ∷ s) all =
     ap₂ (λ a b. a ++ b) (escape_byte_plain x here.no_quote here.no_backslash here.from)
     (escape-plain s (λ k d lt. all (suc k) d (omega (arith, lt))))
 
+-- plain bytes are UTF-8
 pub IsUtf8-from_IsPlain : (s : List ℕ) → All IsPlain s → IsUtf8 s
 IsUtf8-from_IsPlain s all = IsUtf8-from_ascii s (λ i. small i (cases_lt i (length s))) where
   small : (i : ℕ) → (i < length s) ⊎ (length s ≤ i) → get_or s i 0 < 128
@@ -104,6 +106,7 @@ pub record IsReadBack (n : ℕ) (d : Data) : Type 0 where
   pub shallow : tree.depth (outline d) ≤ n
   pub utf8 : IsUtf8 (compact_text d)
 
+-- a text of plain bytes is read back
 pub IsReadBack-string : (n : ℕ) (s : List ℕ) → All IsPlain s → IsReadBack n (string s)
 IsReadBack-string n s plain = record {
   reads = refl;
@@ -113,6 +116,7 @@ IsReadBack-string n s plain = record {
       IsUtf8-quoted s (IsUtf8-from_IsPlain s plain);
 }
 
+-- a number of at most 64 bits is read back
 pub IsReadBack-number : (n k : ℕ) → k < 2 ^ 64 → IsReadBack n (number (unsigned k))
 IsReadBack-number n k small =
     record {
@@ -128,12 +132,14 @@ IsUtf8-comma_if false = IsUtf8-are_ascii [] refl
 
 -- ---- lists
 
+-- the values of a list are read back from their text, and nest at most `n` deep
 pub record AreReadBack (n : ℕ) (ds : Items) : Type 0 where
   pub reads : of_items (items_outline ds) ≡ Some ds
   pub numbers : tree.ItemsHaveNumbers (items_outline ds)
   pub shallow : tree.items_depth (items_outline ds) ≤ n
   pub utf8 : (later : Bool) → IsUtf8 (items_text later ds)
 
+-- a list of values that are read back is itself read back
 pub IsReadBack-array : (n : ℕ) (ds : Items) → AreReadBack n ds → IsReadBack (suc n) (array ds)
 IsReadBack-array n ds good =
     record {
@@ -150,6 +156,7 @@ module _ {A : Type 0} (f : A → Data) where
   items_from [] = no_items
   items_from (x ∷ xs) = item (f x) (items_from xs)
 
+  -- so it is where the value of each item of a list is read back
   pub AreReadBack-items_from : (n : ℕ) (xs : List A) → AllByRecursion (λ x. IsReadBack n (f x)) xs
       → AreReadBack n (items_from xs)
   AreReadBack-items_from n [] all = record {
@@ -171,11 +178,13 @@ module _ {A : Type 0} (f : A → Data) where
 
 -- ---- objects
 
+-- the members of an object have numbers as JSON writes them, nest at most `n` deep, and are UTF-8
 pub record HasReadBack (n : ℕ) (ms : Members) : Type 0 where
   pub numbers : tree.MembersHaveNumbers (members_outline ms)
   pub shallow : tree.members_depth (members_outline ms) ≤ n
   pub utf8 : (later : Bool) → IsUtf8 (members_text later ms)
 
+-- so it is where there are no members
 pub HasReadBack-none : (n : ℕ) → HasReadBack n no_members
 HasReadBack-none n = record {
   numbers = tt;
@@ -184,6 +193,7 @@ HasReadBack-none n = record {
       λ later. IsUtf8-are_ascii (125 ∷ []) refl;
 }
 
+-- and with one member more
 pub HasReadBack-member : (n : ℕ) (k : List ℕ) (d : Data) (ms : Members) → IsUtf8 k → IsReadBack n d
     → HasReadBack n ms → HasReadBack n (member k d ms)
 HasReadBack-member n k d ms key here rest =
@@ -197,6 +207,7 @@ HasReadBack-member n k d ms key here rest =
           (IsUtf8-append (compact_text d) _ here.utf8 (rest.utf8 true))));
     }
 
+-- an object of such members, which is read from their outline, is read back
 pub IsReadBack-object : (n : ℕ) (ms : Members) → of_members (members_outline ms) no_members ≡ Some ms
     → HasReadBack n ms → IsReadBack (suc n) (object ms)
 IsReadBack-object n ms reads good =
@@ -213,6 +224,7 @@ IsReadBack-object n ms reads good =
 abbrev data_of_tokens : Option (json.Json × List Token) → Option Data
 data_of_tokens o = option_and_then of_json (option_and_then (λ p. json.if_last p.0 p.1) o)
 
+-- a value that is read back is read from its compact text
 pub read-compact_text : (d : Data) → IsReadBack 127 d → read (compact_text d) ≡ Some d
 read-compact_text d good =
     let same = ap tokens (sym (print-outline d))

@@ -7,6 +7,7 @@ byte_before : {x : ℕ} (s rest : List ℕ) (i : ℕ) → i < length s → get_o
     → drop i s ≡ x ∷ rest
 byte_before s rest i within is others = drop_more s i 0 within ∙ (λ j. is j ∷ others j)
 
+-- a text of 3 bytes, by each of its bytes
 pub bytes_3 : {a b c : ℕ} (s : List ℕ) → length s ≡ 3
     → get_or s 0 0 ≡ a → get_or s 1 0 ≡ b → get_or s 2 0 ≡ c
     → s ≡ a ∷ b ∷ c ∷ []
@@ -16,6 +17,7 @@ bytes_3 {a = a} {b = b} {c = c} s count is_a is_b is_c =
     let from_1 = byte_before s (c ∷ []) 1 (omega (arith, count)) is_b from_2 in
     byte_before s (b ∷ c ∷ []) 0 (omega (arith, count)) is_a from_1
 
+-- a text of 4 bytes
 pub bytes_4 : {a b c d : ℕ} (s : List ℕ) → length s ≡ 4
     → get_or s 0 0 ≡ a → get_or s 1 0 ≡ b → get_or s 2 0 ≡ c → get_or s 3 0 ≡ d
     → s ≡ a ∷ b ∷ c ∷ d ∷ []
@@ -26,6 +28,7 @@ bytes_4 {a = a} {b = b} {c = c} {d = d} s count is_a is_b is_c is_d =
     let from_1 = byte_before s (c ∷ d ∷ []) 1 (omega (arith, count)) is_b from_2 in
     byte_before s (b ∷ c ∷ d ∷ []) 0 (omega (arith, count)) is_a from_1
 
+-- a text of 5 bytes
 pub bytes_5 : {a b c d e : ℕ} (s : List ℕ) → length s ≡ 5
     → get_or s 0 0 ≡ a → get_or s 1 0 ≡ b → get_or s 2 0 ≡ c → get_or s 3 0 ≡ d → get_or s 4 0 ≡ e
     → s ≡ a ∷ b ∷ c ∷ d ∷ e ∷ []
@@ -37,6 +40,7 @@ bytes_5 {a = a} {b = b} {c = c} {d = d} {e = e} s count is_a is_b is_c is_d is_e
     let from_1 = byte_before s (c ∷ d ∷ e ∷ []) 1 (omega (arith, count)) is_b from_2 in
     byte_before s (b ∷ c ∷ d ∷ e ∷ []) 0 (omega (arith, count)) is_a from_1
 
+-- a text of 6 bytes
 pub bytes_6 : {a b c d e f : ℕ} (s : List ℕ) → length s ≡ 6
     → get_or s 0 0 ≡ a → get_or s 1 0 ≡ b → get_or s 2 0 ≡ c → get_or s 3 0 ≡ d → get_or s 4 0 ≡ e
     → get_or s 5 0 ≡ f
@@ -50,6 +54,7 @@ bytes_6 {a = a} {b = b} {c = c} {d = d} {e = e} {f = f} s count is_a is_b is_c i
     let from_1 = byte_before s (c ∷ d ∷ e ∷ f ∷ []) 1 (omega (arith, count)) is_b from_2 in
     byte_before s (b ∷ c ∷ d ∷ e ∷ f ∷ []) 0 (omega (arith, count)) is_a from_1
 
+-- a text of 7 bytes
 pub bytes_7 : {a b c d e f g : ℕ} (s : List ℕ) → length s ≡ 7
     → get_or s 0 0 ≡ a → get_or s 1 0 ≡ b → get_or s 2 0 ≡ c → get_or s 3 0 ≡ d → get_or s 4 0 ≡ e
     → get_or s 5 0 ≡ f → get_or s 6 0 ≡ g

@@ -22,14 +22,17 @@ unfolding parse_json
 parse_json-NotJson_by_cases text true e none = rw (e, none (IsUtf8-from_is_utf8 text e)) refl
 parse_json-NotJson_by_cases text false e none = rw e refl
 
+-- a text that isn't UTF-8, or that JSON's reader refuses, is no JSON
 pub parse_json-NotJson : (text : List ℕ) → (IsUtf8 text → read text ≡ None) → parse_json text ≡ Err NotJson
 parse_json-NotJson text none = parse_json-NotJson_by_cases text (is_utf8 text) refl none
 
+-- the certificate that a call reads is the one that the text denotes
 pub denotes-unless_out_of_memory : (t : TopologyValue) (text : List ℕ) (r : Result (List Tree) CertFault)
     → Gives (λ (c : List Tree). c) r (parse_certificate t text) → IfOk r (DenotesCertificate t text)
 denotes-unless_out_of_memory t text (Ok flows) gives = parse_certificate-denotes t text flows gives
 denotes-unless_out_of_memory t text (Err fault) gives = tt
 
+-- the certificate that a text denotes is read, unless memory runs out
 pub Gives-from_denotes : (t : TopologyValue) (text : List ℕ) (r : Result (List Tree) CertFault)
     → Gives (λ (c : List Tree). c) r (parse_certificate t text) → (flows : List Tree)
     → DenotesCertificate t text flows → Gives (λ (c : List Tree). c) r (Ok flows)

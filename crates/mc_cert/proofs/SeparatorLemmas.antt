@@ -100,6 +100,7 @@ pub flow_texts-none : (flows : List Flow) (s : List ℕ) → s ≡ listed (flow_
 flow_texts-none [] s = refl
 flow_texts-none (f ∷ flows) s = refl
 
+-- before the first flow there is no separator
 pub separator_of-none : (flows : List Flow) → let none : List ℕ = [] in
     [] ≡ separator_of (zip flows none)
 separator_of-none [] = refl

@@ -27,6 +27,7 @@ IsWritableTree-unwrap_or : (trees : List Tree) (o : Option Tree) (n : ℕ) → s
 IsWritableTree-unwrap_or trees None n e all = IsWritableTree-none
 IsWritableTree-unwrap_or trees (Some es) n e all = All-at_number IsWritableTree trees n es all e
 
+-- a text can have each flow's tree of a certificate in memory
 pub IsWritableTree-from_valid : (trees : List Tree) (numbers : Option (List ℕ)) (n : ℕ) (es : Tree)
     → IsValidCertificate trees numbers → slice_get (trees_by_flow trees numbers) n ≡ Some es
     → IsWritableTree es

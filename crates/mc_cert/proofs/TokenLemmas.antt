@@ -79,6 +79,7 @@ Reads-deeper k m ts d rest le is = record { read = λ depth deep. is.read depth 
 
 -- ---- lists
 
+-- these values in front of the other items
 abbrev pub items_before : List Data → Items → Items
 items_before [] rest = rest
 items_before (d ∷ ds) rest = item d (items_before ds rest)
@@ -109,6 +110,7 @@ pub record ListSoFar (levels : ℕ) (start : List Token) (ds : List Data) (ts : 
       → converted of_items (items (value depth) (length start) start)
       ≡ parse_map (items_before ds) (converted of_items (items (value depth) turns ts))
 
+-- at the first token of a list no value was read
 pub ListSoFar-none : (levels : ℕ) (ts : List Token) → ListSoFar levels ts [] ts
 ListSoFar-none levels ts = record {
   turns = length ts;
@@ -116,6 +118,7 @@ ListSoFar-none levels ts = record {
   same = λ depth le. parse_map-none_before _;
 }
 
+-- one value more is read
 pub ListSoFar-more : (levels : ℕ) (start : List Token) (ds : List Data) (ts rest : List Token) (d : Data)
     → ListSoFar levels start ds ts → after_end_array ts ≡ None → Reads levels ts d rest
     → ListSoFar levels start (ds ++ d ∷ []) rest
@@ -133,6 +136,7 @@ ListSoFar-more levels start ds ts rest d old going is =
           ∙ parse_map-item ds d _;
     }
 
+-- at the end of the list, the tokens begin with the list of the values that were read
 pub Reads-array : (levels : ℕ) (ts start : List Token) (ds : List Data) (last rest : List Token)
     → ts ≡ Token.begin_array ∷ start → ListSoFar levels start ds last → after_end_array last ≡ Some rest
     → Reads (levels + 1) ts (array (items_of ds)) rest
@@ -147,6 +151,7 @@ Reads-array levels ts start ds last rest opened old closed = record {
       ∙ ap (λ js. Some (array js, rest)) (items_before-no_items ds);
 }
 
+-- the rows of a list of values are the values
 pub rows_in-items_of : (ds : List Data) → rows_in (items_of ds) ≡ ds
 rows_in-items_of [] = refl
 rows_in-items_of (d ∷ ds) = ap (λ (es : List Data). d ∷ es) (rows_in-items_of ds)
@@ -172,6 +177,7 @@ pub record ObjectSoFar (levels : ℕ) (start : List Token) (ms : Members) (ts : 
       → converted (λ m. of_members m no_members) (members (value depth) (length start) start)
       ≡ converted (λ m. of_members m ms) (members (value depth) turns ts)
 
+-- one key with its value more is read
 pub ObjectSoFar-more : (levels : ℕ) (start : List Token) (ms : Members) (k : List ℕ) (ts s rest : List Token)
     (d : Data) → ObjectSoFar levels start ms ts → read_key ts ≡ Some (Some k, s) → Reads levels s d rest
     → ObjectSoFar levels start (put k d ms) rest
@@ -190,6 +196,7 @@ ObjectSoFar-more levels start ms k ts s rest d old key is =
           ∙ converted-member k j.0 d ms j.2 _;
     }
 
+-- at the end of the object, the tokens begin with the object of the members that were read
 pub Reads-object : (levels : ℕ) (ts start : List Token) (ms : Members) (last rest : List Token)
     → ts ≡ Token.begin_object ∷ start → ObjectSoFar levels start ms last → read_key last ≡ Some (None, rest)
     → Reads (levels + 1) ts (object ms) rest
@@ -205,6 +212,7 @@ Reads-object levels ts start ms last rest opened old closed = record {
 
 -- ---- texts and numbers
 
+-- the token of a text is read as that text
 pub Reads-string : (ts : List Token) (text : List ℕ) (rest : List Token) → ts ≡ Token.string text ∷ rest
     → Reads 0 ts (string text) rest
 Reads-string ts text rest is = record {

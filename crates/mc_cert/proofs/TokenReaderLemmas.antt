@@ -20,6 +20,7 @@ use Rattle.mc_cert.specs.TokenReader.{tokens_at, may_begin, may_close, BeginsWit
 
 -- ---- white space
 
+-- white space in front changes no token
 pub lex-space : (x : ℕ) (xs : List ℕ) → is_space x ≡ true → lex between (x ∷ xs) ≡ lex between xs
 unfolding lex
 lex-space x xs is =
@@ -45,6 +46,7 @@ lex-space x xs is =
 
 -- ---- tokens
 
+-- where a value may begin, an opening brace begins an object
 pub token-begin_object : (place : Place) (text rest : List ℕ) → may_begin place ≡ true
     → BeginsWith 123 text rest
     → tokens_at place text ≡ begin_object ∷ tokens_at Fresh rest
@@ -53,6 +55,7 @@ token-begin_object Fresh text rest may begins = ap (punctuate fresh) begins
 token-begin_object AfterValue text rest may begins = absurd cc
 token-begin_object AfterComma text rest may begins = ap (punctuate after_comma) begins
 
+-- where a value may begin, an opening bracket begins a list
 pub token-begin_array : (place : Place) (text rest : List ℕ) → may_begin place ≡ true
     → BeginsWith 91 text rest
     → tokens_at place text ≡ begin_array ∷ tokens_at Fresh rest
@@ -61,6 +64,7 @@ token-begin_array Fresh text rest may begins = ap (punctuate fresh) begins
 token-begin_array AfterValue text rest may begins = absurd cc
 token-begin_array AfterComma text rest may begins = ap (punctuate after_comma) begins
 
+-- where an object may end, a closing brace ends it
 pub token-end_object : (place : Place) (text rest : List ℕ) → may_close place ≡ true
     → BeginsWith 125 text rest
     → tokens_at place text ≡ end_object ∷ punctuate after_value (lex between rest)
@@ -69,6 +73,7 @@ token-end_object Fresh text rest may begins = ap (punctuate fresh) begins
 token-end_object AfterValue text rest may begins = ap (punctuate after_value) begins
 token-end_object AfterComma text rest may begins = absurd cc
 
+-- where a list may end, a closing bracket ends it
 pub token-end_array : (place : Place) (text rest : List ℕ) → may_close place ≡ true → BeginsWith 93 text rest
     → tokens_at place text ≡ end_array ∷ punctuate after_value (lex between rest)
 unfolding lex punctuate
@@ -86,6 +91,7 @@ no_end-before_object AfterValue text rest begins =
 no_end-before_object AfterComma text rest begins =
     ap (λ ls. after_end_array (punctuate after_comma ls)) begins
 
+-- in front of an opening bracket no list ends
 pub no_end-before_array : (place : Place) (text rest : List ℕ) → BeginsWith 91 text rest
     → after_end_array (tokens_at place text) ≡ None
 unfolding lex punctuate
@@ -100,6 +106,7 @@ unfolding lex
 lex-string text inside s after begins read rest =
     begins ∙ (λ i. token (string_token (read i)) ∷ rest i)
 
+-- where a key may begin, a text that a colon comes after is a key
 pub token-key : (place : Place) (text inside s after rest : List ℕ) → may_begin place ≡ true
     → BeginsWith 34 text inside → content plain inside ≡ Some s → lex in_string inside ≡ lex between after
     → BeginsWith 58 after rest → tokens_at place text ≡ key s ∷ tokens_at Fresh rest
@@ -112,6 +119,7 @@ token-key AfterComma text inside s after rest may begins read next is =
     ap (punctuate after_comma) (lex-string text inside s after begins read next
     ∙ ap (λ ls. token (string s) ∷ ls) is)
 
+-- where a value may begin, a text that no colon comes after is a value
 pub token-string : (place : Place) (text inside s after : List ℕ) → may_begin place ≡ true
     → BeginsWith 34 text inside → content plain inside ≡ Some s → lex in_string inside ≡ lex between after
     → begins_colon (lex between after) ≡ false
@@ -123,6 +131,7 @@ token-string AfterValue text inside s after may begins read next no_colon = absu
 token-string AfterComma text inside s after may begins read next no_colon =
     ap (punctuate after_comma) (lex-string text inside s after begins read next) ∙ rw no_colon refl
 
+-- where a value may begin, the digits of a number below 10,000 are that number
 pub token-number : (place : Place) (text digits : List ℕ) (n : ℕ) (after : List ℕ) → may_begin place ≡ true
     → lex between text ≡ lex between digits → digits ≡ decimal n ++ after → n < 10000 → ends_word after ≡ true
     → tokens_at place text ≡ number (decimal n) ∷ punctuate after_value (lex between after)

@@ -14,7 +14,7 @@ use Rattle.mc_topology.specs.Topology.{TopologyValue}
 use Rattle.mc_cert.specs.contracts.reached.ReachedOrd.TheImpl.{ghosts as by_order}
 use Rattle.mc_cert.specs.contracts.reached.ReachedOrd.TheImpl.Laws.{matches_eq-law}
 use Rattle.mc_cert.specs.Certificate.{Tree, tree_at, IsWritableTree}
-use Rattle.mc_cert.specs.CertificateText.{version_two_text, certificate_text}
+use Rattle.mc_cert.specs.CertificateText.{version_two_text, certificate_json}
 use Rattle.mc_cert.specs.Distinct.{same_tree, find_tree, with_tree, distinct_trees, tree_number_of}
 use Rattle.mc_cert.specs.Trees.{trees_of, IsTreeNumberMap, AreSharedTrees}
 use Rattle.mc_cert.proofs.DistinctLemmas.{same_tree-Decides, same_tree-flip_false, find_tree-push_new}
@@ -97,6 +97,7 @@ module _ (trees now : List Tree) (es : Tree) (n : ℕ) (grown : now ≡ with_tre
       ap₂ (λ t ts. t ∷ ts) (tree_at-with_tree_same m (named zero m (omega arith)))
       (trees_of-with_tree numbers (λ k d lt. named (suc k) d (omega (arith, lt))))
 
+  -- after a tree and its number are added, the flows have that tree as the last one
   pub trees_of-push : (numbers : List ℕ) → AreSharedTrees trees numbers
       → trees_of now (numbers ++ n ∷ []) ≡ trees_of trees numbers ++ es ∷ []
   trees_of-push numbers shared =
@@ -104,6 +105,7 @@ module _ (trees now : List Tree) (es : Tree) (n : ℕ) (grown : now ≡ with_tre
       ∙ ap₂ (λ ts t. ts ++ t ∷ []) (trees_of-with_tree numbers shared.named)
       (ap (λ o. unwrap_or o []) (slice_get-find_tree now es n here).1)
 
+  -- what is kept of shared trees stays so, for a tree that a text can have and fewer than 4,096 flows
   pub AreSharedTrees-push : (numbers : List ℕ) → AreSharedTrees trees numbers → length numbers < 4096
       → IsWritableTree es → AreSharedTrees now (numbers ++ n ∷ [])
   AreSharedTrees-push numbers shared few list =
@@ -139,7 +141,7 @@ tree_numbers-AreSharedTrees trees (n ∷ numbers) named =
 -- the text of the distinct trees and the flows' numbers is the certificate's
 pub version_two_text-AreSharedTrees : (t : TopologyValue) (trees : List Tree) (numbers : List ℕ)
     → AreSharedTrees trees numbers
-    → version_two_text t numbers trees ≡ certificate_text t (trees_of trees numbers)
+    → version_two_text t numbers trees ≡ certificate_json t (trees_of trees numbers)
 version_two_text-AreSharedTrees t trees numbers shared =
     ap (λ ns. version_two_text t ns trees) (tree_numbers-AreSharedTrees trees numbers shared.named)
     ∙ ap (λ (ts : List Tree). version_two_text t (map (tree_number_of ts) (trees_of trees numbers)) ts)

@@ -7,7 +7,7 @@ use Rattle.std.specs.List.{AllByRecursion}
 use Rattle.std.proofs.lemmas.List.{length-map}
 use Rattle.mc_topology.specs.Topology.{TopologyValue, IsValidTopology}
 use Rattle.mc_cert.specs.Certificate.{Tree, tree_at, IsWritableTree, HasByteNumbers, IsEntryOf, BelongsTo}
-use Rattle.mc_cert.specs.CertificateText.{certificate_text}
+use Rattle.mc_cert.specs.CertificateText.{certificate_json}
 use Rattle.mc_cert.specs.Distinct.{find_tree, with_tree, distinct_trees, tree_number_of}
 use Rattle.mc_cert.specs.Denotation.{DenotesCertificate}
 use Rattle.mc_cert.specs.Writable.{IsWritableTreeFor}
@@ -63,11 +63,11 @@ tree_number_of-below_length trees es (k, e) = omega (
 -- ---- the text
 
 -- the text denotes the certificate,
-certificate_text-denotes_by_trees : (t : TopologyValue) (flows : List Tree) → IsValidTopology t
+certificate_json-denotes_by_trees : (t : TopologyValue) (flows : List Tree) → IsValidTopology t
     → length flows ≡ length t.flows → All (IsWritableTreeFor t) (distinct_trees flows)
-    → length (certificate_text t flows) ≤ 16777216
-    → DenotesCertificate t (certificate_text t flows) flows
-certificate_text-denotes_by_trees t flows rules count all few =
+    → length (certificate_json t flows) ≤ 16777216
+    → DenotesCertificate t (certificate_json t flows) flows
+certificate_json-denotes_by_trees t flows rules count all few =
     let trees = distinct_trees flows in
     let tree_numbers = map (tree_number_of trees) flows in
     let few_trees : length trees ≤ 4096 = omega (
@@ -81,11 +81,11 @@ certificate_text-denotes_by_trees t flows rules count all few =
     AllByRecursion-map (λ n. n < length trees) (tree_number_of trees) flows
     (AllByRecursion-implies (λ es. (k : ℕ) × (find_tree trees es ≡ Some k))
     (λ es. tree_number_of trees es < length trees) (tree_number_of-below_length trees) flows at) in
-    subst (λ (own : List Tree). DenotesCertificate t (certificate_text t flows) own)
+    subst (λ (own : List Tree). DenotesCertificate t (certificate_json t flows) own)
     (tree_at-tree_number_of trees flows at)
-    (version_two_text-denotes t tree_numbers trees (certificate_text t flows) [] rules
+    (version_two_text-denotes t tree_numbers trees (certificate_json t flows) [] rules
     (omega (arith, length-map flows (tree_number_of trees), count)) named few_trees all few
-    (sym (append-nil (certificate_text t flows))) (IsTextEnd-from_rest [] (inl refl)))
+    (sym (append-nil (certificate_json t flows))) (IsTextEnd-from_rest [] (inl refl)))
 
 -- a tree of a certificate, with numbers that are bytes and in the topology, can be written
 IsWritableTreeFor-from_parts : (t : TopologyValue) (es : Tree) → IsWritableTree es → All HasByteNumbers es
@@ -101,29 +101,29 @@ IsWritableTreeFor-from_parts t es list bytes among =
     }
 
 -- the same where the numbers of the distinct trees are bytes
-pub certificate_text-denotes_as_written : (t : TopologyValue) (flows trees : List Tree) (text : List ℕ)
+pub certificate_json-denotes_as_written : (t : TopologyValue) (flows trees : List Tree) (text : List ℕ)
     → IsValidTopology t
     → BelongsTo t flows → trees ≡ distinct_trees flows → All IsWritableTree trees
     → All (All HasByteNumbers) trees
-    → text ≡ certificate_text t flows → length text ≤ 16777216 → DenotesCertificate t text flows
-certificate_text-denotes_as_written t flows trees text rules belongs made lists bytes is few =
+    → text ≡ certificate_json t flows → length text ≤ 16777216 → DenotesCertificate t text flows
+certificate_json-denotes_as_written t flows trees text rules belongs made lists bytes is few =
     let among : All (All (IsEntryOf t)) trees = All-distinct_trees
     (All (IsEntryOf t)) flows flows trees refl belongs.entries made in
     let writable : All (IsWritableTreeFor t) trees =
     λ k d lt. IsWritableTreeFor-from_parts t (get_or trees k d)
     (lists k d lt) (bytes k d lt) (among k d lt) in
-    let short : length (certificate_text t flows) ≤ 16777216 =
+    let short : length (certificate_json t flows) ≤ 16777216 =
     subst (λ (s : List ℕ). length s ≤ 16777216) is few in
     subst (λ (s : List ℕ). DenotesCertificate t s flows) (sym is)
-    (certificate_text-denotes_by_trees t flows rules belongs.count
+    (certificate_json-denotes_by_trees t flows rules belongs.count
     (subst (λ (ts : List Tree). All (IsWritableTreeFor t) ts) made writable) short)
 
 -- the text of a certificate that belongs to the topology
-pub certificate_text-denotes : (t : TopologyValue) (flows : List Tree) → IsValidTopology t → BelongsTo t flows
-    → All IsWritableTree flows → All (All HasByteNumbers) flows → length (certificate_text t flows) ≤ 16777216
-    → DenotesCertificate t (certificate_text t flows) flows
-certificate_text-denotes t flows rules belongs lists bytes few =
+pub certificate_json-denotes : (t : TopologyValue) (flows : List Tree) → IsValidTopology t → BelongsTo t flows
+    → All IsWritableTree flows → All (All HasByteNumbers) flows → length (certificate_json t flows) ≤ 16777216
+    → DenotesCertificate t (certificate_json t flows) flows
+certificate_json-denotes t flows rules belongs lists bytes few =
     let trees = distinct_trees flows in
-    certificate_text-denotes_as_written t flows trees (certificate_text t flows) rules belongs refl
+    certificate_json-denotes_as_written t flows trees (certificate_json t flows) rules belongs refl
     (All-distinct_trees IsWritableTree flows flows trees refl lists refl)
     (All-distinct_trees (All HasByteNumbers) flows flows trees refl bytes refl) refl few

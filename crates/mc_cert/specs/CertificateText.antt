@@ -56,6 +56,6 @@ version_two_text t tree_numbers trees =
     ++ codes "],\"version\":2}"
 
 -- the text of a certificate, which has each distinct tree once, in the order of first use
-abbrev pub certificate_text : TopologyValue → List Tree → List ℕ
-certificate_text t flows = version_two_text t (map (tree_number_of (distinct_trees flows)) flows)
+abbrev pub certificate_json : TopologyValue → List Tree → List ℕ
+certificate_json t flows = version_two_text t (map (tree_number_of (distinct_trees flows)) flows)
     (distinct_trees flows)

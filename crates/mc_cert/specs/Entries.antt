@@ -63,5 +63,5 @@ entry_of t d = do
 
 -- the entries of the flow or the tree at a place, each with its number, counted from 1; or the
 -- first fault
-unfoldable pub entries_of : TopologyValue → At → List Data → Result (List Entry) CertFault
-entries_of t at rows = each_row (λ n d. locate_fault (entry_place at (n + 1)) (entry_of t d)) [] rows
+unfoldable pub entries_in_rows : TopologyValue → At → List Data → Result (List Entry) CertFault
+entries_in_rows t at rows = each_row (λ n d. locate_fault (entry_place at (n + 1)) (entry_of t d)) [] rows

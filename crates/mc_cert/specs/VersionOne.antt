@@ -14,7 +14,7 @@ use Rattle.mc_cert.specs.declared.fault.CertFaultKind.TheVariants.{WrongFlows}
 use Rattle.mc_cert.specs.declared.fault.CertFault.{CertFault}
 use Rattle.mc_cert.specs.Answer.{locate_fault, each_row}
 use Rattle.mc_cert.specs.Certificate.{Tree}
-use Rattle.mc_cert.specs.Entries.{entries_of}
+use Rattle.mc_cert.specs.Entries.{entries_in_rows}
 use Rattle.mc_cert.specs.Object.{object_of, text_at, list_at, at_most}
 
 -- whether the texts are the flow's group and its source
@@ -54,7 +54,7 @@ unfoldable pub flow_of : TopologyValue → ℕ → Data → Result Tree CertFaul
 flow_of t n d = do
   flow ← locate_fault (at.Flow (n + 1)) (flow_at t n)
   rows ← locate_fault (at.Flow (n + 1)) (reached_rows flow d)
-  entries_of t (at.Flow (n + 1)) rows
+  entries_in_rows t (at.Flow (n + 1)) rows
 
 -- the tree of each flow, in order, or the first fault
 unfoldable pub flows_in : TopologyValue → Members → Result (List Tree) CertFault

@@ -13,7 +13,7 @@ use Rattle.mc_cert.specs.declared.fault.CertFaultKind.TheVariants.{BadNumber, Wr
 use Rattle.mc_cert.specs.declared.fault.CertFault.{CertFault}
 use Rattle.mc_cert.specs.Answer.{locate_fault, each_row}
 use Rattle.mc_cert.specs.Certificate.{Tree, tree_at}
-use Rattle.mc_cert.specs.Entries.{entries_of}
+use Rattle.mc_cert.specs.Entries.{entries_in_rows}
 use Rattle.mc_cert.specs.Object.{object_of, list_of, text_at, number_at, list_at, at_most}
 use Rattle.mc_cert.specs.VersionOne.{are_texts_of_flow, flow_at, flow_rows}
 
@@ -31,7 +31,7 @@ tree_entry_rows d = list_of d >>= at_most 1024
 unfoldable pub tree_of : TopologyValue → ℕ → Data → Result Tree CertFault
 tree_of t n d = do
   rows ← locate_fault (at.Tree (n + 1)) (tree_entry_rows d)
-  entries_of t (at.Tree (n + 1)) rows
+  entries_in_rows t (at.Tree (n + 1)) rows
 
 -- the number, which has to be whole, and below the count (else BadNumber)
 abbrev pub below_count : ℕ → Option ℕ → Result ℕ CertFaultKind

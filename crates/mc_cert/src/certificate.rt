@@ -51,7 +51,7 @@ impl Certificate {
     ghost use Rattle.std.specs.Prelude.{List, IfOk, Ok};
     ghost use Rattle.mc_cert.specs.Answer.{Gives};
     ghost use Rattle.mc_cert.specs.Certificate.{Tree, BelongsTo};
-    ghost use Rattle.mc_cert.specs.CertificateText.{certificate_text};
+    ghost use Rattle.mc_cert.specs.CertificateText.{certificate_json};
     ghost use Rattle.mc_cert.specs.Reading.{parse_certificate};
     ghost use Rattle.mc_cert.specs.Denotation.{DenotesCertificate};
 
@@ -184,7 +184,7 @@ impl Certificate {
     pub fn to_json(&self, alloc: Global, topology: &Topology) -> Result<String, Memory>
         requires valid { BelongsTo topology.now self.now }
         ensures text { IfOk result (λ text. string_bytes text
-            ≡ certificate_text topology.now self.now) }
+            ≡ certificate_json topology.now self.now) }
         ensures denotes { IfOk result (λ text. length (string_bytes text) ≤ max_text →
             DenotesCertificate topology.now (string_bytes text) self.now) }
     {

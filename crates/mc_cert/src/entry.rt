@@ -5,7 +5,7 @@ ghost use Rattle.serde_json.specs.View.{view, members_view};
 ghost use Rattle.mc_topology.specs.Answer.{ResultsAgree};
 ghost use Rattle.mc_cert.specs.Answer.{Gives, locate_fault, entry_place};
 ghost use Rattle.mc_cert.specs.Entries.{lan_in, router_of, vif_of, forwarder_of, entry_of};
-ghost use Rattle.mc_cert.specs.Entries.{entries_of};
+ghost use Rattle.mc_cert.specs.Entries.{entries_in_rows};
 
 use crate::fault::{At, CertFault, CertFaultKind};
 use crate::object::{in_range, number_of, object_of, text_at, text_of, value_at, whole_at};
@@ -122,8 +122,8 @@ impl<'t> RowReader for EntryReader<'t> {
 }
 
 /// Reads the entries of the flow or the tree at this place, one after the other.
-#[tactic(auto, unfolding(crate::specs::Entries::entries_of))]
-pub(crate) fn entries_of(
+#[tactic(auto, unfolding(crate::specs::Entries::entries_in_rows))]
+pub(crate) fn entries_in_rows(
     alloc: Global,
     topology: &Topology,
     list: At,
@@ -131,7 +131,7 @@ pub(crate) fn entries_of(
 ) -> Result<Vec<Reached>, CertFault>
     requires bounded { length rows.now ≤ MAX_ENTRIES }
     ensures gives { Gives (λ entries. entries.items) result
-        (entries_of topology.now list (map view rows.now)) }
+        (entries_in_rows topology.now list (map view rows.now)) }
 {
     each_row(alloc, &EntryReader { topology, list }, rows)
 }

@@ -4,7 +4,7 @@ ghost use Rattle.std.specs.Prelude.{◌≡◌, ◌↔◌, ℕ, ◌<◌, ◌≤�
 ghost use Rattle.mc_text.specs.Lines.{max_text};
 ghost use Rattle.mc_topology.specs.Topology.{TopologyValue, IsValidTopology};
 ghost use Rattle.mc_cert.specs.Certificate.{Tree, BelongsTo};
-ghost use Rattle.mc_cert.specs.CertificateText.{certificate_text};
+ghost use Rattle.mc_cert.specs.CertificateText.{certificate_json};
 ghost use Rattle.mc_cert.specs.Reading.{parse_certificate};
 ghost use Rattle.mc_cert.specs.Denotation.{DenotesCertificate};
 ghost use Rattle.mc_cert.specs.Writable.{IsWritableFor};
@@ -28,8 +28,8 @@ pub fn denoted_certificate_belongs_to_topology()
 /// than a text may be. Each topology in memory is valid, by the clauses `rules` of its methods.
 pub fn certificate_text_denotes_certificate()
     ensures { (t : TopologyValue) (flows : List Tree) → IsValidTopology t → IsWritableFor t flows →
-        length (certificate_text t flows) ≤ max_text →
-        DenotesCertificate t (certificate_text t flows) flows }
+        length (certificate_json t flows) ≤ max_text →
+        DenotesCertificate t (certificate_json t flows) flows }
 {}
 
 /// A line feed at the end of a text changes nothing, where the text with it isn't longer than it may be.

@@ -4,7 +4,7 @@ ghost use Rattle.std.specs.Prelude.{◌≡◌, ◌<◌, ◌≤◌, [], ◌∷◌
 ghost use Rattle.std.specs.Prelude.{string_bytes};
 ghost use Rattle.mc_text.specs.Lines.{max_text};
 ghost use Rattle.mc_cert.specs.Certificate.{BelongsTo, IsWritableTree};
-ghost use Rattle.mc_cert.specs.CertificateText.{certificate_text};
+ghost use Rattle.mc_cert.specs.CertificateText.{certificate_json};
 ghost use Rattle.mc_cert.specs.Denotation.{DenotesCertificate};
 
 use crate::distinct::DistinctTrees;
@@ -75,7 +75,7 @@ impl Trees {
     pub fn to_json(&self, alloc: Global, topology: &Topology) -> Result<String, Memory>
         requires valid { BelongsTo topology.now self.now }
         ensures text { IfOk result (λ text. string_bytes text
-            ≡ certificate_text topology.now self.now) }
+            ≡ certificate_json topology.now self.now) }
         ensures denotes { IfOk result (λ text. length (string_bytes text) ≤ max_text →
             DenotesCertificate topology.now (string_bytes text) self.now) }
     {

@@ -10,7 +10,7 @@ ghost use Rattle.mc_cert.specs.Answer.{Gives};
 ghost use Rattle.mc_cert.specs.VersionOne.{are_texts_of_flow, flow_rows, reached_rows, flow_of, flows_in};
 
 use crate::certificate::Certificate;
-use crate::entry::{MAX_ENTRIES, entries_of};
+use crate::entry::{MAX_ENTRIES, entries_in_rows};
 use crate::fault::{At, CertFault, CertFaultKind};
 use crate::object::{at_most, list_at, object_of, text_at};
 use crate::reached::Reached;
@@ -103,7 +103,7 @@ impl<'t> RowReader for FlowReader<'t> {
         let place = At::Flow(number as u32 + 1);
         let flow = self.topology.flow(number as u32);
         let rows = reached_rows(flow, value).map_err(|kind| kind.at(place))?;
-        entries_of(self.alloc, self.topology, place, rows)
+        entries_in_rows(self.alloc, self.topology, place, rows)
     }
 }
 

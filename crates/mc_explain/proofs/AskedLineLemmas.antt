@@ -8,16 +8,15 @@ use Rattle.std.proofs.lemmas.Bool.{and_parts}
 use Rattle.mc_text.specs.Addr.{dotted}
 use Rattle.mc_text.proofs.BundleWords.{HasNoByte}
 use Rattle.mc_topology.specs.Topology.{TopologyValue, IsValidTopology}
-use Rattle.mc_asked.specs.Forwarding.{routers_in}
 use Rattle.mc_asked.specs.ListWants.{Want}
 use Rattle.mc_asked.specs.Services.{service_name, services}
 use Rattle.mc_asked.specs.declared.forwarding.RouterState.{RouterState}
-use Rattle.mc_asked.specs.declared.forwarding.RouterState.TheVariants.{EverySource, NoneOut, Forwards}
 use Rattle.mc_explain.specs.AskedText.{IsAskedLine, address_after_space, addresses_text, asked_line_text}
 use Rattle.mc_explain.specs.AskedText.{asked_more_text, asked_text, forwarding_text, is_ignored_by_routers}
 use Rattle.mc_explain.specs.AskedText.{listed_sources, listed_text, routers_or, service_after_space}
 use Rattle.mc_explain.specs.AskedText.{services_text, some_services_text, ssm_text}
 use Rattle.mc_explain.specs.Indented.{HasNoLineFeed}
+use Rattle.mc_explain.specs.RoutersForWant.{RoutersForWant, routers_by_state}
 use Rattle.mc_explain.specs.RowText.{address_text}
 use Rattle.mc_explain.specs.ShownNames.{lans_text, more_text}
 use Rattle.mc_explain.specs.UnlistedLines.{AreLines}
@@ -83,14 +82,14 @@ no_feed-routers_or t (router ∷ routers) words otherwise ok begin rest =
     no_feed-append words _ begin (no_feed-routers_text t (router ∷ routers) ok)
 
 -- what routers have for the want
-no_feed-forwarding_text : (t : TopologyValue) (are_excluded : Bool) (states : List RouterState)
-    → IsValidTopology t → HasNoByte 10 (forwarding_text t are_excluded states)
-no_feed-forwarding_text t are_excluded states ok =
-    no_feed-routers_or t (routers_in Forwards states) (codes "forwarded by") _ ok
+no_feed-forwarding_text : (t : TopologyValue) (are_excluded : Bool) (routers : RoutersForWant)
+    → IsValidTopology t → HasNoByte 10 (forwarding_text t are_excluded routers)
+no_feed-forwarding_text t are_excluded routers ok =
+    no_feed-routers_or t routers.forwards (codes "forwarded by") _ ok
     (no_feed-from_list_all (codes "forwarded by") refl)
-    (no_feed-routers_or t (routers_in NoneOut states) (codes "no outgoing LAN interface in") _ ok
+    (no_feed-routers_or t routers.none_out (codes "no outgoing LAN interface in") _ ok
     (no_feed-from_list_all (codes "no outgoing LAN interface in") refl)
-    (no_feed-routers_or t (routers_in EverySource states) (codes "no entry for it but (*,G) or (*,*) in") _ ok
+    (no_feed-routers_or t routers.every_source (codes "no entry for it but (*,G) or (*,*) in") _ ok
     (no_feed-from_list_all (codes "no entry for it but (*,G) or (*,*) in") refl)
     (no_feed-cond are_excluded (codes "no router with known tables forwards it")
     (codes "no router forwards it")
@@ -131,8 +130,8 @@ pub are_asked_lines-asked_text : (t : TopologyValue) (are_excluded : Bool) (flow
     → AreLines IsAskedLine (asked_text t are_excluded flows states line)
 are_asked_lines-asked_text t are_excluded flows states line ok =
     are_asked_lines-asked_line_text t line _ ok
-    (no_feed-append (forwarding_text t are_excluded states) _
-    (no_feed-forwarding_text t are_excluded states ok)
+    (no_feed-append (forwarding_text t are_excluded (routers_by_state states)) _
+    (no_feed-forwarding_text t are_excluded (routers_by_state states) ok)
     (no_feed-append (listed_text (listed_sources flows line.0.0)) (ssm_text line.0)
     (no_feed-listed_text (listed_sources flows line.0.0)) (no_feed-ssm_text line.0)))
 

@@ -16,7 +16,7 @@ use Rattle.mc_theory.specs.Hops.{hops_of_copy_until}
 use Rattle.mc_theory.specs.ShownFrom.{EachCompleteRunHasFault, IsShownFrom}
 use Rattle.mc_theory.proofs.SpareInterface.{earlier_copy-of_first_double}
 use Rattle.mc_theory.proofs.Travels.{first_copy_on-from_in_lans}
-use Rattle.mc_forward.specs.Domains.{DomainValue, IsDomain, net_of, ttl_of}
+use Rattle.mc_forward.specs.Domains.{DomainValue, IsDomain, net_of}
 use Rattle.mc_forward.proofs.DomainLemmas.{is_net-net_of, wants-below_lan_count}
 use Rattle.mc_replay.specs.FindingValues.{optional_finding_value}
 use Rattle.mc_replay.specs.PastStrays.{EndsPastStrays, finding_of_double, second_copy_finding}
@@ -98,10 +98,10 @@ has_circle-of_loop d flow g lan causes ok past w are found =
     }
 
 -- the TTL that is said is the need of the first double copy
-shown_from-is_need : (greatest : Bool) (n : Net) (cs : List Copy) (o : Option Copy) (c : Copy) (k : ℕ)
-    → second_shown_from greatest n cs o ≡ Some k → o ≡ Some c → need_of_two_copies n cs c.lan ≡ k
-shown_from-is_need greatest n cs o c k is double =
-    by greatest (sym (ap (second_shown_from greatest n cs) double) ∙ is)
+shown_from-is_need : (n : Net) (cs : List Copy) (o : Option Copy) (c : Copy) (k : ℕ)
+    → second_shown_from n cs o ≡ Some k → o ≡ Some c → need_of_two_copies n cs c.lan ≡ k
+shown_from-is_need n cs o c k is double =
+    by (n.ttl == 255) (sym (ap (second_shown_from n cs) double) ∙ is)
   where
     by : (b : Bool) → cond b None (Some (need_of_two_copies n cs c.lan)) ≡ Some k
         → need_of_two_copies n cs c.lan ≡ k
@@ -119,16 +119,16 @@ double-of_finding n cs x e = by (first_double [] cs) refl e
     by (Some c) q e = (c, q, cc)
 
 -- each complete run with such a TTL has the fault
-second_is_shown : (d : DomainValue) (flow : ℕ) (greatest : Bool) (g : Flight) (x : Finding) (k t : ℕ)
+second_is_shown : (d : DomainValue) (flow : ℕ) (g : Flight) (x : Finding) (k t : ℕ)
     → IsDomain d → EndsPastStrays (net_of d flow) (start (net_of d flow) 255) g
     → second_copy_finding (net_of d flow) g.carried ≡ Some x
-    → second_shown_from greatest (net_of d flow) g.carried (first_double [] g.carried) ≡ Some k → k ≤ t
+    → second_shown_from (net_of d flow) g.carried (first_double [] g.carried) ≡ Some k → k ≤ t
     → EachCompleteRunHasFault (net_of d flow) t x
-second_is_shown d flow greatest g x k t ok past found is le =
+second_is_shown d flow g x k t ok past found is le =
     let n = net_of d flow in
     let c = double-of_finding n g.carried x found in
     let from = is_shown_from-of_second d flow g c.0 ok past c.1 in
-    let need = shown_from-is_need greatest n g.carried (first_double [] g.carried) c.0 k is c.1 in
+    let need = shown_from-is_need n g.carried (first_double [] g.carried) c.0 k is c.1 in
     let shown = subst (IsShownFrom n g.carried x) need (subst (λ (y : Finding).
     IsShownFrom n g.carried y (need_of_two_copies n g.carried c.0.lan)) c.2 from.0) in
     each_complete_run_has-past_strays n (length d.topology.lans) 255 t k g x (is_net-net_of d flow ok)
@@ -206,7 +206,7 @@ is_true-behind whole d flow own b ok h =
           (shows (Duplicate lan) e).0 s.causes (sym s.finding ∙ e);
       loop_back = λ lan e. has_circle-of_loop d flow g lan b.causes.items ok h.run
           (shows (Loop lan) e).0 s.causes (sym s.finding ∙ e);
-      shown = λ x k t e from le. second_is_shown d flow (ttl_of d flow == 255) g x k t ok h.run
+      shown = λ x k t e from le. second_is_shown d flow g x k t ok h.run
           (sym s.finding ∙ e) (sym s.shown ∙ from) le;
       strays = λ i k. strays-of_run n own (first_double [] g.carried) g.strays i (subst (In i) s.strays k);
       missed = λ l k. missed-in_run d.topology n whole (start n 255) g

@@ -51,6 +51,7 @@ is_shown_from-of_second d flow g c ok past double =
 
 -- ---- which LANs are missed
 
+-- where no router is excluded and each row is followed, all LANs without a copy are called missed
 pub missed_unless_open-known : (whole : Bool) (open_routers lans : List ℕ) → whole ≡ true
     → (length open_routers == 0) ≡ true → lans ≡ missed_unless_open whole open_routers lans
 missed_unless_open-known true [] lans all none = refl

@@ -74,7 +74,8 @@ CauseHolds n causes (TakeOut lan router vif least) = IsHarmlessRemedy n router v
 CauseHolds n causes (Unplaced router vif) = LeadsOut n router vif
 CauseHolds n causes (OnlyEverySource router vif) = ReachesEverySourceRow n router vif
 CauseHolds n causes (LeastTtl lan least) = IsLeastTtl n lan least
-CauseHolds n causes (StoppedAt router vif threshold left) = StopsShortOfLan n causes router vif threshold left
+CauseHolds n causes (StoppedAt router vif threshold left) =
+    StopsShortOfLan n causes (StoppedAt router vif threshold left)
 
 -- each of these lines is true, beside these causes
 abbrev pub CausesHold : Net → List Cause → List Cause → Type 0
@@ -273,22 +274,24 @@ causes_hold-least_ttl f lan j causes ok e l =
     (in-append_right l.hop l.stopped.after (l.hop ∷ l.stopped.before) (inl refl)) in
     let first_is_cause : In (LeastTtl lan (need l.path)) causes =
     subst (In (LeastTtl lan (need l.path))) (sym l.causes_are) (inl refl) in
-    let stops : StopsShortOfLan n causes l.hop.router l.hop.vif l.hop.threshold l.left = (
-      l.hop,
-      lan,
-      need l.path,
-      first_is_cause,
-      record {
+    let stop = StoppedAt l.hop.router l.hop.vif l.hop.threshold l.left in
+    let stops : StopsShortOfLan n causes stop = record {
+      lan = lan;
+      least = need l.path;
+      hop = l.hop;
+      left = l.left;
+      named = first_is_cause;
+      stops = record {
         path = l.path;
         leads = leads;
         is_hop = is_hop-from_path n n.source lan l.path l.hop leads hop_in;
         stopped = l.stopped;
-      },
-      refl,
-    ) in
+      };
+      stop_is = refl;
+    } in
     subst (CausesHold n causes) (sym l.causes_are) (λ t h. elim h [
       | inl q ↦ subst (CauseHolds n causes) q least
-      | inr k ↦ causes_hold-one n causes (StoppedAt l.hop.router l.hop.vif l.hop.threshold l.left) stops t k
+      | inr k ↦ causes_hold-one n causes stop stops t k
     ])
 
 -- ---- if a packet with TTL 255 has no finding

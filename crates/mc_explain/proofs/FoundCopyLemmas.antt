@@ -32,6 +32,7 @@ held-not_none_on_first first_copies cs copies k l o first are same lan e none on
     let both : None ≡ Some first = sym none ∙
     (first_copy_on-from_held first_copies cs copies k l o are same lan e ∙ on) in cc
 
+-- a copy that is held for a LAN is the first one carried on it
 pub first_copy_on-from_held_some : (first_copies : List (Option Copy)) (cs copies : List Copy) (k l : ℕ)
     (o : Option Copy)
     (got : Copy) → HoldsFirstOfEachKey (λ (c : Copy). c.lan) first_copies copies → copies ≡ cs → k ≡ l →
@@ -39,6 +40,7 @@ pub first_copy_on-from_held_some : (first_copies : List (Option Copy)) (cs copie
 first_copy_on-from_held_some first_copies cs copies k l o got are same lan e some =
     sym (first_copy_on-from_held first_copies cs copies k l o are same lan e) ∙ some
 
+-- so it is the one that is the LAN's first copy
 pub held-is_first_copy : (first_copies : List (Option Copy)) (cs copies : List Copy) (k l : ℕ)
     (o : Option Copy)
     (got first : Copy) → HoldsFirstOfEachKey (λ (c : Copy). c.lan) first_copies copies → copies ≡ cs → k ≡ l →

@@ -24,6 +24,7 @@ has_pair-has_unlisted_row all listed pair (rows ∷ caches) zero each = each row
 has_pair-has_unlisted_row all listed pair (rows ∷ caches) (suc router) each =
     has_pair-has_unlisted_row all listed pair caches router (λ own h. each own (inr h))
 
+-- the routers whose summaries have a shown pair are those whose caches have a row of it
 pub routers_with-filter_rows : (all : Bool) (t : TopologyValue) (listed : List (ℕ × ℕ))
     (caches : List (List RowValue))
     (pair : ℕ × ℕ) → In pair (shown_unlisted_pairs all (map (summary_of all listed) caches))

@@ -121,6 +121,7 @@ with_routers_so_far-absent summary router own ps seen i q same up le found =
 
 -- ---- lines
 
+-- the lines of pairs that are kept with their routers are the lines of the pairs
 pub flat_map-unlisted_pair_lines : (t : TopologyValue) (summary : List SummaryValue) (ps : List (ℕ × ℕ))
     → flat_map (λ (pair : (ℕ × ℕ) × List ℕ). unlisted_pair_text t pair.0 pair.1)
     (map (with_routers t summary) ps) ≡ flat_map (unlisted_pair_lines t summary) ps

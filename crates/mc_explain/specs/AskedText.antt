@@ -7,10 +7,9 @@ use Rattle.mc_text.specs.GroupRange.{has_group}
 use Rattle.mc_topology.specs.Topology.{TopologyValue}
 use Rattle.mc_explain.specs.ShownNames.{lans_text, more_text, routers_text}
 use Rattle.mc_asked.specs.declared.forwarding.RouterState.{RouterState}
-use Rattle.mc_asked.specs.declared.forwarding.RouterState.TheVariants.{EverySource, NoneOut, Forwards}
 use Rattle.mc_asked.specs.ListWants.{Want, any_source}
-use Rattle.mc_asked.specs.Forwarding.{routers_in}
 use Rattle.mc_asked.specs.Services.{service_name}
+use Rattle.mc_explain.specs.RoutersForWant.{RoutersForWant, routers_by_state, routers_value}
 use Rattle.mc_explain.specs.RowText.{address_text}
 use Rattle.mc_explain.specs.declared.asked.asked_text.AskedLine.{AskedLine}
 
@@ -33,19 +32,13 @@ routers_or t (router ∷ routers) words otherwise = words ++ routers_text t (rou
 -- who forwards what is wanted, or why nobody is known to: the routers with an entry that goes out to a LAN,
 -- or else those with an entry that goes out to none, or else those with a (*,G) or (*,*) entry alone. What
 -- excluded routers have isn't known.
-abbrev pub forwarding_words : TopologyValue → (are_excluded : Bool) → (forwards none_out star : List ℕ)
-    → List ℕ
-forwarding_words t are_excluded forwards none_out star =
-    routers_or t forwards (codes "forwarded by")
-    (routers_or t none_out (codes "no outgoing LAN interface in")
-    (routers_or t star (codes "no entry for it but (*,G) or (*,*) in")
+abbrev pub forwarding_text : TopologyValue → (are_excluded : Bool) → RoutersForWant → List ℕ
+forwarding_text t are_excluded routers =
+    routers_or t routers.forwards (codes "forwarded by")
+    (routers_or t routers.none_out (codes "no outgoing LAN interface in")
+    (routers_or t routers.every_source (codes "no entry for it but (*,G) or (*,*) in")
     (if are_excluded then codes "no router with known tables forwards it"
     else codes "no router forwards it")))
-
--- who forwards what is wanted, or why nobody is known to, by what each router has for the want
-abbrev pub forwarding_text : TopologyValue → (are_excluded : Bool) → List RouterState → List ℕ
-forwarding_text t are_excluded states = forwarding_words t are_excluded (routers_in Forwards states)
-    (routers_in NoneOut states) (routers_in EverySource states)
 
 -- the sources of the flows that have the group; each flow is given as its source and its group
 abbrev pub listed_sources : (flows : List (ℕ × ℕ)) → (group : ℕ) → List ℕ
@@ -80,8 +73,8 @@ asked_line_text t line what =
 
 -- what is written after the LANs of a line that the audit has made
 abbrev pub what_text : TopologyValue → AskedLine → List ℕ
-what_text t line = what_in (forwarding_words t line.are_excluded line.routers.now.forwards.items
-    line.routers.now.none_out.items line.routers.now.every_source.items) line.listed.now line.want.now
+what_text t line = what_in (forwarding_text t line.are_excluded (routers_value line.routers.now))
+    line.listed.now line.want.now
 
 -- a line that the audit has made
 abbrev pub asked_text_of : TopologyValue → AskedLine → List ℕ
@@ -91,7 +84,8 @@ asked_text_of t line = asked_line_text t (line.want.now, line.lans.now) (what_te
 abbrev pub asked_text : TopologyValue → (are_excluded : Bool) → (flows : List (ℕ × ℕ)) → List RouterState
     → Want × List ℕ → List ℕ
 asked_text t are_excluded flows states line = asked_line_text t line
-    (what_in (forwarding_text t are_excluded states) (listed_sources flows line.0.0) line.0)
+    (what_in (forwarding_text t are_excluded (routers_by_state states)) (listed_sources flows line.0.0)
+    line.0)
 
 -- ---- the other lines
 

@@ -9,9 +9,9 @@ use Rattle.mc_theory.specs.Nets.{Net, Row, Interface}
 use Rattle.mc_theory.specs.Nets.Row.{Exact, Open, NoRow}
 use Rattle.mc_theory.specs.Flights.{Copy, Flight, is_sender, start}
 use Rattle.mc_theory.specs.Findings.{Finding as FindingValue, first_copy_on, first_double, sender_on}
-use Rattle.mc_theory.specs.Findings.Finding.{Clean, Duplicate, Loop, Stray, Missed}
+use Rattle.mc_theory.specs.Findings.Finding.{Duplicate, Loop}
 use Rattle.mc_theory.specs.Hops.{hops_of_copy_until}
-use Rattle.mc_forward.specs.Domains.{DomainValue, net_of, ttl_of}
+use Rattle.mc_forward.specs.Domains.{DomainValue, net_of}
 use Rattle.mc_replay.specs.FindingValues.{optional_finding_value}
 use Rattle.mc_replay.specs.PastStrays.{EndsPastStrays, finding_of_double}
 use Rattle.mc_explain.specs.Explained.{circle_cause, sender_causes}
@@ -28,9 +28,7 @@ abbrev pub double_causes : Net → List Copy → Copy → FindingValue → List 
 double_causes n cs c (Duplicate lan) =
     sender_causes c.lan (sender_on cs c.lan) ++ sender_causes c.lan c.sender
 double_causes n cs c (Loop lan) = reverse (map circle_cause (hops_of_copy_until n cs c.lan c))
-double_causes n cs c Clean = []
-double_causes n cs c (Stray router vif) = []
-double_causes n cs c (Missed lan) = []
+double_causes n cs c _ = []
 
 -- why the carried copies show a second copy, if there is a first double one
 abbrev pub second_causes : Net → List Copy → Option Copy → List Cause
@@ -39,9 +37,9 @@ second_causes n cs (Some c) = double_causes n cs c (finding_of_double n cs c)
 
 -- The TTL from which on packets show the second copy. None is given where the flow's own TTL is 255, the
 -- greatest.
-abbrev pub second_shown_from : (greatest : Bool) → Net → List Copy → Option Copy → Option ℕ
-second_shown_from greatest n cs None = None
-second_shown_from greatest n cs (Some c) = if greatest then None else Some (need_of_two_copies n cs c.lan)
+abbrev pub second_shown_from : Net → List Copy → Option Copy → Option ℕ
+second_shown_from n cs None = None
+second_shown_from n cs (Some c) = if n.ttl == 255 then None else Some (need_of_two_copies n cs c.lan)
 
 -- ---- what leads out of the domain
 
@@ -56,12 +54,12 @@ abbrev pub is_other_leak : Net → (own i : Interface) → Bool
 is_other_leak n own i = not (is_open (n.row i.0)) && not (is_sender (Some own) i)
 
 -- these routers and then router r, unless it is one of them
-abbrev pub with_router : List ℕ → ℕ → List ℕ
-with_router routers r = if list_any (λ q. q == r) routers then routers else (routers ++ r ∷ [])
+abbrev pub with_router_once : List ℕ → ℕ → List ℕ
+with_router_once routers r = if list_any (λ q. q == r) routers then routers else (routers ++ r ∷ [])
 
 -- these routers and then the stray's, if its row isn't followed
 abbrev pub with_open_router : Net → List ℕ → Interface → List ℕ
-with_open_router n routers i = if is_open (n.row i.0) then with_router routers i.0 else routers
+with_open_router n routers i = if is_open (n.row i.0) then with_router_once routers i.0 else routers
 
 -- the routers whose rows aren't followed, of those at which copies left, each once
 abbrev pub open_routers : Net → List Interface → List ℕ
@@ -92,13 +90,12 @@ unless_second None xs = xs
 unless_second (Some c) xs = []
 
 -- This is what flight g shows, with which the run past the stray ends: `whole` is true where no router is
--- excluded, `greatest` where the flow's own TTL is 255, `own` is the interface of the stray, and `double` is
--- the first double copy, if there is one.
-pub record IsBehindIn (whole greatest : Bool) (t : TopologyValue) (n : Net) (own : Interface) (g : Flight)
+-- excluded, `own` is the interface of the stray, and `double` is the first double copy, if there is one.
+pub record IsBehindIn (whole : Bool) (t : TopologyValue) (n : Net) (own : Interface) (g : Flight)
     (double : Option Copy) (b : Behind) : Type 0 where
   pub finding : optional_finding_value b.finding ≡ option_map (finding_of_double n g.carried) double
   pub causes : b.causes.items ≡ second_causes n g.carried double
-  pub shown : b.shown_from ≡ second_shown_from greatest n g.carried double
+  pub shown : b.shown_from ≡ second_shown_from n g.carried double
   pub strays : b.strays.items ≡ unless_second double (filter (is_other_leak n own) g.strays)
   pub not_followed : b.open_routers.items ≡ unless_second double (open_routers n g.strays)
   pub missed : b.missed.items ≡ unless_second double
@@ -108,5 +105,5 @@ pub record IsBehindIn (whole greatest : Bool) (t : TopologyValue) (n : Net) (own
 pub record IsBehind (whole : Bool) (d : DomainValue) (flow : ℕ) (own : Interface) (b : Behind) : Type 0 where
   pub flight : Flight
   pub run : EndsPastStrays (net_of d flow) (start (net_of d flow) 255) flight
-  pub shows : IsBehindIn whole (ttl_of d flow == 255) d.topology (net_of d flow) own flight
+  pub shows : IsBehindIn whole d.topology (net_of d flow) own flight
       (first_double [] flight.carried) b

@@ -124,13 +124,16 @@ pub record StopsOnPath (n : Net) (hop : Hop) (left lan : ℕ) : Type 0 where
   pub is_hop : IsHop n hop
   pub stopped : IsStopped n.ttl path hop left
 
--- The causes name the least TTL that reaches some LAN, and on a path to that LAN a packet with the flow's TTL
--- comes to this vif with TTL `left` and is stopped there.
-abbrev pub StopsShortOfLan : Net → List Cause → (router vif threshold left : ℕ) → Type 0
-StopsShortOfLan n causes router vif threshold left =
-    (hop : Hop) × (lan : ℕ) × (least : ℕ) × In (LeastTtl lan least) causes
-    × StopsOnPath n hop left lan
-    × (StoppedAt hop.router hop.vif hop.threshold left ≡ StoppedAt router vif threshold left)
+-- The causes name the least TTL that reaches some LAN, and `stop` names the hop on a path to that LAN at which
+-- a packet with the flow's TTL is stopped, and the TTL with which it comes there.
+pub record StopsShortOfLan (n : Net) (causes : List Cause) (stop : Cause) : Type 0 where
+  pub lan : ℕ
+  pub least : ℕ
+  pub hop : Hop
+  pub left : ℕ
+  pub named : In (LeastTtl lan least) causes
+  pub stops : StopsOnPath n hop left lan
+  pub stop_is : stop ≡ StoppedAt hop.router hop.vif hop.threshold left
 
 -- ---- the flow's TTL
 

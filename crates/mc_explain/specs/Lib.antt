@@ -1,4 +1,5 @@
 pub mod Explained
+pub mod ExplanationValues
 pub mod RowText
 pub mod EverySourceText
 pub mod Indented
@@ -18,6 +19,7 @@ pub mod SearchNames
 pub mod ShownNames
 pub mod ExpectingRouters
 pub mod ShownLines
+pub mod RoutersForWant
 pub mod AskedText
 pub mod UnlistedText
 pub mod UnlistedLines

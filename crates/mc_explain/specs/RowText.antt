@@ -47,6 +47,13 @@ device_text d router vif = device_text_of vif (d.vifs router vif)
 
 -- ---- rows
 
+-- What is made of a row's incoming vif and of its pairs of an outgoing vif and a threshold, where it is an
+-- (S,G) entry; `otherwise` where it is none.
+abbrev pub of_entry_or : {A : Type 0} → (otherwise : A) → (ℕ → List (ℕ × ℕ) → A) → Row → A
+of_entry_or otherwise make (Exact incoming pairs) = make incoming pairs
+of_entry_or otherwise make Open = otherwise
+of_entry_or otherwise make NoRow = otherwise
+
 -- an outgoing vif of an entry, with its threshold if that isn't 1
 abbrev pub oif_text : DomainFacts → (router : ℕ) → ℕ × ℕ → List ℕ
 oif_text d router p =
@@ -72,10 +79,7 @@ entry_text d router source group incoming pairs =
 
 -- the (S,G) entry that is a router's row for a flow; nothing for another row
 abbrev pub row_text : DomainFacts → Flow → (router : ℕ) → Row → List ℕ
-row_text d f router (Exact incoming pairs) =
-    entry_text d router f.source f.group incoming pairs
-row_text d f router Open = []
-row_text d f router NoRow = []
+row_text d f router row = of_entry_or [] (entry_text d router f.source f.group) row
 
 -- the (S,G) entry that is a router's row for the flow with this number; nothing for another row
 abbrev pub flow_row_text : DomainFacts → (flow router : ℕ) → List ℕ
@@ -83,6 +87,4 @@ flow_row_text d flow router = row_text d (flow_at d.topology flow) router ((d.ne
 
 -- the device of a row's incoming vif; nothing for a row without one
 abbrev pub incoming_text : DomainFacts → (router : ℕ) → Row → List ℕ
-incoming_text d router (Exact incoming pairs) = device_text d router incoming
-incoming_text d router Open = []
-incoming_text d router NoRow = []
+incoming_text d router row = of_entry_or [] (λ incoming pairs. device_text d router incoming) row

@@ -7,7 +7,7 @@ use Rattle.mc_theory.specs.Flights.{Copy}
 use Rattle.mc_theory.specs.CertificateOfCopies.{threshold_of}
 use Rattle.mc_theory.specs.ExcludedRouters.{IsSecondCopyOrStray}
 use Rattle.mc_theory.specs.Findings.{Finding, first_copy_on, first_double}
-use Rattle.mc_theory.specs.Findings.Finding.{Clean, Duplicate, Loop, Stray, Missed}
+use Rattle.mc_theory.specs.Findings.Finding.{Duplicate, Loop, Stray}
 use Rattle.mc_theory.specs.Paths.{Hop, need}
 use Rattle.mc_theory.specs.Hops.{hops_of_copy}
 use Rattle.mc_theory.specs.ShownFrom.{IsShownFrom}
@@ -56,5 +56,4 @@ abbrev pub need_of_finding : Net → List Copy → Finding → Option ℕ
 need_of_finding n cs (Duplicate lan) = Some (need_of_two_copies n cs lan)
 need_of_finding n cs (Loop lan) = Some (need_of_two_copies n cs lan)
 need_of_finding n cs (Stray router vif) = Some (need_of_stray n cs (n.row router) router vif)
-need_of_finding n cs Clean = None
-need_of_finding n cs (Missed lan) = None
+need_of_finding n cs _ = None

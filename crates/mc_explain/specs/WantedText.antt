@@ -8,7 +8,6 @@ use Rattle.mc_theory.specs.Flights.{Copy}
 use Rattle.mc_theory.specs.Findings.{first_copy_on}
 use Rattle.mc_forward.specs.ListedTables.{DomainFacts}
 use Rattle.mc_replay.specs.declared.finding.Finding.{Finding}
-use Rattle.mc_replay.specs.declared.finding.Finding.TheVariants.{Clean, Duplicate, Loop, Stray}
 use Rattle.mc_replay.specs.declared.finding.Finding.TheVariants.{Missed}
 use Rattle.mc_explain.specs.ShownNames.{lans_text}
 
@@ -45,10 +44,7 @@ also_missed d flow copies missed =
 -- the LANs that the packet also missed, by what is found of it; none where the finding isn't a missed LAN
 abbrev pub missed_besides : DomainFacts → (flow : ℕ) → List Copy → Finding → List ℕ
 missed_besides d flow copies (Missed lan) = also_missed d flow copies lan
-missed_besides d flow copies Clean = []
-missed_besides d flow copies (Duplicate lan) = []
-missed_besides d flow copies (Loop lan) = []
-missed_besides d flow copies (Stray router vif) = []
+missed_besides d flow copies _ = []
 
 -- the line of the LANs that were also missed; nothing if there are none
 abbrev pub also_missed_text : TopologyValue → (lans : List ℕ) → List ℕ

@@ -106,7 +106,7 @@ pub fn reported_ttl_is_least()
 pub fn reported_stop_stops_packet()
     ensures { (d : DomainValue) (flow router vif threshold left : ℕ) →
         (r : IsReported d flow (StoppedAt router vif threshold left)) →
-        StopsShortOfLan (net_of d flow) r.causes router vif threshold left }
+        StopsShortOfLan (net_of d flow) r.causes (StoppedAt router vif threshold left) }
 {}
 
 /// The domain and the flights determine the causes: no others explain the flow.

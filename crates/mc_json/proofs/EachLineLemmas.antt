@@ -2,17 +2,16 @@
 use Rattle.std.proofs.Common.{◌==◌, ℕ, Bool, true, false, cond, List, [], ◌∷◌, flat_map, map, refl}
 use Rattle.std.specs.Prelude.{codes}
 use Rattle.mc_tables.specs.Summary.{SummaryValue}
-use Rattle.mc_topology.specs.Topology.{TopologyValue}
+use Rattle.mc_topology.specs.Topology.{TopologyValue, flow_at}
 use Rattle.mc_topology.specs.declared.flow.Flow.{Flow}
 use Rattle.mc_theory.specs.Certificates.{Entry}
-use Rattle.mc_theory.specs.Events.{Event}
 use Rattle.mc_theory.specs.Nets.{Net}
 use Rattle.mc_forward.specs.ListedTables.{DomainFacts}
-use Rattle.mc_replay.specs.declared.finding.Finding.{Finding}
 use Rattle.mc_explain.specs.ExcludedText.{excluded_routers}
+use Rattle.mc_explain.specs.ExplanationValues.{ExplanationValue}
+use Rattle.mc_explain.specs.RoutersForWant.{RoutersForWant}
 use Rattle.mc_explain.specs.UnlistedPairs.{with_routers}
 use Rattle.mc_explain.specs.UnlistedText.{further_rows, shown_unlisted_pairs}
-use Rattle.mc_explain.specs.declared.causes.explanation.Certainty.{Certainty}
 use Rattle.serde_json.specs.Data.{Data}
 use Rattle.json.specs.Print.{escape_byte}
 use Rattle.mc_asked.specs.ListWants.{Want}
@@ -22,9 +21,10 @@ use Rattle.mc_json.specs.DomainData.{domain_data}
 use Rattle.mc_json.specs.EndData.{routers_data, single_member, summary_data, unlisted_data, unlisted_line}
 use Rattle.mc_json.specs.EndData.{unlisted_lines, unlisted_more_data, unlisted_more_line, without_line}
 use Rattle.mc_json.specs.EndData.{without_line_of}
-use Rattle.mc_json.specs.FlowData.{WrongFlow, right_data, tree_data, wrong_data, wrong_line, wrong_flow_of}
+use Rattle.mc_json.specs.FlowData.{WrongFlow, right_data, tree_data, wrong_data}
 use Rattle.mc_json.specs.ObjectLines.{AreObjectLines}
 use Rattle.mc_json.specs.RowData.{line_of, list_data}
+use Rattle.mc_json.specs.WrongLine.{FoundTravelValue, wrong_flow_of, wrong_line}
 use Rattle.mc_json.proofs.ObjectLemmas.{are_object_lines-append, are_object_lines-flat_map}
 use Rattle.mc_json.proofs.ObjectLemmas.{are_object_lines-none, are_object_lines-one}
 
@@ -58,14 +58,10 @@ unfolding escape_byte
 are_object_lines-wrong_flow number f w = are_object_lines-one (wrong_data number f w) refl refl
 
 -- so it is for the line that is written
-pub are_object_lines-wrong : (d : DomainFacts) (number : ℕ) (f : Flow) (certainty : Certainty) (found_ttl : ℕ)
-    (finding : Finding) (events : List Event) (also : List ℕ) (behind : Data) (why : List Data)
-    (events_asked : Bool)
-    → AreObjectLines (wrong_line d number f certainty found_ttl finding events also behind why events_asked)
-are_object_lines-wrong d number f certainty found_ttl finding events also behind why events_asked =
-    are_object_lines-wrong_flow number f
-    (wrong_flow_of d number certainty found_ttl finding events also behind why
-    events_asked)
+pub are_object_lines-wrong : (d : DomainFacts) (summary : List SummaryValue) (found : FoundTravelValue)
+    (x : ExplanationValue) → AreObjectLines (wrong_line d summary found x)
+are_object_lines-wrong d summary found x = are_object_lines-wrong_flow found.flow
+    (flow_at d.topology found.flow) (wrong_flow_of d summary found x)
 
 -- ---- after the flows
 
@@ -117,12 +113,11 @@ are_object_lines-summary asked right unknown unwanted wrong =
 -- ---- what hosts ask for
 
 -- a want that no flow answers
-pub are_object_lines-asked : (t : TopologyValue) (line : Want × List ℕ)
-    (listed none_out forwards star : List ℕ)
-    → AreObjectLines (line_of (asked_object t line listed none_out forwards star))
+pub are_object_lines-asked : (t : TopologyValue) (line : Want × List ℕ) (listed : List ℕ)
+    (routers : RoutersForWant) → AreObjectLines (line_of (asked_object t line listed routers))
 unfolding escape_byte
-are_object_lines-asked t line listed none_out forwards star =
-    are_object_lines-one (asked_object t line listed none_out forwards star) refl refl
+are_object_lines-asked t line listed routers =
+    are_object_lines-one (asked_object t line listed routers) refl refl
 
 -- how many further wants there are, if any
 are_object_lines-asked_more_if : (more : ℕ) (none : Bool)

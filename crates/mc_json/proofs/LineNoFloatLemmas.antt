@@ -1,4 +1,4 @@
--- No value of why a flow isn't right has a fraction.
+-- No value of a flow that isn't right, or of why it isn't, has a fraction.
 use Rattle.std.proofs.Common.{◌≡◌, ℕ, false, List, [], ◌∷◌, Option, Some, None, codes, flat_map, map, refl}
 use Rattle.std.specs.Cmp.Lexicographic.{slice_cmp}
 use Rattle.std.specs.Ordering.{nat_cmp, match_ordering}
@@ -8,7 +8,9 @@ use Rattle.std.proofs.lemmas.Bool.{or_parts}
 use Rattle.mc_tables.specs.Summary.{SummaryValue}
 use Rattle.mc_forward.specs.ListedTables.{DomainFacts}
 use Rattle.mc_explain.specs.EverySourceText.{every_source_of}
+use Rattle.mc_explain.specs.ExplanationValues.{ExplanationValue}
 use Rattle.mc_explain.specs.ShownLines.{shown_lines}
+use Rattle.mc_explain.specs.WantedText.{lans_wanting}
 use Rattle.mc_explain.specs.declared.causes.Cause.{Cause}
 use Rattle.mc_explain.specs.declared.searches.searching.LanSearch.{LanSearch}
 use Rattle.serde_json.specs.Data.{Data, Members, no_members, member, put, string}
@@ -16,23 +18,25 @@ use Rattle.serde_json.specs.Written.{has_float, members_have_float}
 use Rattle.mc_lines.specs.CauseLines.{cause_items, cause_lines}
 use Rattle.mc_lines.specs.ExplanationText.{context_of}
 use Rattle.mc_lines.specs.Filled.{joined_sentences}
-use Rattle.mc_lines.specs.FlowContext.{FlowContext, flow_of, row_of}
+use Rattle.mc_lines.specs.FlowContext.{FlowContext, flow_of, row_for_flow}
 use Rattle.mc_lines.specs.Lines.{FactValue, Line}
 use Rattle.mc_lines.specs.Lines.FactValue.{Lan, Router, Device, Interface, IncomingDevice, IncomingVif, Row}
 use Rattle.mc_lines.specs.Lines.FactValue.{EverySourceRow, Flag, Number, Routers}
 use Rattle.mc_lines.specs.SearchLines.{reach_items, reach_lines, search_items, shown_items, shown_line}
 use Rattle.mc_theory.specs.Nets.{Interface as NetInterface}
-use Rattle.mc_topology.specs.Topology.{TopologyValue}
+use Rattle.mc_topology.specs.Topology.{TopologyValue, flow_at}
 use Rattle.mc_explain.specs.declared.causes.behind.Behind.{Behind}
 use Rattle.mc_json.specs.BehindData.{behind_data, stray_data}
 use Rattle.mc_json.specs.FactData.{fact_data}
 use Rattle.mc_json.specs.LineData.{line_data, line_values, with_facts}
 use Rattle.mc_json.specs.WhyData.{causes_data, search_data_if_any, why_data}
+use Rattle.mc_json.specs.WrongLine.{FoundTravelValue, found_flow_data, wrong_flow_of}
 use Rattle.mc_json.proofs.NoFloatLemmas.{HaveNoFloat, no_float-append, no_float-device_data}
 use Rattle.mc_json.proofs.NoFloatLemmas.{no_float-every_source_row_data, no_float-incoming_device}
 use Rattle.mc_json.proofs.NoFloatLemmas.{no_float-incoming_vif, no_float-flow_row_data, no_float-routers}
 use Rattle.mc_json.proofs.NoFloatLemmas.{no_float-lans, no_float-map, no_float-optional_finding}
-use Rattle.mc_json.proofs.NoFloatLemmas.{no_float-shown_from}
+use Rattle.mc_json.proofs.NoFloatLemmas.{no_float-events_if_asked, no_float-finding_data}
+use Rattle.mc_json.proofs.NoFloatLemmas.{no_float-shown_from, no_float-wrong_data}
 
 -- ---- members
 
@@ -62,8 +66,9 @@ no_float-fact_data c (Lan lan) = refl
 no_float-fact_data c (Router router) = refl
 no_float-fact_data c (Device router vif) = no_float-device_data (c.domain.vifs router vif)
 no_float-fact_data c (Interface interface) = refl
-no_float-fact_data c (IncomingDevice router) = no_float-incoming_device c.domain router (row_of c router)
-no_float-fact_data c (IncomingVif router) = no_float-incoming_vif (row_of c router)
+no_float-fact_data c (IncomingDevice router) =
+    no_float-incoming_device c.domain router (row_for_flow c router)
+no_float-fact_data c (IncomingVif router) = no_float-incoming_vif (row_for_flow c router)
 no_float-fact_data c (Row router) = no_float-flow_row_data c.domain c.flow router
 no_float-fact_data c (EverySourceRow router) =
     no_float-every_source_row_data c.domain router (every_source_of c.summary (flow_of c).group router)
@@ -148,3 +153,19 @@ no_float-behind_data d summary flow (Some b) =
       no_float-flat_map (cause_items line_values (context_of d summary flow))
           (no_float-cause_items (context_of d summary flow)) b.causes.items,
     )
+
+-- ---- a flow with a finding
+
+-- the object of a flow with a finding
+pub no_float-found_flow_data : (d : DomainFacts) (summary : List SummaryValue) (found : FoundTravelValue)
+    (x : ExplanationValue) → has_float (found_flow_data d summary found x) ≡ false
+no_float-found_flow_data d summary found x =
+    let t = d.topology in
+    let w = wrong_flow_of d summary found x in
+    no_float-wrong_data found.flow (flow_at t found.flow) w.certainty w.also w.at_flow_ttl w.behind w.events
+    w.finding w.found_ttl w.wanted w.why (no_float-lans t x.also)
+    (no_float-optional_finding t x.certainty.shown_by.at_flow_ttl)
+    (no_float-behind_data d summary found.flow x.behind)
+    (no_float-events_if_asked t (d.nets found.flow) found.events)
+    (no_float-finding_data t found.finding) (no_float-lans t (lans_wanting d found.flow))
+    (no_float-why_data d summary found.flow x.printed x.search)

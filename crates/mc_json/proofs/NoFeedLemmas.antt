@@ -68,6 +68,7 @@ no_feed-number_text (negative z) = no_feed-signed_decimal z
 no_feed-number_text (float x) = tt
 
 mutual
+  -- the compact text of a value has no line feed
   pub no_feed-compact_text : (d : Data) → HasNoByte 10 (compact_text d)
   no_feed-compact_text null = (refl, (refl, (refl, (refl, tt))))
   no_feed-compact_text (boolean true) = (refl, (refl, (refl, (refl, tt))))

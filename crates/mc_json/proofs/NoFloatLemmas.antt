@@ -1,6 +1,6 @@
 -- No value of a line has a fraction.
 use Rattle.std.proofs.Common.{◌≡◌, ℕ, Bool, true, false, List, [], ◌∷◌, ◌++◌, Option, Some, None, map}
-use Rattle.std.proofs.Common.{◌==◌, cond, refl}
+use Rattle.std.proofs.Common.{◌==◌, cond, option_map, refl}
 use Rattle.std.proofs.lemmas.Bool.{or_parts}
 use Rattle.mc_tables.specs.CacheTable.{EntryValue}
 use Rattle.mc_tables.specs.VifTable.{VifValue}
@@ -13,7 +13,6 @@ use Rattle.mc_theory.specs.Nets.{Interface, Net, Row}
 use Rattle.mc_theory.specs.Nets.Row.{Exact, Open, NoRow}
 use Rattle.mc_forward.specs.Domains.{oif_pairs}
 use Rattle.mc_forward.specs.ListedTables.{DomainFacts}
-use Rattle.mc_explain.specs.WantedText.{lans_wanting}
 use Rattle.mc_replay.specs.declared.finding.Finding.{Finding}
 use Rattle.mc_replay.specs.declared.finding.Finding.TheVariants.{Clean, Duplicate, Loop, Stray}
 use Rattle.mc_replay.specs.declared.finding.Finding.TheVariants.{Missed}
@@ -24,15 +23,15 @@ use Rattle.mc_json.specs.RowData.{device_data_of, entry_data, every_source_row_d
 use Rattle.mc_json.specs.RowData.{flow_row_data, row_data}
 use Rattle.mc_json.specs.RowData.{incoming_device, incoming_vif}
 use Rattle.mc_json.specs.RowData.{count_data, lan_data, router_data}
-use Rattle.mc_json.specs.FlowData.{event_data, events_if_asked, finding_data, passed_vifs}
+use Rattle.mc_json.specs.FlowData.{event_data, finding_data, passed_vifs}
 use Rattle.mc_json.specs.FlowData.{interface_router, interface_vif, outcome_data, reached_data, right_data}
 use Rattle.mc_json.specs.EndData.{unlisted_data}
 use Rattle.serde_json.specs.Data.{null}
-use Rattle.mc_json.specs.AskedData.{address_data, asked_data_of, service_data, source_data}
+use Rattle.mc_json.specs.AskedData.{address_data, asked_data_of, service_data, want_source_data}
 use Rattle.mc_asked.specs.ListWants.{Want}
 use Rattle.mc_explain.specs.declared.asked.asked_text.AskedLine.{AskedLine}
 use Rattle.mc_json.specs.FlowData.{optional_finding_data, shown_from_data, tree_data, wrong_data}
-use Rattle.mc_json.specs.FlowData.{wrong_flow_of, wrong_mark}
+use Rattle.mc_json.specs.FlowData.{wrong_mark}
 use Rattle.mc_json.specs.TreeKey.{taking_interface}
 use Rattle.mc_explain.specs.declared.causes.explanation.Certainty.{Certainty}
 
@@ -161,7 +160,7 @@ no_float-events : (t : TopologyValue) (n : Net) (es : List Event) → HaveNoFloa
 no_float-events t n es = no_float-map (event_data t n) (λ e. no_float-outcome_data t n e e.outcome) es
 
 -- a finding
-no_float-finding_data : (t : TopologyValue) (f : Finding) → has_float (finding_data t f) ≡ false
+pub no_float-finding_data : (t : TopologyValue) (f : Finding) → has_float (finding_data t f) ≡ false
 no_float-finding_data t Clean = refl
 no_float-finding_data t (Duplicate lan) = refl
 no_float-finding_data t (Loop lan) = refl
@@ -190,7 +189,7 @@ no_float-optional_finding t None = refl
 no_float-optional_finding t (Some finding) = no_float-finding_data t finding
 
 -- a flow with a finding, of members without a fraction
-no_float-wrong_data : (number : ℕ) (f : Flow) (certainty : Certainty) (also : List Data)
+pub no_float-wrong_data : (number : ℕ) (f : Flow) (certainty : Certainty) (also : List Data)
     (at_flow_ttl behind : Data)
     (events : Option (List Data)) (finding : Data) (found_ttl : ℕ) (wanted why : List Data)
     → HaveNoFloat also → has_float at_flow_ttl ≡ false → has_float behind ≡ false → EventsHaveNoFloat events
@@ -235,27 +234,10 @@ no_float-wrong_data number f certainty also below past (Some es) finding found_t
     )
 
 -- events, if they are asked for
-no_float-events_if_asked : (t : TopologyValue) (n : Net) (events_asked : Bool) (es : List Event)
-    → EventsHaveNoFloat (events_if_asked t n events_asked es)
-no_float-events_if_asked t n true es = no_float-events t n es
-no_float-events_if_asked t n false es = tt
-
--- so it is for the flow that is written
-pub no_float-wrong_flow_of : (d : DomainFacts) (flow : ℕ) (f : Flow) (certainty : Certainty) (found_ttl : ℕ)
-    (finding : Finding) (events : List Event) (also : List ℕ) (behind : Data) (why : List Data)
-    (events_asked : Bool)
-    → has_float behind ≡ false → HaveNoFloat why → has_float (wrong_data flow f
-    (wrong_flow_of d flow certainty found_ttl finding events also behind why events_asked)) ≡ false
-no_float-wrong_flow_of d flow f certainty found_ttl finding events also behind why events_asked
-    further because =
-    let t = d.topology in
-    no_float-wrong_data flow f certainty (map (lan_data t) also)
-    (optional_finding_data t certainty.shown_by.at_flow_ttl) behind
-    (events_if_asked t (d.nets flow) events_asked events)
-    (finding_data t finding) found_ttl (map (lan_data t) (lans_wanting d flow)) why (no_float-lans t also)
-    (no_float-optional_finding t certainty.shown_by.at_flow_ttl) further
-    (no_float-events_if_asked t (d.nets flow) events_asked events) (no_float-finding_data t finding)
-    (no_float-lans t (lans_wanting d flow)) because
+pub no_float-events_if_asked : (t : TopologyValue) (n : Net) (events : Option (List Event))
+    → EventsHaveNoFloat (option_map (map (event_data t n)) events)
+no_float-events_if_asked t n (Some events) = no_float-events t n events
+no_float-events_if_asked t n None = tt
 
 -- ---- after the flows
 
@@ -275,8 +257,8 @@ no_float-addresses : (addresses : List ℕ) → HaveNoFloat (map address_data ad
 no_float-addresses addresses = no_float-map address_data (λ address. refl) addresses
 
 -- a want's source, or null for any
-no_float-source_data : (source : ℕ) → has_float (source_data source) ≡ false
-no_float-source_data source = elim (source == 0) as (λ b.
+no_float-want_source_data : (source : ℕ) → has_float (want_source_data source) ≡ false
+no_float-want_source_data source = elim (source == 0) as (λ b.
     has_float (cond b null (address_data source)) ≡ false) [
       | true ↦ refl
       | false ↦ refl
@@ -289,7 +271,7 @@ no_float-asked_data t line = rw (
   no_float-addresses line.listed.now,
   no_float-routers t line.routers.now.none_out.items,
   no_float-routers t line.routers.now.forwards.items,
-  no_float-source_data line.want.now.1,
+  no_float-want_source_data line.want.now.1,
   no_float-routers t line.routers.now.every_source.items,
 )
 

@@ -4,11 +4,10 @@ use Rattle.std.specs.Prelude.{ℕ, ◌==◌, List, [], ◌∷◌, codes, if◌th
 use Rattle.mc_text.specs.Addr.{dotted}
 use Rattle.mc_topology.specs.Topology.{TopologyValue}
 use Rattle.mc_asked.specs.declared.forwarding.RouterState.{RouterState}
-use Rattle.mc_asked.specs.declared.forwarding.RouterState.TheVariants.{EverySource, NoneOut, Forwards}
 use Rattle.mc_asked.specs.ListWants.{Want, any_source}
 use Rattle.mc_asked.specs.Services.{service_name}
-use Rattle.mc_asked.specs.Forwarding.{routers_in}
 use Rattle.mc_explain.specs.AskedText.{listed_sources}
+use Rattle.mc_explain.specs.RoutersForWant.{RoutersForWant, routers_by_state, routers_value}
 use Rattle.mc_explain.specs.declared.asked.asked_text.AskedLine.{AskedLine}
 use Rattle.serde_json.specs.Data.{Data, string, null}
 use Rattle.mc_json.specs.EndData.{list_line, routers_data, single_member}
@@ -23,31 +22,29 @@ abbrev pub address_data : ℕ → Data
 address_data address = string (dotted address)
 
 -- the source of a want, or null for any
-abbrev pub source_data : ℕ → Data
-source_data source = if source == any_source then null else address_data source
+abbrev pub want_source_data : ℕ → Data
+want_source_data source = if source == any_source then null else address_data source
 
--- a want and its LANs, the listed sources of its group, and the routers by what they have for it: an entry
--- that goes out to no LAN (`none_out`), one that goes out to a LAN (`forwards`), or a (*,G) or (*,*) entry
--- alone (`star`)
-abbrev pub asked_object : TopologyValue → Want × List ℕ → (listed none_out forwards star : List ℕ) → Data
-asked_object t line listed none_out forwards star = single_member (codes "asked") (object_data (
+-- a want and its LANs, the listed sources of its group, and the routers by what they have for it
+abbrev pub asked_object : TopologyValue → Want × List ℕ → (listed : List ℕ) → RoutersForWant → Data
+asked_object t line listed routers = single_member (codes "asked") (object_data (
     (codes "group", address_data line.0.0)
     ∷ (codes "lans", lans_data t line.1)
     ∷ (codes "listed", list_data (map address_data listed))
-    ∷ (codes "none", routers_data t none_out)
-    ∷ (codes "routers", routers_data t forwards)
-    ∷ (codes "source", source_data line.0.1)
-    ∷ (codes "star", routers_data t star) ∷ []))
+    ∷ (codes "none", routers_data t routers.none_out)
+    ∷ (codes "routers", routers_data t routers.forwards)
+    ∷ (codes "source", want_source_data line.0.1)
+    ∷ (codes "star", routers_data t routers.every_source) ∷ []))
 
 -- the object of a line that the audit has made
 abbrev pub asked_data_of : TopologyValue → AskedLine → Data
-asked_data_of t line = asked_object t (line.want.now, line.lans.now) line.listed.now
-    line.routers.now.none_out.items line.routers.now.forwards.items line.routers.now.every_source.items
+asked_data_of t line =
+    asked_object t (line.want.now, line.lans.now) line.listed.now (routers_value line.routers.now)
 
 -- the object of a want and its LANs, by the listed flows and by what each router has for the want
 abbrev pub asked_data : TopologyValue → (flows : List (ℕ × ℕ)) → List RouterState → Want × List ℕ → Data
-asked_data t flows states line = asked_object t line (listed_sources flows line.0.0)
-    (routers_in NoneOut states) (routers_in Forwards states) (routers_in EverySource states)
+asked_data t flows states line =
+    asked_object t line (listed_sources flows line.0.0) (routers_by_state states)
 
 -- how many more wants of LANs there are
 abbrev pub asked_more_data : ℕ → Data

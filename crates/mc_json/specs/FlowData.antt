@@ -9,7 +9,7 @@ use Rattle.mc_theory.specs.Certificates.{Entry}
 use Rattle.mc_theory.specs.Events.{Event, Outcome}
 use Rattle.mc_theory.specs.Events.Outcome.{Open, NoRow, OtherVif, Sent}
 use Rattle.mc_theory.specs.Nets.{Interface, Net, Row}
-use Rattle.mc_theory.specs.Nets.Row.{Exact, Open as open_row, NoRow as no_row}
+use Rattle.mc_theory.specs.CertificateOfCopies.{row_pairs}
 use Rattle.mc_forward.specs.ListedTables.{DomainFacts}
 use Rattle.mc_explain.specs.WantedText.{lans_wanting}
 use Rattle.mc_replay.specs.declared.finding.Finding.{Finding}
@@ -102,25 +102,23 @@ finding_data t (Missed lan) = finding_at_lan t (codes "Missed") lan
 abbrev pub passed_vif : (ttl : ℕ) → ℕ × ℕ → List ℕ
 passed_vif ttl p = if nat_lt p.1 ttl then p.0 ∷ [] else []
 
--- The vifs by which a row sends a copy that came with this TTL, in the row's order, which is ascending,
--- whether they are placed or not.
+-- the vifs by which a row sends a copy that came with this TTL, whether they are placed or not, in the row's
+-- order, which is ascending
 abbrev pub passed_vifs : (ttl : ℕ) → Row → List ℕ
-passed_vifs ttl (Exact incoming pairs) = flat_map (passed_vif ttl) pairs
-passed_vifs ttl open_row = []
-passed_vifs ttl no_row = []
+passed_vifs ttl row = flat_map (passed_vif ttl) (row_pairs row)
 
 -- the vifs by which copies went in an event that sent some
 abbrev pub sent_vifs : Net → Event → List ℕ
 sent_vifs n e = passed_vifs e.ttl (n.row e.router)
 
 -- vifs by their numbers
-abbrev pub vifs_data : List ℕ → Data
-vifs_data vifs = list_data (map count_data vifs)
+abbrev pub vif_numbers_data : List ℕ → Data
+vif_numbers_data vifs = list_data (map count_data vifs)
 
 -- an event that sent no copies, with this outcome
 abbrev pub event_without_copies_data : TopologyValue → Event → (outcome : List ℕ) → Data
 event_without_copies_data t e outcome = object_data (
-    (codes "onto", vifs_data [])
+    (codes "onto", vif_numbers_data [])
     ∷ (codes "outcome", string outcome)
     ∷ (codes "router", router_data t e.router)
     ∷ (codes "ttl", count_data e.ttl)
@@ -130,7 +128,7 @@ event_without_copies_data t e outcome = object_data (
 abbrev pub event_with_copies_data : TopologyValue → Event → (copies strays : ℕ) → (vifs : List ℕ) → Data
 event_with_copies_data t e copies strays vifs = object_data (
     (codes "copies", count_data copies)
-    ∷ (codes "onto", vifs_data vifs)
+    ∷ (codes "onto", vif_numbers_data vifs)
     ∷ (codes "outcome", string (codes "sent"))
     ∷ (codes "router", router_data t e.router)
     ∷ (codes "strays", count_data strays)
@@ -215,29 +213,3 @@ wrong_members number f w =
 -- a flow with a finding
 abbrev pub wrong_data : (number : ℕ) → Flow → WrongFlow → Data
 wrong_data number f w = object_data (wrong_members number f w)
-
--- the events of a travel, if they are asked for
-abbrev pub events_if_asked : TopologyValue → Net → (events_asked : Bool) → List Event → Option (List Data)
-events_if_asked t n events_asked es = if events_asked then Some (map (event_data t n) es) else None
-
--- what is written of the flow with this number, from what is found of it and what explains that
-abbrev pub wrong_flow_of : DomainFacts → (flow : ℕ) → Certainty → (found_ttl : ℕ) → Finding → List Event
-    → (also : List ℕ) → (behind : Data) → (why : List Data) → (events_asked : Bool) → WrongFlow
-wrong_flow_of d flow certainty found_ttl finding events also behind why events_asked = record {
-  certainty = certainty;
-  also = map (lan_data d.topology) also;
-  at_flow_ttl = optional_finding_data d.topology certainty.shown_by.at_flow_ttl;
-  behind = behind;
-  events = events_if_asked d.topology (d.nets flow) events_asked events;
-  finding = finding_data d.topology finding;
-  found_ttl = found_ttl;
-  wanted = map (lan_data d.topology) (lans_wanting d flow);
-  why = why;
-}
-
--- the line of such a flow
-abbrev pub wrong_line : DomainFacts → (flow : ℕ) → Flow → Certainty → (found_ttl : ℕ) → Finding → List Event
-    → (also : List ℕ) → (behind : Data) → (why : List Data) → (events_asked : Bool) → List ℕ
-wrong_line d flow f certainty found_ttl finding events also behind why events_asked =
-    line_of (wrong_data flow f
-    (wrong_flow_of d flow certainty found_ttl finding events also behind why events_asked))

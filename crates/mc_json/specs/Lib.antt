@@ -16,5 +16,7 @@ pub use Rattle.serde_json.specs.View
 pub use Rattle.serde_json.specs.Written
 pub use Rattle.mc_forward.specs.Domains
 pub use Rattle.mc_forward.specs.ListedTables
+pub use Rattle.mc_explain.specs.ExplanationValues
 pub use Rattle.mc_explain.specs.Indented
+pub use Rattle.mc_explain.specs.RoutersForWant
 pub use Rattle.mc_explain.specs.UnlistedLines

@@ -7,11 +7,10 @@ use Rattle.mc_tables.specs.VifTable.{VifValue}
 use Rattle.mc_topology.specs.Topology.{TopologyValue, flow_at, lan_name, router_name}
 use Rattle.mc_topology.specs.declared.flow.Flow.{Flow}
 use Rattle.mc_theory.specs.Nets.{Row}
-use Rattle.mc_theory.specs.Nets.Row.{Exact, Open, NoRow}
 use Rattle.mc_forward.specs.Domains.{oif_pairs}
 use Rattle.mc_forward.specs.ListedTables.{DomainFacts}
 use Rattle.mc_explain.specs.EverySourceText.{every_source_of}
-use Rattle.mc_explain.specs.RowText.{address_text, device_name_text}
+use Rattle.mc_explain.specs.RowText.{address_text, device_name_text, of_entry_or}
 use Rattle.serde_json.specs.Data.{Data, Members, null, number, unsigned, string, array, object}
 use Rattle.serde_json.specs.Data.{member, no_members}
 use Rattle.serde_json.specs.View.{items_of}
@@ -87,10 +86,7 @@ entry_data d router source group incoming pairs = object_data (
 
 -- the (S,G) entry that is a router's row for a flow; null for another row
 abbrev pub row_data : DomainFacts → Flow → (router : ℕ) → Row → Data
-row_data d f router (Exact incoming pairs) =
-    entry_data d router f.source f.group incoming pairs
-row_data d f router Open = null
-row_data d f router NoRow = null
+row_data d f router row = of_entry_or null (entry_data d router f.source f.group) row
 
 -- the (S,G) entry that is a router's row for the flow with this number; null for another row
 abbrev pub flow_row_data : DomainFacts → (flow router : ℕ) → Data
@@ -112,12 +108,8 @@ every_source_data d summary group router =
 
 -- the device of a row's incoming vif; null for a row without one
 abbrev pub incoming_device : DomainFacts → (router : ℕ) → Row → Data
-incoming_device d router (Exact incoming pairs) = device_data d router incoming
-incoming_device d router Open = null
-incoming_device d router NoRow = null
+incoming_device d router row = of_entry_or null (λ incoming pairs. device_data d router incoming) row
 
 -- the number of a row's incoming vif; null for a row without one
 abbrev pub incoming_vif : Row → Data
-incoming_vif (Exact incoming pairs) = count_data incoming
-incoming_vif Open = null
-incoming_vif NoRow = null
+incoming_vif row = of_entry_or null (λ incoming pairs. count_data incoming) row

@@ -2,13 +2,11 @@
 use Rattle.std.specs.Prelude.{ℕ, List, ◌++◌, map, Option, Some, None}
 use Rattle.mc_theory.specs.Certificates.{Entry}
 use Rattle.mc_theory.specs.Nets.{Interface, Net, Row}
-use Rattle.mc_theory.specs.Nets.Row.{Exact, Open, NoRow}
+use Rattle.mc_explain.specs.RowText.{of_entry_or}
 
 -- the interface at which a router takes the packets, by its row; none for a row without an incoming vif
 abbrev pub incoming_interface : (router : ℕ) → Row → Option Interface
-incoming_interface router (Exact incoming pairs) = Some (router, incoming)
-incoming_interface router Open = None
-incoming_interface router NoRow = None
+incoming_interface router row = of_entry_or None (λ incoming pairs. Some (router, incoming)) row
 
 -- the interface at which the router of a sending interface takes the packets; none for the source
 abbrev pub taking_interface : Net → Option Interface → Option Interface

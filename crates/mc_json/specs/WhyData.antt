@@ -4,7 +4,6 @@ use Rattle.std.specs.Prelude.{ℕ, List, [], ◌++◌, Option, Some, None}
 use Rattle.mc_tables.specs.Summary.{SummaryValue}
 use Rattle.mc_forward.specs.ListedTables.{DomainFacts, facts}
 use Rattle.mc_explain.specs.declared.causes.Cause.{Cause}
-use Rattle.mc_explain.specs.declared.searches.search_line.SearchLine.{SearchLine}
 use Rattle.mc_explain.specs.declared.searches.searching.LanSearch.{LanSearch}
 use Rattle.serde_json.specs.Data.{Data}
 use Rattle.mc_lines.specs.CauseLines.{causes_items}
@@ -18,19 +17,16 @@ abbrev pub causes_data : DomainFacts → List SummaryValue → (flow : ℕ) → 
 causes_data d summary flow causes = causes_items line_values (context_of d summary flow) causes
 
 -- the values of a search: how far the packet came, and the lines
-abbrev pub search_data : DomainFacts → List SummaryValue → (flow : ℕ) → List SearchLine
-    → (sent_on took_none : List ℕ) → List Data
-search_data d summary flow lines sent_on took_none =
-    reach_items line_values (context_of d summary flow) sent_on took_none
-    ++ search_items line_values (context_of d summary flow) lines
+abbrev pub search_data : DomainFacts → List SummaryValue → (flow : ℕ) → LanSearch → List Data
+search_data d summary flow found =
+    reach_items line_values (context_of d summary flow) found.reach.sent_on.items found.reach.took_none.items
+    ++ search_items line_values (context_of d summary flow) found.lines.items
 
 -- the values of the search, if there was one
 abbrev pub search_data_if_any : DomainFacts → List SummaryValue → (flow : ℕ) → Option LanSearch
     → List Data
 search_data_if_any d summary flow None = []
-search_data_if_any d summary flow (Some found) =
-    search_data d summary flow found.lines.items found.reach.sent_on.items
-    found.reach.took_none.items
+search_data_if_any d summary flow (Some found) = search_data d summary flow found
 
 -- the values of the causes, and then those of the search
 abbrev pub why_data : DomainFacts → List SummaryValue → (flow : ℕ) → List Cause

@@ -1,21 +1,60 @@
--- The line of a flow that isn't right, in JSON (docs/FORMATS.md, "What `audit --json` writes"), by the
--- explanation of its finding.
-use Rattle.std.specs.Prelude.{ℕ, Bool, List}
+-- The line of a flow with a finding, in JSON (docs/FORMATS.md, "What `audit --json` writes"), by the travel
+-- that shows the finding, and the explanation.
+use Rattle.std.specs.Prelude.{ℕ, List, Option, map, option_map}
 use Rattle.mc_tables.specs.Summary.{SummaryValue}
 use Rattle.mc_topology.specs.Topology.{flow_at}
-use Rattle.mc_forward.specs.Domains.{DomainValue}
-use Rattle.mc_forward.specs.ListedTables.{facts}
-use Rattle.mc_replay.specs.declared.travel.Travel.{Travel}
-use Rattle.mc_explain.specs.declared.causes.explanation.Explanation.{Explanation}
-use Rattle.mc_json.specs.FlowData.{wrong_line}
+use Rattle.mc_theory.specs.Events.{Event}
+use Rattle.mc_forward.specs.ListedTables.{DomainFacts}
+use Rattle.mc_replay.specs.declared.finding.Finding.{Finding}
+use Rattle.mc_explain.specs.ExplanationValues.{ExplanationValue}
+use Rattle.mc_explain.specs.WantedText.{lans_wanting}
+use Rattle.serde_json.specs.Data.{Data}
 use Rattle.mc_json.specs.BehindData.{behind_data}
+use Rattle.mc_json.specs.FlowData.{WrongFlow, event_data, finding_data, optional_finding_data}
+use Rattle.mc_json.specs.FlowData.{wrong_data}
+use Rattle.mc_json.specs.RowData.{lan_data, line_of}
 use Rattle.mc_json.specs.WhyData.{why_data}
+use Rattle.mc_json.specs.declared.wrong_line.FoundTravel.{FoundTravel}
 
--- the line of the flow with this number, by the travel that shows its fault, the TTL of the travel's packet,
--- and the explanation
-abbrev pub explained_line : DomainValue → List SummaryValue → (flow : ℕ) → Travel → (found_ttl : ℕ)
-    → Explanation → (events_asked : Bool) → List ℕ
-explained_line d summary flow travel found_ttl x events_asked =
-    wrong_line (facts d) flow (flow_at d.topology flow) x.certainty found_ttl travel.finding
-    travel.events.items x.also.now (behind_data (facts d) summary flow x.behind.now)
-    (why_data (facts d) summary flow x.causes.now x.search.now) events_asked
+-- The travel that shows what a flow's packet meets.
+pub record FoundTravelValue : Type 0 where
+  -- the flow's number
+  pub flow : ℕ
+  -- what the packet meets
+  pub finding : Finding
+  -- the TTL with which it was sent
+  pub found_ttl : ℕ
+  -- the events of its travel, if they are asked for
+  pub events : Option (List Event)
+
+-- such a travel as a value
+abbrev pub found_travel_value : FoundTravel → FoundTravelValue
+found_travel_value found = record {
+  flow = found.flow;
+  finding = found.finding;
+  found_ttl = found.found_ttl;
+  events = option_map (λ events. events.now) found.events;
+}
+
+-- what is written of the travel's flow, beside its number, addresses and TTL
+abbrev pub wrong_flow_of : DomainFacts → List SummaryValue → FoundTravelValue → ExplanationValue → WrongFlow
+wrong_flow_of d summary found x = record {
+  certainty = x.certainty;
+  also = map (lan_data d.topology) x.also;
+  at_flow_ttl = optional_finding_data d.topology x.certainty.shown_by.at_flow_ttl;
+  behind = behind_data d summary found.flow x.behind;
+  events = option_map (map (event_data d.topology (d.nets found.flow))) found.events;
+  finding = finding_data d.topology found.finding;
+  found_ttl = found.found_ttl;
+  wanted = map (lan_data d.topology) (lans_wanting d found.flow);
+  why = why_data d summary found.flow x.printed x.search;
+}
+
+-- the object of the travel's flow
+abbrev pub found_flow_data : DomainFacts → List SummaryValue → FoundTravelValue → ExplanationValue → Data
+found_flow_data d summary found x =
+    wrong_data found.flow (flow_at d.topology found.flow) (wrong_flow_of d summary found x)
+
+-- the line of the travel's flow
+abbrev pub wrong_line : DomainFacts → List SummaryValue → FoundTravelValue → ExplanationValue → List ℕ
+wrong_line d summary found x = line_of (found_flow_data d summary found x)

@@ -5,7 +5,7 @@ ghost use Rattle.mc_asked.specs.Services.{service_name};
 ghost use Rattle.std.specs.String.{string_bytes};
 ghost use Rattle.serde_json.specs.View.{view as data_of};
 ghost use Rattle.mc_json.specs.AskedData.{address_data, asked_data_of, asked_more_line, service_data};
-ghost use Rattle.mc_json.specs.AskedData.{asked_services_line, service_object, source_data};
+ghost use Rattle.mc_json.specs.AskedData.{asked_services_line, service_object, want_source_data};
 ghost use Rattle.mc_json.specs.RowData.{line_of};
 
 use crate::fields::Fields;
@@ -39,7 +39,7 @@ fn address_values(alloc: Global, addresses: &[Addr]) -> Result<Vec<Value>, Alloc
 
 /// The source of a want, or null for any.
 fn source_value(alloc: Global, source: Addr) -> Result<Value, AllocError>
-    ensures { IfOk result (λ value. data_of value ≡ source_data source) }
+    ensures { IfOk result (λ value. data_of value ≡ want_source_data source) }
 {
     if source.is_unspecified() {
         Ok(Value::Null)

@@ -13,6 +13,7 @@ ghost use Rattle.mc_theory.specs.Flights.{Waiting};
 ghost use Rattle.mc_theory.specs.Nets.{Net};
 ghost use Rattle.mc_forward.specs.ListedTables.{DomainFacts};
 ghost use Rattle.mc_asked.specs.ListWants.{Want};
+ghost use Rattle.mc_explain.specs.RoutersForWant.{RoutersForWant};
 ghost use Rattle.mc_json.specs.AskedData.{asked_more_line, asked_object, asked_services_line};
 ghost use Rattle.mc_json.specs.DomainData.{domain_data};
 ghost use Rattle.mc_json.specs.EndData.{summary_data, unlisted_lines, verdict_data, without_line};
@@ -36,8 +37,8 @@ pub fn each_line_is_an_object()
         AreObjectLines (unlisted_lines all t summary) }
     ensures without { (t : TopologyValue) (excluded : List Bool) →
         AreObjectLines (without_line t excluded) }
-    ensures asked { (t : TopologyValue) (line : Want × List ℕ) (listed none_out forwards star : List ℕ) →
-        AreObjectLines (line_of (asked_object t line listed none_out forwards star)) }
+    ensures asked { (t : TopologyValue) (line : Want × List ℕ) (listed : List ℕ) (routers : RoutersForWant) →
+        AreObjectLines (line_of (asked_object t line listed routers)) }
     ensures asked_more { (more : ℕ) → AreObjectLines (asked_more_line more) }
     ensures asked_services { (t : TopologyValue) (lines : List (Want × List ℕ)) →
         AreObjectLines (asked_services_line t lines) }

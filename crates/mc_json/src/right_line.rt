@@ -25,7 +25,11 @@ use serde_json::Value;
 use std::alloc::{AllocError, Global};
 
 /// Adds the router of an interface, null for none.
-fn with_router(fields: Fields, topology: &Topology, interface: Option<(RouterNo, u8)>) -> Fields
+fn with_sending_router(
+    fields: Fields,
+    topology: &Topology,
+    interface: Option<(RouterNo, u8)>,
+) -> Fields
     ensures { (ms : Members) → HasMembers fields ms
         → HasMembers result (with_member (codes "router") (interface_router topology.now interface) ms) }
 {
@@ -56,7 +60,7 @@ fn reached_value(alloc: Global, view: &FlowView<'_>, entry: &Reached) -> Result<
         .lan("lan", topology, entry.lan)
         .count("need", entry.need as u64)
         .count("rank", entry.rank as u64);
-    let fields = with_router(fields, topology, entry.forwarder);
+    let fields = with_sending_router(fields, topology, entry.forwarder);
     let fields = with_vif(fields, "vif", entry.forwarder);
     with_vif(fields, "from_vif", taking_interface(view, entry.forwarder)).object()
 }

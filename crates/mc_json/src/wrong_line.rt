@@ -4,15 +4,14 @@ ghost use Rattle.std.specs.Prelude.{◌≡◌, ◌<◌, ◌++◌, IfOk, OnOk, co
 ghost use Rattle.std.specs.String.{string_bytes};
 ghost use Rattle.serde_json.specs.Data.{Members, put as with_member};
 ghost use Rattle.serde_json.specs.View.{view as data_of};
-ghost use Rattle.mc_topology.specs.Topology.{flow_at};
 ghost use Rattle.mc_forward.specs.ListedTables.{facts};
+ghost use Rattle.mc_explain.specs.ExplanationValues.{explanation_value};
 ghost use Rattle.mc_explain.specs.WantedText.{lans_wanting};
 ghost use Rattle.mc_json.specs.WhyData.{why_data_in};
 ghost use Rattle.mc_json.specs.ObjectLines.{HasMembers};
-ghost use Rattle.mc_json.specs.FlowData.{each_wrong_members, shown_from_data, wrong_data, wrong_flow_of};
-ghost use Rattle.mc_json.specs.FlowData.{wrong_mark};
+ghost use Rattle.mc_json.specs.FlowData.{each_wrong_members, shown_from_data, wrong_mark};
 ghost use Rattle.mc_json.specs.RowData.{lan_data, members};
-ghost use Rattle.mc_json.specs.WrongLine.{explained_line};
+ghost use Rattle.mc_json.specs.WrongLine.{found_flow_data, found_travel_value, wrong_line};
 
 use crate::behind_value::behind_value;
 use crate::fields::Fields;
@@ -22,9 +21,9 @@ use crate::line::push_line;
 use crate::line_values::LineValues;
 use crate::name_values::lan_names;
 use mc_explain::{Certainty, Explanation, lans_wanting};
-use mc_forward::{Domain, FlowView};
+use mc_forward::{Domain, Event, FlowView};
 use mc_lines::{LineContext, add_causes, add_search};
-use mc_replay::Travel;
+use mc_replay::Finding;
 use mc_tables::CacheSummary;
 use mc_text::Memory;
 use mc_topology::Flow;
@@ -36,12 +35,12 @@ use std::alloc::{AllocError, Global};
 pub struct FoundTravel<'a> {
     /// The flow's number, counted from 0.
     pub flow: u32,
-    /// The travel.
-    pub travel: &'a Travel,
-    /// The TTL with which it began.
+    /// What the packet meets.
+    pub finding: Finding,
+    /// The TTL with which it was sent, 1 to 255.
     pub found_ttl: u8,
-    /// That its events are asked for.
-    pub events_asked: bool,
+    /// The events of its travel, in order, if they are asked for.
+    pub events: Option<&'a [Event]>,
 }
 
 /// Adds that a flow isn't right, if that is known, or else null.
@@ -96,43 +95,6 @@ fn wanted_values(alloc: Global, view: &FlowView<'_>) -> Result<Vec<Value>, Alloc
     lan_names(alloc, view.topology(), &lans)
 }
 
-/// The object of a flow that isn't right, by the travel that shows it.
-fn wrong_value(
-    alloc: Global,
-    view: &FlowView<'_>,
-    found: &FoundTravel<'_>,
-    explanation: &Explanation<'_>,
-    behind: Value,
-    why: Vec<Value>,
-) -> Result<Value, AllocError>
-    requires number { found.now.flow ≡ view.now.flow }
-    ensures value { IfOk result (λ value. data_of value
-        ≡ wrong_data found.now.flow (flow_at view.now.domain.topology found.now.flow)
-        (wrong_flow_of (facts view.now.domain) found.now.flow explanation.now.certainty
-        found.now.found_ttl found.now.travel.now.finding found.now.travel.now.events.items
-        explanation.now.also.now (data_of behind) (map data_of why.items) found.now.events_asked)) }
-{
-    let topology = view.topology();
-    let FoundTravel {
-        travel,
-        events_asked,
-        ..
-    } = *found;
-    let certainty = &explanation.certainty;
-    let wanted = wanted_values(alloc, view)?;
-    let at_flow_ttl = optional_finding_value(alloc, topology, certainty.shown_by.at_flow_ttl);
-    let fields = wrong_fields(alloc, found, &view.flow(), certainty, wanted, why)
-        .list("also", lan_names(alloc, topology, explanation.also))
-        .value("at_ttl", at_flow_ttl)
-        .value("behind", Ok(behind))
-        .value("finding", finding_value(alloc, topology, travel.finding));
-    if !events_asked {
-        return fields.object();
-    }
-    let events = event_values(alloc, view, &travel.events);
-    fields.list("events", events).object()
-}
-
 /// The values of causes, and then those of a search, if there was one.
 fn why_values(
     alloc: Global,
@@ -150,9 +112,41 @@ fn why_values(
     Ok(lines.values)
 }
 
-/// Writes the line of a flow with a finding: the travel that shows it, the TTL with which that began,
-/// the LANs that want the flow, and what explains the finding. The travel's events are written if they are
-/// asked for. `summary` has the summary of each router's cache, in the topology's order.
+/// The object of a flow with a finding, by the travel that shows it, and the explanation.
+fn wrong_value(
+    alloc: Global,
+    context: &LineContext<'_>,
+    found: &FoundTravel<'_>,
+    explanation: &Explanation<'_>,
+) -> Result<Value, Memory>
+    requires number { found.now.flow ≡ context.now.view.now.flow }
+    ensures value { IfOk result (λ value. data_of value ≡ found_flow_data (facts context.now.view.now.domain)
+        context.now.summary.now (found_travel_value found.now) (explanation_value explanation.now)) }
+{
+    let view = context.view;
+    let topology = view.topology();
+    let certainty = &explanation.certainty;
+    let behind = behind_value(alloc, context, explanation.behind)?;
+    let why = why_values(alloc, context, explanation)?;
+    let wanted = wanted_values(alloc, view)?;
+    let at_flow_ttl = optional_finding_value(alloc, topology, certainty.shown_by.at_flow_ttl);
+    let fields = wrong_fields(alloc, found, &view.flow(), certainty, wanted, why)
+        .list("also", lan_names(alloc, topology, explanation.also))
+        .value("at_ttl", at_flow_ttl)
+        .value("behind", Ok(behind))
+        .value("finding", finding_value(alloc, topology, found.finding));
+    match found.events {
+        Some(events) => {
+            let events = event_values(alloc, view, events);
+            Ok(fields.list("events", events).object()?)
+        }
+        None => Ok(fields.object()?),
+    }
+}
+
+/// Writes the line of a flow with a finding: the finding, the TTL of the packet that shows it, that
+/// packet's events if they are asked for, the LANs that want the flow, and what explains the finding.
+/// `summary` has the summary of each router's cache, in the topology's order.
 ///
 /// # Errors
 ///
@@ -167,17 +161,15 @@ pub fn push_wrong_line(
 ) -> Result<(), Memory>
     requires flow { found.now.flow < length domain.now.topology.flows }
     ensures line { OnOk result (string_bytes text.new ≡ string_bytes text.old
-        ++ explained_line domain.now summary.now found.now.flow found.now.travel.now found.now.found_ttl
-        explanation.now found.now.events_asked) }
+        ++ wrong_line (facts domain.now) summary.now (found_travel_value found.now)
+        (explanation_value explanation.now)) }
 {
     let view = FlowView::new(domain, found.flow);
     let context = LineContext {
         view: &view,
         summary,
     };
-    let behind = behind_value(alloc, &context, explanation.behind)?;
-    let why = why_values(alloc, &context, explanation)?;
-    let value = wrong_value(alloc, &view, found, explanation, behind, why)?;
+    let value = wrong_value(alloc, &context, found, explanation)?;
     push_line(alloc, text, &value)?;
     Ok(())
 }

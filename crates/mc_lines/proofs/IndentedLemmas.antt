@@ -4,22 +4,23 @@ use Rattle.std.proofs.Common.{codes, decimal, flat_map, refl}
 use Rattle.std.specs.List.{list_all}
 use Rattle.std.proofs.lemmas.Bool.{and_parts}
 use Rattle.mc_tables.specs.Summary.{SummaryValue}
+use Rattle.mc_text.proofs.BundleWords.{HasNoByte}
 use Rattle.mc_topology.specs.Topology.{IsValidTopology}
 use Rattle.mc_forward.specs.ListedTables.{DomainFacts}
 use Rattle.mc_explain.specs.declared.causes.Cause.{Cause}
-use Rattle.mc_explain.specs.declared.searches.search_line.SearchLine.{SearchLine}
+use Rattle.mc_explain.specs.declared.searches.searching.LanSearch.{LanSearch}
 use Rattle.mc_explain.specs.Indented.{AreIndented}
 use Rattle.mc_explain.specs.ShownLines.{shown_lines}
 use Rattle.mc_explain.proofs.IndentedLemmas.{are_indented-append, are_indented-flat_map}
 use Rattle.mc_explain.proofs.IndentedLemmas.{are_indented-from_line_rest, are_indented-none}
 use Rattle.mc_explain.proofs.IndentedLemmas.{is_line_rest-append, is_line_rest-append_front}
 use Rattle.mc_explain.proofs.IndentedLemmas.{is_line_rest-feed}
-use Rattle.mc_explain.proofs.LineFeedLemmas.{number}
+use Rattle.mc_explain.proofs.LineFeedLemmas.{no_feed-from_list_all, number}
 use Rattle.mc_lines.specs.CauseLines.{cause_items, cause_lines}
 use Rattle.mc_lines.specs.ExplanationText.{causes_text, context_of, deeper_causes_text, first_lines_text}
 use Rattle.mc_lines.specs.ExplanationText.{more_lines_text}
 use Rattle.mc_lines.specs.ExplanationText.{search_text}
-use Rattle.mc_lines.specs.Filled.{deeper_line_text, deeper_sentence, has_well_formed_sentences}
+use Rattle.mc_lines.specs.Filled.{deeper_line_text, has_well_formed_sentences, indented_line}
 use Rattle.mc_lines.specs.Filled.{indented_sentence, is_well_formed, line_text}
 use Rattle.mc_lines.specs.Filled.{sentence_text}
 use Rattle.mc_lines.specs.FlowContext.{FlowContext}
@@ -31,72 +32,57 @@ use Rattle.mc_lines.proofs.WellFormedLemmas.{well_formed-shown_line}
 
 -- ---- lines with well-formed sentences
 
--- well-formed sentences, each after two spaces
-are_indented-sentences : (c : FlowContext) (facts : List (List ℕ × FactValue)) (ss : List (List ℕ))
-    → IsValidTopology c.domain.topology → list_all (is_well_formed facts) ss ≡ true
-    → AreIndented (flat_map (indented_sentence c facts) ss)
-are_indented-sentences c facts [] ok well = are_indented-none
-are_indented-sentences c facts (s ∷ ss) ok well =
+-- well-formed sentences, each after two spaces and maybe more
+are_indented-sentences : (more : List ℕ) (c : FlowContext) (facts : List (List ℕ × FactValue))
+    (ss : List (List ℕ)) → HasNoByte 10 more → IsValidTopology c.domain.topology
+    → list_all (is_well_formed facts) ss ≡ true
+    → AreIndented (flat_map (indented_sentence (codes "  " ++ more) c facts) ss)
+are_indented-sentences more c facts [] plain ok well = are_indented-none
+are_indented-sentences more c facts (s ∷ ss) plain ok well =
     let parts = and_parts (is_well_formed facts s) (list_all (is_well_formed facts) ss) well in
-    are_indented-append (indented_sentence c facts s) (flat_map (indented_sentence c facts) ss)
-    (are_indented-from_line_rest _ (is_line_rest-append (sentence_text c facts s) _
-    (no_feed-filled c facts s ok parts.0) is_line_rest-feed))
-    (are_indented-sentences c facts ss ok parts.1)
-
--- a line's sentences
-pub are_indented-line_text : (c : FlowContext) (l : Line) → IsValidTopology c.domain.topology
-    → has_well_formed_sentences l ≡ true → AreIndented (line_text c l)
-are_indented-line_text c l ok well = are_indented-sentences c l.facts l.sentences ok well
+    are_indented-append (indented_sentence (codes "  " ++ more) c facts s)
+    (flat_map (indented_sentence (codes "  " ++ more) c facts) ss)
+    (are_indented-from_line_rest _ (is_line_rest-append more _ plain
+    (is_line_rest-append (sentence_text c facts s) _ (no_feed-filled c facts s ok parts.0)
+    is_line_rest-feed)))
+    (are_indented-sentences more c facts ss plain ok parts.1)
 
 -- several lines
-are_indented-lines : (c : FlowContext) (ls : List Line) → IsValidTopology c.domain.topology
-    → list_all has_well_formed_sentences ls ≡ true → AreIndented (flat_map (line_text c) ls)
-are_indented-lines c [] ok well = are_indented-none
-are_indented-lines c (l ∷ ls) ok well =
+are_indented-lines : (more : List ℕ) (c : FlowContext) (ls : List Line) → HasNoByte 10 more
+    → IsValidTopology c.domain.topology → list_all has_well_formed_sentences ls ≡ true
+    → AreIndented (flat_map (indented_line (codes "  " ++ more) c) ls)
+are_indented-lines more c [] plain ok well = are_indented-none
+are_indented-lines more c (l ∷ ls) plain ok well =
     let parts = and_parts (has_well_formed_sentences l) (list_all has_well_formed_sentences ls) well in
-    are_indented-append (line_text c l) (flat_map (line_text c) ls)
-    (are_indented-line_text c l ok parts.0) (are_indented-lines c ls ok parts.1)
+    are_indented-append (indented_line (codes "  " ++ more) c l)
+    (flat_map (indented_line (codes "  " ++ more) c) ls)
+    (are_indented-sentences more c l.facts l.sentences plain ok parts.0)
+    (are_indented-lines more c ls plain ok parts.1)
+
+-- a line's sentences begin with two spaces
+pub are_indented-line_text : (c : FlowContext) (l : Line) → IsValidTopology c.domain.topology
+    → has_well_formed_sentences l ≡ true → AreIndented (line_text c l)
+are_indented-line_text c l ok well = are_indented-sentences [] c l.facts l.sentences tt ok well
 
 -- ---- causes
 
--- the lines of causes
+-- the lines of causes begin with two spaces
 pub are_indented-causes_text : (d : DomainFacts) (summary : List SummaryValue) (flow : ℕ)
     (causes : List Cause) → IsValidTopology d.topology → AreIndented (causes_text d summary flow causes)
 are_indented-causes_text d summary flow causes ok =
     let c = context_of d summary flow in
     are_indented-flat_map (cause_items line_text c) causes
-    (λ cause. are_indented-lines c (cause_lines c cause) ok (well_formed-cause_lines c cause))
+    (λ cause. are_indented-lines [] c (cause_lines c cause) tt ok (well_formed-cause_lines c cause))
 
--- the same after four spaces
-
-are_indented-deeper_sentences : (c : FlowContext) (facts : List (List ℕ × FactValue)) (ss : List (List ℕ))
-    → IsValidTopology c.domain.topology → list_all (is_well_formed facts) ss ≡ true
-    → AreIndented (flat_map (deeper_sentence c facts) ss)
-are_indented-deeper_sentences c facts [] ok well = are_indented-none
-are_indented-deeper_sentences c facts (s ∷ ss) ok well =
-    let parts = and_parts (is_well_formed facts s) (list_all (is_well_formed facts) ss) well in
-    are_indented-append (deeper_sentence c facts s) (flat_map (deeper_sentence c facts) ss)
-    (are_indented-from_line_rest _ (is_line_rest-append_front (codes "  ") _ refl
-    (is_line_rest-append (sentence_text c facts s) _ (no_feed-filled c facts s ok parts.0) is_line_rest-feed)))
-    (are_indented-deeper_sentences c facts ss ok parts.1)
-
--- several lines
-are_indented-deeper_lines : (c : FlowContext) (ls : List Line) → IsValidTopology c.domain.topology
-    → list_all has_well_formed_sentences ls ≡ true → AreIndented (flat_map (deeper_line_text c) ls)
-are_indented-deeper_lines c [] ok well = are_indented-none
-are_indented-deeper_lines c (l ∷ ls) ok well =
-    let parts = and_parts (has_well_formed_sentences l) (list_all has_well_formed_sentences ls) well in
-    are_indented-append (deeper_line_text c l) (flat_map (deeper_line_text c) ls)
-    (are_indented-deeper_sentences c l.facts l.sentences ok parts.0)
-    (are_indented-deeper_lines c ls ok parts.1)
-
--- the lines of causes
+-- those after four spaces too
 pub are_indented-deeper_causes_text : (d : DomainFacts) (summary : List SummaryValue) (flow : ℕ)
-    (causes : List Cause) → IsValidTopology d.topology → AreIndented (deeper_causes_text d summary flow causes)
+    (causes : List Cause) → IsValidTopology d.topology
+    → AreIndented (deeper_causes_text d summary flow causes)
 are_indented-deeper_causes_text d summary flow causes ok =
     let c = context_of d summary flow in
     are_indented-flat_map (cause_items deeper_line_text c) causes
-    (λ cause. are_indented-deeper_lines c (cause_lines c cause) ok (well_formed-cause_lines c cause))
+    (λ cause. are_indented-lines (codes "  ") c (cause_lines c cause)
+    (no_feed-from_list_all (codes "  ") refl) ok (well_formed-cause_lines c cause))
 
 -- ---- a search
 
@@ -112,15 +98,17 @@ are_indented-more_lines more =
           (is_line_rest-append_front (codes " more lines") _ refl is_line_rest-feed)))
     ]
 
--- the text of a search
+-- the text of a search is a sequence of lines that begin with two spaces
 pub are_indented-search_text : (d : DomainFacts) (summary : List SummaryValue) (flow : ℕ)
-    (lines : List SearchLine) (sent_on took_none : List ℕ) → IsValidTopology d.topology
-    → AreIndented (search_text d summary flow lines sent_on took_none)
-are_indented-search_text d summary flow lines sent_on took_none ok =
+    (found : LanSearch) → IsValidTopology d.topology → AreIndented (search_text d summary flow found)
+are_indented-search_text d summary flow found ok =
     let c = context_of d summary flow in
-    let shown = shown_lines lines in
+    let shown = shown_lines found.lines.items in
+    let sent_on = found.reach.sent_on.items in
+    let took_none = found.reach.took_none.items in
     are_indented-append (reach_items line_text c sent_on took_none) (first_lines_text c shown)
-    (are_indented-lines c (reach_lines sent_on took_none) ok (well_formed-reach_lines sent_on took_none))
+    (are_indented-lines [] c (reach_lines sent_on took_none) tt ok
+    (well_formed-reach_lines sent_on took_none))
     (are_indented-append (flat_map (shown_items line_text c) (take 40 shown))
     (more_lines_text (length shown - 40))
     (are_indented-flat_map (shown_items line_text c) (take 40 shown)

@@ -18,7 +18,7 @@ use Rattle.mc_explain.proofs.NameListLemmas.{no_feed-routers_text}
 use Rattle.mc_lines.specs.FactText.{fact_text, flag_text, incoming_number_text}
 use Rattle.mc_lines.specs.Filled.{filled, filled_from_key, is_well_formed, names_fact, text_of_key}
 use Rattle.mc_lines.specs.Filled.{has_key}
-use Rattle.mc_lines.specs.FlowContext.{FlowContext, flow_of, row_of}
+use Rattle.mc_lines.specs.FlowContext.{FlowContext, flow_of, row_for_flow}
 use Rattle.mc_lines.specs.Lines.{FactValue}
 use Rattle.mc_lines.specs.Lines.FactValue.{Lan, Router, Device, Interface, IncomingDevice, IncomingVif, Row}
 use Rattle.mc_lines.specs.Lines.FactValue.{EverySourceRow, Flag, Number, Routers}
@@ -45,8 +45,8 @@ no_feed-fact_text c (Device router vif) ok = no_feed-device_text c.domain router
 no_feed-fact_text c (Interface interface) ok =
     no_feed-flat_map byte_text (interface_at c.domain.topology interface).device
     (λ b. no_feed-escaped_byte b (is_plain b) refl)
-no_feed-fact_text c (IncomingDevice router) ok = no_feed-incoming_text c.domain router (row_of c router)
-no_feed-fact_text c (IncomingVif router) ok = no_feed-incoming_number_text (row_of c router)
+no_feed-fact_text c (IncomingDevice router) ok = no_feed-incoming_text c.domain router (row_for_flow c router)
+no_feed-fact_text c (IncomingVif router) ok = no_feed-incoming_number_text (row_for_flow c router)
 no_feed-fact_text c (Row router) ok = no_feed-flow_row_text c.domain c.flow router ok
 no_feed-fact_text c (EverySourceRow router) ok =
     no_feed-every_source_text c.domain c.summary (flow_of c).group router ok

@@ -21,7 +21,7 @@ use Rattle.mc_explain.specs.declared.searches.shown_line.ShownLine.{ShownLine}
 use Rattle.mc_explain.specs.declared.searches.shown_line.ShownLine.TheVariants.{One, Expected}
 use Rattle.mc_lines.specs.CauseLines.{cause_lines, take_out_line, unplaced_line}
 use Rattle.mc_lines.specs.Filled.{has_well_formed_sentences}
-use Rattle.mc_lines.specs.FlowContext.{FlowContext, flow_of, row_of}
+use Rattle.mc_lines.specs.FlowContext.{FlowContext, flow_of, row_for_flow}
 use Rattle.mc_lines.specs.SearchLines.{from_unplaced_line, incoming_reason, reach_lines, search_line}
 use Rattle.mc_lines.specs.SearchLines.{shown_line}
 
@@ -77,7 +77,7 @@ well_formed-search_line c (NoRow lan router) = refl
 well_formed-search_line c (Unresolved lan router) = refl
 well_formed-search_line c (EverySource lan router) = refl
 well_formed-search_line c (FromUnplaced lan router) =
-    well_formed-from_unplaced_line (incoming_reason c.domain router (row_of c router)) lan router
+    well_formed-from_unplaced_line (incoming_reason c.domain router (row_for_flow c router)) lan router
 well_formed-search_line c (DoesNotSend lan router vif from true) = refl
 well_formed-search_line c (DoesNotSend lan router vif from false) = refl
 well_formed-search_line c (Stopped lan router vif threshold ttl) = refl

@@ -5,7 +5,6 @@ use Rattle.std.specs.Prelude.{take}
 use Rattle.mc_tables.specs.Summary.{SummaryValue}
 use Rattle.mc_forward.specs.ListedTables.{DomainFacts}
 use Rattle.mc_explain.specs.declared.causes.Cause.{Cause}
-use Rattle.mc_explain.specs.declared.searches.search_line.SearchLine.{SearchLine}
 use Rattle.mc_explain.specs.declared.searches.searching.LanSearch.{LanSearch}
 use Rattle.mc_explain.specs.declared.searches.shown_line.ShownLine.{ShownLine}
 use Rattle.mc_explain.specs.Indented.{AreIndented}
@@ -42,19 +41,13 @@ first_lines_text c lines =
     flat_map (shown_items line_text c) (take 40 lines) ++ more_lines_text (length lines - 40)
 
 -- the text of a search: how far the packet came, and the lines
-abbrev pub search_text : DomainFacts → List SummaryValue → (flow : ℕ) → List SearchLine
-    → (sent_on took_none : List ℕ) → List ℕ
-search_text d summary flow lines sent_on took_none =
-    reach_items line_text (context_of d summary flow) sent_on took_none
-    ++ first_lines_text (context_of d summary flow) (shown_lines lines)
-
--- the text of a search's result
-abbrev pub lan_search_text : DomainFacts → List SummaryValue → (flow : ℕ) → LanSearch → List ℕ
-lan_search_text d summary flow found =
-    search_text d summary flow found.lines.items found.reach.sent_on.items found.reach.took_none.items
+abbrev pub search_text : DomainFacts → List SummaryValue → (flow : ℕ) → LanSearch → List ℕ
+search_text d summary flow found =
+    reach_items line_text (context_of d summary flow) found.reach.sent_on.items found.reach.took_none.items
+    ++ first_lines_text (context_of d summary flow) (shown_lines found.lines.items)
 
 -- In this domain the text of each search is a sequence of lines that begin with two spaces.
 abbrev pub IsEachSearchIndented : DomainFacts → Type 0
 IsEachSearchIndented d =
-    (summary : List SummaryValue) (flow : ℕ) (lines : List SearchLine)
-    (sent_on took_none : List ℕ) → AreIndented (search_text d summary flow lines sent_on took_none)
+    (summary : List SummaryValue) (flow : ℕ) (found : LanSearch)
+    → AreIndented (search_text d summary flow found)

@@ -32,21 +32,22 @@ sentence_text c facts sentence = filled (text_of_key c facts) sentence
 
 -- ---- a line as lines of text
 
--- a sentence as a line of text, after two spaces
-abbrev pub indented_sentence : FlowContext → List (List ℕ × FactValue) → (sentence : List ℕ) → List ℕ
-indented_sentence c facts sentence = codes "  " ++ (sentence_text c facts sentence ++ codes "\n")
+-- a sentence as a line of text, after these spaces
+abbrev pub indented_sentence : (indent : List ℕ) → FlowContext → List (List ℕ × FactValue)
+    → (sentence : List ℕ) → List ℕ
+indented_sentence indent c facts sentence = indent ++ (sentence_text c facts sentence ++ codes "\n")
 
--- the sentences of a line as lines of text
+-- the sentences of a line as lines of text, each after these spaces
+abbrev pub indented_line : (indent : List ℕ) → FlowContext → Line → List ℕ
+indented_line indent c l = flat_map (indented_sentence indent c l.facts) l.sentences
+
+-- the sentences of a line as lines of text, each after two spaces
 abbrev pub line_text : FlowContext → Line → List ℕ
-line_text c l = flat_map (indented_sentence c l.facts) l.sentences
+line_text c l = indented_line (codes "  ") c l
 
--- a sentence as a line of text, after four spaces: it explains a line that is itself indented
-abbrev pub deeper_sentence : FlowContext → List (List ℕ × FactValue) → (sentence : List ℕ) → List ℕ
-deeper_sentence c facts sentence = codes "  " ++ indented_sentence c facts sentence
-
--- the sentences of a line as such lines of text
+-- the same after four spaces, where the line explains one that is itself indented
 abbrev pub deeper_line_text : FlowContext → Line → List ℕ
-deeper_line_text c l = flat_map (deeper_sentence c l.facts) l.sentences
+deeper_line_text c l = indented_line (codes "    ") c l
 
 -- ---- a line as one text, without the spaces
 

@@ -26,5 +26,5 @@ abbrev pub flow_of : FlowContext → Flow
 flow_of c = flow_at c.domain.topology c.flow
 
 -- a router's row for the flow
-abbrev pub row_of : FlowContext → (router : ℕ) → Row
-row_of c router = (c.domain.nets c.flow).row router
+abbrev pub row_for_flow : FlowContext → (router : ℕ) → Row
+row_for_flow c router = (c.domain.nets c.flow).row router

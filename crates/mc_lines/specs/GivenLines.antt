@@ -3,9 +3,11 @@ use Rattle.std.specs.Prelude.{ℕ, List, map}
 use Rattle.std.specs.Borrow.{Bor}
 use Rattle.mc_lines.specs.declared.facts.fact.Fact.{Fact}
 use Rattle.mc_lines.specs.declared.facts.fact.Fact.TheVariants.{Lan as lan_fact, Router as router_fact}
-use Rattle.mc_lines.specs.declared.facts.fact.Fact.TheVariants.{Device as device_fact, Interface as interface_fact}
+use Rattle.mc_lines.specs.declared.facts.fact.Fact.TheVariants.{Device as device_fact}
+use Rattle.mc_lines.specs.declared.facts.fact.Fact.TheVariants.{Interface as interface_fact}
 use Rattle.mc_lines.specs.declared.facts.fact.Fact.TheVariants.{IncomingDevice as incoming_device_fact}
-use Rattle.mc_lines.specs.declared.facts.fact.Fact.TheVariants.{IncomingVif as incoming_vif_fact, Row as row_fact}
+use Rattle.mc_lines.specs.declared.facts.fact.Fact.TheVariants.{IncomingVif as incoming_vif_fact}
+use Rattle.mc_lines.specs.declared.facts.fact.Fact.TheVariants.{Row as row_fact}
 use Rattle.mc_lines.specs.declared.facts.fact.Fact.TheVariants.{EverySourceRow as every_source_row_fact}
 use Rattle.mc_lines.specs.declared.facts.fact.Fact.TheVariants.{Flag as flag_fact, Number as number_fact}
 use Rattle.mc_lines.specs.declared.facts.fact.Fact.TheVariants.{Routers as routers_fact}

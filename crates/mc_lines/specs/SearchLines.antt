@@ -2,7 +2,6 @@
 -- the line's fact with that key; kinds and keys are those of an object of `why` in JSON.
 use Rattle.std.specs.Prelude.{ℕ, Bool, true, false, List, [], ◌∷◌, ◌++◌, codes, flat_map}
 use Rattle.mc_theory.specs.Nets.{Row as NetRow}
-use Rattle.mc_theory.specs.Nets.Row.{Exact, Open, NoRow as no_row}
 use Rattle.mc_forward.specs.ListedTables.{DomainFacts}
 use Rattle.mc_forward.specs.UnplacedReasons.{unplaced_reason}
 use Rattle.mc_forward.specs.declared.unplaced.UnplacedReason.{UnplacedReason}
@@ -18,8 +17,9 @@ use Rattle.mc_explain.specs.declared.searches.search_line.SearchLine.TheVariants
 use Rattle.mc_explain.specs.declared.searches.search_line.SearchLine.TheVariants.{NoSender}
 use Rattle.mc_explain.specs.declared.searches.shown_line.ShownLine.{ShownLine}
 use Rattle.mc_explain.specs.declared.searches.shown_line.ShownLine.TheVariants.{One, Expected}
+use Rattle.mc_explain.specs.RowText.{of_entry_or}
 use Rattle.mc_explain.specs.ShownLines.{shown_lines}
-use Rattle.mc_lines.specs.FlowContext.{FlowContext, row_of}
+use Rattle.mc_lines.specs.FlowContext.{FlowContext, row_for_flow}
 use Rattle.mc_lines.specs.Lines.{Line, line}
 use Rattle.mc_lines.specs.Lines.FactValue.{Lan, Router, Device, Interface, IncomingDevice, IncomingVif, Row}
 use Rattle.mc_lines.specs.Lines.FactValue.{EverySourceRow, Flag, Number, Routers}
@@ -44,11 +44,11 @@ interface_line kind sentence lan router interface = line kind (sentence ∷ [])
 
 -- ---- sentences that depend on what is the case
 
--- why the incoming vif of a router's row is placed on no LAN
+-- why the incoming vif of a router's row is placed on no LAN; `OnNoLan` for a row without one, which has no
+-- such line
 abbrev pub incoming_reason : DomainFacts → (router : ℕ) → NetRow → UnplacedReason
-incoming_reason d router (Exact incoming pairs) = unplaced_reason (d.vifs router incoming)
-incoming_reason d router Open = OnNoLan
-incoming_reason d router no_row = OnNoLan
+incoming_reason d router row =
+    of_entry_or OnNoLan (λ incoming pairs. unplaced_reason (d.vifs router incoming)) row
 
 -- the kind and the sentence of the line for this reason
 abbrev pub incoming_words : UnplacedReason → List ℕ × List ℕ
@@ -116,7 +116,7 @@ search_line c (EverySource lan router) = line (codes "every_source")
     ++ codes "which is not audited: {row}") ∷ [])
     ((codes "lan", Lan lan) ∷ (codes "router", Router router) ∷ (codes "row", EverySourceRow router) ∷ [])
 search_line c (FromUnplaced lan router) =
-    from_unplaced_line (incoming_reason c.domain router (row_of c router)) lan router
+    from_unplaced_line (incoming_reason c.domain router (row_for_flow c router)) lan router
 search_line c (DoesNotSend lan router vif from carried) = line (codes "does_not_send")
     (missing_sentence carried ∷ [])
     ((codes "carried", Flag carried)

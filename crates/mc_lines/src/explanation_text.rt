@@ -6,7 +6,7 @@ ghost use Rattle.mc_forward.specs.ListedTables.{facts};
 ghost use Rattle.mc_explain.specs.ShownLines.{shown_lines};
 ghost use Rattle.mc_lines.specs.CauseLines.{causes_items};
 ghost use Rattle.mc_lines.specs.ExplanationText.{causes_text, context_of, deeper_causes_text};
-ghost use Rattle.mc_lines.specs.ExplanationText.{first_lines_text, lan_search_text, more_lines_text};
+ghost use Rattle.mc_lines.specs.ExplanationText.{first_lines_text, more_lines_text, search_text};
 ghost use Rattle.mc_lines.specs.Filled.{line_text};
 ghost use Rattle.mc_lines.specs.FlowContext.{flow_context};
 ghost use Rattle.mc_lines.specs.SearchLines.{shown_items};
@@ -170,7 +170,7 @@ pub fn push_search(
 ) -> Result<(), Memory>
     requires flow { flow < length domain.now.topology.flows }
     ensures lines { OnOk result (string_bytes text.new ≡ string_bytes text.old
-        ++ lan_search_text (facts domain.now) summary.now flow search.now) }
+        ++ search_text (facts domain.now) summary.now flow search.now) }
 {
     let view = FlowView::new(domain, flow);
     let context = LineContext {

@@ -14,34 +14,37 @@ use crate::line_sink::LineSink;
 use mc_text::Memory;
 use std::alloc::AllocError;
 
-/// Writes a sentence as a line.
-pub(crate) fn push_indented(
+/// Writes a sentence as a line, after these spaces.
+fn push_indented(
     text: &mut String,
+    indent: &str,
     context: &LineContext<'_>,
     facts: &[(&str, Fact<'_>)],
     sentence: &str,
 ) -> Result<(), AllocError>
     ensures { OnOk result (string_bytes text.new ≡ string_bytes text.old
-        ++ indented_sentence (flow_context context.now) (map named_fact facts.now) sentence.now) }
+        ++ indented_sentence indent.now (flow_context context.now) (map named_fact facts.now)
+        sentence.now) }
 {
-    text.push_str("  ")?;
+    text.push_str(indent)?;
     push_filled(text, context, facts, sentence)?;
     text.push_str("\n")
 }
 
-/// Writes sentences, a line each.
-fn push_each_indented(
+/// Writes sentences, a line each, after these spaces.
+pub(crate) fn push_each_indented(
     text: &mut String,
+    indent: &str,
     context: &LineContext<'_>,
     facts: &[(&str, Fact<'_>)],
     sentences: &[&str],
 ) -> Result<(), AllocError>
     ensures { OnOk result (string_bytes text.new ≡ string_bytes text.old
-        ++ flat_map (indented_sentence (flow_context context.now) (map named_fact facts.now))
+        ++ flat_map (indented_sentence indent.now (flow_context context.now) (map named_fact facts.now))
         (map given_text sentences.now)) }
 {
     for sentence in sentences {
-        push_indented(text, context, facts, sentence)?;
+        push_indented(text, indent, context, facts, sentence)?;
     }
     Ok(())
 }
@@ -113,7 +116,7 @@ impl LineSink for String {
         sentences: &[&str],
         facts: &[(&str, Fact<'_>)],
     ) -> Result<(), Memory> {
-        push_each_indented(self, context, facts, sentences)?;
+        push_each_indented(self, "  ", context, facts, sentences)?;
         Ok(())
     }
 }

@@ -39,6 +39,7 @@ entries_after-each n P es (c ∷ cs) new old e h =
     (λ x k. elim (in-push_cases x es (entry_after n es c) k)
     [ inl j ↦ old x j | inr q ↦ subst P q (new es c (inl refl)) ]) e h
 
+-- what holds of the entry that is made of each copy holds of all entries
 pub entries_of-each : (n : Net) (P : Entry → Type 0) (cs : List Copy)
     → ((ds : List Entry) (c : Copy) → In c cs → P (entry_after n ds c))
     → (e : Entry) → In e (entries_of n cs) → P e
@@ -53,6 +54,7 @@ need_after-at_least_one n ds None = omega arith
 need_after-at_least_one n ds (Some i) = need_over-at_least_one (threshold_of i.1 (row_pairs (n.row i.0)))
     (entry_at ds (from_lan n (Some i)))
 
+-- the need of each copy's entry is at least 1
 pub entries_of-needs_at_least_one : (n : Net) (cs : List Copy) (e : Entry) → In e (entries_of n cs)
     → 1 ≤ e.need
 entries_of-needs_at_least_one n cs = entries_of-each n (λ e. 1 ≤ e.need) cs
@@ -81,6 +83,7 @@ entries_of-needs_at_most_255 n count picks net travel e h =
     named.1 (sym c.2 ∙ sym named.2.lan) in
     subst (λ (x : Entry). x.need ≤ 255) (sym same) named.2.need
 
+-- the copies of a travel at TTL 255 that finds nothing are clean
 pub are_clean_copies-of_travel : (d a : DomainValue) (flow : ℕ) (t : Travel) (g : Flight) (cs : List Copy)
     → IsDomain d → a ≡ d
     → IsRunTo (replay_of d flow 255 first_choices) t g → FindsNothing t → cs ≡ g.carried
@@ -123,12 +126,14 @@ is_entry_of-entries_of d flow cs clean = entries_of-each (net_of d flow) (IsEntr
           clean.senders c h;
     })
 
+-- their entries, in any order, are of the topology's LANs and routers
 pub all_of_topology-reordered : (d : DomainValue) (flow : ℕ) (cs : List Copy) (es : List Entry)
     → AreCleanCopies d flow cs → IsReordering (entries_of (net_of d flow) cs) es
     → All (IsEntryOf d.topology) es
 all_of_topology-reordered d flow cs es clean made = all-from_each_member (IsEntryOf d.topology) es
     (λ e h. is_entry_of-entries_of d flow cs clean e (made.from e h))
 
+-- the numbers of their LANs are below the number of LANs
 pub lans_below_count-reordered : (d : DomainValue) (flow : ℕ) (cs : List Copy) (es : List Entry)
     → AreCleanCopies d flow cs → IsReordering (entries_of (net_of d flow) cs) es
     → All (λ (e : Entry). e.lan < length d.topology.lans) es
@@ -154,6 +159,7 @@ length-listed_entries d es once all =
     (each_in-all (IsEntryOf d.topology) es all e.0 e.1).lan) in
     omega (arith, few, length-map es (λ (e : Entry). e.lan))
 
+-- and a text can have them as a tree
 pub is_writable_tree-reordered : (d : DomainValue) (flow : ℕ) (cs : List Copy) (es : List Entry) → IsDomain d
     → AreCleanCopies d flow cs → IsReordering (entries_of (net_of d flow) cs) es → IsWritableTree es
 is_writable_tree-reordered d flow cs es ok clean made =

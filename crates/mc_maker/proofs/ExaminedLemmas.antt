@@ -102,6 +102,7 @@ finds_fault-not_served d flow cs t ok lt clean low is none =
 
 -- ---- the flow is certified
 
+-- the entries of clean copies, in any order, certify the flow if they serve each LAN that wants it
 pub is_accepted-reordered : (d : DomainValue) (flow : ℕ) (cs : List Copy) (es : List Entry)
     → AreCleanCopies d flow cs → IsReordering (entries_of (net_of d flow) cs) es
     → IsServed (net_of d flow) (entries_of (net_of d flow) cs) → IsAccepted (net_of d flow) es
@@ -110,11 +111,13 @@ is_accepted-reordered d flow cs es clean made served = record {
   served = is_served-reordering (net_of d flow) (entries_of (net_of d flow) cs) es made served;
 }
 
+-- a flow that entries certify is right
 pub is_right-accepted : (d : DomainValue) (flow : ℕ) (es : List Entry) → IsDomain d
     → flow < length d.topology.flows → IsAccepted (net_of d flow) es → IsRight (net_of d flow)
 is_right-accepted d flow es ok lt acc = is_right-from_accepted (net_of d flow) es (is_net-net_of d flow ok)
     (ttl-at_least_1 d flow ok lt) acc
 
+-- the entries of a travel that finds nothing, in any order, are those of a clean travel
 pub entries_of_clean_travel-reordered : (d : DomainValue) (flow : ℕ) (t : Travel) (g : Flight)
     (cs : List Copy)
     (es : List Entry) → IsRunTo (replay_of d flow 255 first_choices) t g → FindsNothing t
@@ -138,6 +141,7 @@ clean-not_not (Loop l) h = absurd (h (λ e. cc))
 clean-not_not (Stray r v) h = absurd (h (λ e. cc))
 clean-not_not (Missed l) h = absurd (h (λ e. cc))
 
+-- the travel of a right flow's packet, with at least the flow's TTL, finds nothing
 pub finds_nothing-right_flow : (d : DomainValue) (flow ttl : ℕ) (t : Travel) → IsDomain d
     → ttl_of d flow ≤ ttl
     → ttl ≤ 255 → IsRight (net_of d flow) → IsFirstPickTravel d flow ttl t → FindsNothing t
@@ -174,6 +178,7 @@ ttl_of-listed_flow d flow t f same at =
 
 -- ---- by the view of the flight's flow
 
+-- the flow of a flight is the domain's flow with that number
 pub flow_view-same_domain_and_flow : (d : DomainValue) (flow : ℕ) (j : FlightInDomain)
     (f : FlowOfDomain) → j.domain ≡ d
     → j.flow ≡ flow → f ≡ record { domain = j.domain; flow = j.flow }
@@ -183,6 +188,7 @@ flow_view-same_domain_and_flow d flow j f same number is =
     let by_flow : ℕ → FlowOfDomain = λ x. record { domain = d; flow = x } in
     is ∙ (ap by_domain same ∙ ap by_flow number)
 
+-- the held entries are those of the copies, in another order
 pub is_reordering-held_entries : (f : FlowOfDomain) (cs : List Copy) (by_lan : List (Option Entry))
     (es : List Entry) → AreCleanCopies f.domain f.flow cs → AreEntriesByLan by_lan (entries_of (net_in f) cs)
     → es ≡ held_entries by_lan → IsReordering (entries_of (net_in f) cs) es
@@ -190,6 +196,7 @@ is_reordering-held_entries f cs by_lan es clean is held =
     subst (IsReordering (entries_of (net_in f) cs)) (sym held)
     (is_reordering-entries_by_lan by_lan (entries_of (net_in f) cs) is clean.tree.one_entry)
 
+-- and ascend by the numbers of their LANs
 pub ascending-entries_by_lan : (f : FlowOfDomain) (cs : List Copy) (by_lan : List (Option Entry))
     (es : List Entry)
     → AreEntriesByLan by_lan (entries_of (net_in f) cs) → es ≡ held_entries by_lan

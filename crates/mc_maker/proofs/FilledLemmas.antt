@@ -23,6 +23,7 @@ use Rattle.mc_maker.specs.EntriesByLan.{need_by_held_entries}
 
 -- ---- elements
 
+-- what holds of all items of a list holds of each
 pub each_in-all : {A : Type 0} (P : A → Type 0) (xs : List A) → All P xs → (x : A) → In x xs → P x
 each_in-all P [] all x h = absurd h
 each_in-all P (y ∷ xs) all x (inl e) = subst P e (all 0 y (omega arith))
@@ -30,6 +31,7 @@ each_in-all P (y ∷ xs) all x (inr h) = each_in-all P xs (λ k d lt. all (suc k
 
 -- ---- the entries of the first copies
 
+-- the entries of two lists of copies are those of the second one after those of the first
 pub entries_after-append : (n : Net) (es : List Entry) (xs ys : List Copy)
     → entries_after n es (xs ++ ys) ≡ entries_after n (entries_after n es xs) ys
 entries_after-append n es [] ys = refl
@@ -50,6 +52,7 @@ pub record EntriesSoFar (n : Net) (by_lan old : List (Option Entry)) (cs : List 
   pub count : length by_lan ≡ length old
   pub places : AreEntriesByLan by_lan (entries_of n (take k cs))
 
+-- before the first copy no entry is stored
 pub entries_so_far-none : (n : Net) (by_lan : List (Option Entry)) (cs : List Copy)
     → AreEntriesByLan by_lan []
     → EntriesSoFar n by_lan by_lan cs 0
@@ -98,6 +101,7 @@ need_by_held-at_most_255 n by_lan old cs k c f lt at small =
     (each_in-all (λ (e : Entry). e.need ≤ 255) (entries_of n cs) small
     (entry_after n (entries_of n (take k cs)) c) (in-entries_of_next n cs k c lt at))
 
+-- one copy more: its entry is put into its LAN's place where that is free
 pub entries_so_far-more : (n : Net) (by_lan by_lan' old : List (Option Entry)) (cs : List Copy) (k : ℕ)
     (c : Copy) (e : Entry) (put : Bool) → EntriesSoFar n by_lan old cs k → k < length cs
     → c ≡ get_or cs k c → c.lan < length old → e ≡ entry_by_held_entries n by_lan c
@@ -125,6 +129,7 @@ entries_so_far-more n by_lan by_lan' old cs k c e put f lt at within by free is 
           earlier kept));
     }
 
+-- after all copies each place holds the first entry of its LAN
 pub entries_so_far-all : (n : Net) (by_lan old : List (Option Entry)) (cs : List Copy) (k : ℕ)
     → EntriesSoFar n by_lan old cs k → length cs ≤ k → AreEntriesByLan by_lan (entries_of n cs)
 entries_so_far-all n by_lan old cs k f le = subst (λ xs. AreEntriesByLan by_lan (entries_of n xs))

@@ -93,10 +93,12 @@ holds_lans_from-zero : (by_lan : List (Option Entry)) (es : List Entry) → AreE
 holds_lans_from-zero by_lan es is l e h = let q : e.lan ≡ l =
     (in-entry_on es l e (sym (is l ∙ first_with_key-entry_on es l) ∙ h)).1 in omega (arith, q)
 
+-- the held entries ascend by the numbers of their LANs
 pub ascending-held_entries : (by_lan : List (Option Entry)) (es : List Entry) → AreEntriesByLan by_lan es
     → IsStrictlyIncreasing (map (λ (e : Entry). e.lan) (held_entries by_lan))
 ascending-held_entries by_lan es is = ascending-holds_lans_from 0 by_lan (holds_lans_from-zero by_lan es is)
 
+-- where each LAN has one entry, they are the entries in another order
 pub is_reordering-entries_by_lan : (by_lan : List (Option Entry)) (es : List Entry)
     → AreEntriesByLan by_lan es
     → Distinct (map (λ (e : Entry). e.lan) es) → IsReordering es (held_entries by_lan)

@@ -44,6 +44,8 @@ wanted_and_not_served false false e = absurd cc
 
 module _ (n : Net) (cs : List Copy) (es : List Entry) (made : IsReordering (entries_of n cs) es)
   where
+    -- where each entry serves, and each LAN that wants the flow carried a copy, the entries serve each such
+    -- LAN
     pub is_served-each : ((l : ℕ) → n.wants l ≡ true → In l (lans cs))
         → All (λ (e : Entry). serves n e ≡ true) es → IsServed n (entries_of n cs)
     is_served-each reached all l w =
@@ -56,6 +58,7 @@ module _ (n : Net) (cs : List Copy) (es : List Entry) (made : IsReordering (entr
           leb-true e.0.need n.ttl (served_if_wanted (nat_le e.0.need n.ttl) (n.wants e.0.lan) wanted good),
         )
 
+    -- an entry that doesn't serve leaves its LAN unserved
     pub is_served-not : (e : Entry) → Distinct (map (λ (x : Entry). x.lan) (entries_of n cs)) → In e es
         → serves n e ≡ false → ¬ IsServed n (entries_of n cs)
     is_served-not e once h low served =

@@ -20,6 +20,7 @@ closed_row placed (Exact incoming pairs) = Exact incoming (filter (λ p. is_some
 closed_row placed Open = NoRow
 closed_row placed NoRow = NoRow
 
+-- the domain in which each row is closed: no copy strays, and no row is open
 abbrev pub closed : Net → Net
 closed n = record {
   routers = n.routers;
@@ -36,6 +37,7 @@ without_strays f = record { carried = f.carried; waiting = f.waiting; strays = [
 
 -- ---- it is a domain
 
+-- what is in a filtered list is in the list
 pub in_filter-in_list : {A : Type 0} (p : A → Bool) (x : A) (xs : List A) → In x (filter p xs) → In x xs
 in_filter-in_list p x [] h = h
 in_filter-in_list p x (y ∷ ys) h = by (p y) (in_filter-in_list p x ys) h
@@ -80,6 +82,7 @@ exact-of_closed_row placed (Exact incoming all) v pairs e =
 exact-of_closed_row placed Open v pairs e = absurd cc
 exact-of_closed_row placed NoRow v pairs e = absurd cc
 
+-- the closed domain keeps the rules of a domain
 pub is_net-closed : (n : Net) → IsNet n → IsNet (closed n)
 is_net-closed n net = record {
   router = net.router;
@@ -161,6 +164,7 @@ without_strays-handle : (n : Net) (o : Option Waiting) (f : Flight)
 without_strays-handle n None f = refl
 without_strays-handle n (Some w) f = without_strays-row n w (n.row w.router) f
 
+-- a step in the closed domain does what it does in the domain, but for strays
 pub without_strays-step : (n : Net) (i : ℕ) (f : Flight)
     → without_strays (step n i f) ≡ step (closed n) i (without_strays f)
 without_strays-step n i f = without_strays-handle n (slice_get f.waiting i) (without_waiting i f)
@@ -170,12 +174,14 @@ without_strays-pick : (n : Net) (p : Pick) (f : Flight)
 without_strays-pick n (Handles i) f = without_strays-step n i f
 without_strays-pick n (Loses i) f = refl
 
+-- so does a run
 pub without_strays-run : (n : Net) (ps : List Pick) (f : Flight)
     → without_strays (run n ps f) ≡ run (closed n) ps (without_strays f)
 without_strays-run n [] f = refl
 without_strays-run n (p ∷ ps) f = without_strays-run n ps (apply_pick n p f)
     ∙ ap (run (closed n) ps) (without_strays-pick n p f)
 
+-- a flight starts in the closed domain as it does in the domain
 pub without_strays-start : (n : Net) (t : ℕ) → without_strays (start n t) ≡ start (closed n) t
 unfolding interfaces
 without_strays-start n t = refl
@@ -189,6 +195,7 @@ in_range-closed n (p ∷ ps) f h = (
       (in_range-closed n ps (apply_pick n p f) h.1),
 )
 
+-- a complete run of the domain is one of the closed domain
 pub is_complete_run-closed : (n : Net) (t : ℕ) (ps : List Pick) → IsCompleteRun n t ps
     → IsCompleteRun (closed n) t ps
 is_complete_run-closed n t ps complete = record {
@@ -211,6 +218,7 @@ from_lan-closed : (n : Net) (x : Option Interface) → from_lan (closed n) x ≡
 from_lan-closed n None = refl
 from_lan-closed n (Some i) = taken_from-closed_row n i.0 (n.row i.0)
 
+-- walks back are the same in the closed domain
 pub walk_visits-closed : (n : Net) (cs : List Copy) (l k : ℕ) (x : Option Interface)
     → walk_visits (closed n) cs l k x ≡ walk_visits n cs l k x
 walk_visits-closed n cs l zero x = refl
@@ -225,6 +233,7 @@ walk_visits-closed n cs l (suc k) x =
     by None rest = refl
     by (Some p) rest = ap (λ b. (p == l) || b) (rest p)
 
+-- a walk back in the closed domain is one in the domain
 pub is_walk_back-of_closed : (n : Net) (cs : List Copy) (c : Copy) (ds : List Copy)
     → IsWalkBack (closed n) cs c ds → IsWalkBack n cs c ds
 is_walk_back-of_closed n cs c [] h = h
@@ -244,6 +253,7 @@ is_hop-of_closed n h is =
       sends = is.sends;
     }
 
+-- a copy came by the hops by which it came in the closed domain
 pub came_by_hops-of_closed : (n : Net) (cs : List Copy) (c : Copy) (hs : List Hop)
     → CameByHops (closed n) cs c hs → CameByHops n cs c hs
 came_by_hops-of_closed n cs c [] by = by
@@ -254,6 +264,7 @@ came_by_hops-of_closed n cs c (h ∷ hs) by =
 is_sent_by_hop-of_closed : (n : Net) (c : Copy) (h : Hop) → IsSentByHop (closed n) c h → IsSentByHop n c h
 is_sent_by_hop-of_closed n c h sent = (sent.0, sent.1, is_hop-of_closed n h sent.2)
 
+-- so it is for the hops by which a copy came from a LAN
 pub came_from_lan-of_closed : (n : Net) (cs : List Copy) (l : ℕ) (c : Copy) (hs : List Hop)
     → CameFromLan (closed n) cs l c hs → CameFromLan n cs l c hs
 came_from_lan-of_closed n cs l c [] from = from

@@ -18,6 +18,7 @@ abbrev pub first_some : {A : Type 0} → Option A → Option A → Option A
 first_some None y = y
 first_some (Some x) y = Some x
 
+-- the first double copy of two lists is that of the first one, or else that of the second, after the first
 pub double-append : (earlier xs ys : List Copy) → first_double earlier (xs ++ ys)
     ≡ first_some (first_double earlier xs) (first_double (earlier ++ xs) ys)
 double-append earlier [] ys = ap (λ es. first_double es ys) (sym (append-nil earlier))
@@ -41,6 +42,7 @@ second_copy_so_far (Some d) is_second_copy c = Some d
 second_copy_so_far None true c = Some c
 second_copy_so_far None false c = None
 
+-- where none was found before, a second copy is the first one
 pub second_copy_so_far-found_now : (o : Option Copy) (is_second_copy : Bool) (c : Copy)
     → is_second_copy ≡ true → is_some o ≡ false
     → second_copy_so_far o is_second_copy c ≡ Some c
@@ -48,11 +50,13 @@ second_copy_so_far-found_now None true c e none = refl
 second_copy_so_far-found_now None false c e none = absurd cc
 second_copy_so_far-found_now (Some d) is_second_copy c e none = absurd cc
 
+-- one that was found before stays the first
 pub second_copy_so_far-found_before : (o : Option Copy) (is_second_copy : Bool) (c : Copy) → is_some o ≡ true
     → second_copy_so_far o is_second_copy c ≡ o
 second_copy_so_far-found_before None is_second_copy c some = absurd cc
 second_copy_so_far-found_before (Some d) is_second_copy c some = refl
 
+-- a copy that is no second one changes nothing
 pub second_copy_so_far-first_on_lan : (o : Option Copy) (is_second_copy : Bool) (c : Copy)
     → is_second_copy ≡ false
     → second_copy_so_far o is_second_copy c ≡ o
@@ -67,6 +71,8 @@ pub record FirstCopiesSoFar (firsts old : List (Option Copy)) (cs : List Copy) (
   pub filled : HoldsFirstOfEachKey (λ (c : Copy). c.lan) firsts (take k cs)
   pub second : first_some found (first_double (take k cs) (drop k cs)) ≡ first_double [] cs
 
+-- before the copies after the first k are looked at, no second copy is found, where the first k are on as
+-- many LANs
 pub first_copies_so_far-none : (firsts : List (Option Copy)) (cs : List Copy) (k : ℕ)
     → HoldsFirstOfEachKey (λ (c : Copy). c.lan) firsts (take k cs) → first_double [] (take k cs)
     ≡ None → FirstCopiesSoFar firsts firsts cs k None
@@ -94,6 +100,7 @@ is_second_copy : (o : Option Copy) (put : Bool) → (IsTrue put → o ≡ None) 
 is_second_copy o true free earlier = ap is_some (free refl)
 is_second_copy o false free earlier = earlier refl
 
+-- one copy more: it is put into its LAN's place where that is free, and is a second copy where it isn't
 pub first_copies_so_far-more : (firsts firsts' old : List (Option Copy)) (cs : List Copy) (k : ℕ)
     (second second' : Option Copy) (c : Copy) (put : Bool)
     → FirstCopiesSoFar firsts old cs k second → k < length cs → c ≡ get_or cs k c → c.lan < length old
@@ -126,11 +133,13 @@ first_some-none : (o : Option Copy) → first_some o None ≡ o
 first_some-none None = refl
 first_some-none (Some c) = refl
 
+-- after all copies, what was found is the first double copy
 pub second_copy_so_far-all : (firsts old : List (Option Copy)) (cs : List Copy) (k : ℕ) (second : Option Copy)
     → FirstCopiesSoFar firsts old cs k second → length cs ≤ k → second ≡ first_double [] cs
 second_copy_so_far-all firsts old cs k second t le = sym (first_some-none second)
     ∙ (ap (λ xs. first_some second (first_double (take k cs) xs)) (sym (drop_all k cs le)) ∙ t.second)
 
+-- after all copies, each place holds the first copy on its LAN
 pub first_copies_so_far-all : (firsts old : List (Option Copy)) (cs : List Copy) (k : ℕ)
     (second : Option Copy)
     → FirstCopiesSoFar firsts old cs k second → length cs ≤ k
@@ -150,6 +159,7 @@ get_or-take_drop cs k i c lt at = (
   at ∙ (ap (λ (xs : List Copy). get_or xs i c) (take_rest cs k) ∙ get_or-drop k cs i c),
 )
 
+-- where at most i copies come after the first k, there are at most k + i
 pub length-take_drop_end : (cs : List Copy) (k i : ℕ) → length (take (length cs - k) (drop k cs)) ≤ i
     → length cs ≤ k + i
 length-take_drop_end cs k i le = let e = ap length (take_rest cs k) in omega

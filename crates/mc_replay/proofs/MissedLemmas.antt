@@ -28,6 +28,7 @@ unfolding below
 missed-below_more n cs k h = ap (λ m. missed n cs (below m)) (add-one k)
     ∙ (missed-push n cs (below k) k ∙ ap (λ o. first_some o (missed n cs (k ∷ []))) h)
 
+-- of no LANs none is missed
 pub missed-below_none : (n : Net) (cs : List Copy) → missed n cs (below 0) ≡ None
 unfolding below
 missed-below_none n cs = refl
@@ -87,6 +88,7 @@ is_some-missed_one k true true = refl
 is_some-missed_one k true false = refl
 is_some-missed_one k false b = refl
 
+-- of the LANs up to number k one is missed if one below k is, or LAN k wants the flow and carried no copy
 pub is_some-missed_below_more : (n : Net) (cs : List Copy) (k : ℕ) → is_some (missed n cs (below (k + 1)))
     ≡ (is_some (missed n cs (below k)) || (n.wants k && not (is_some (first_copy_on cs k))))
 unfolding below

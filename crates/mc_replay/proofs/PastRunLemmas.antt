@@ -16,6 +16,7 @@ use Rattle.mc_replay.proofs.PastStraysLemmas.{goes_on-waits, handled_count-below
 
 -- ---- whether it goes on
 
+-- the run goes on where no LAN carried two copies and some copy waits
 pub goes_on-from_waiting : (f : Flight) (o : Option Copy) → o ≡ first_double [] f.carried → is_some o ≡ false
     → length f.waiting ≢ 0 → goes_on f ≡ true
 goes_on-from_waiting f o same none waits =
@@ -38,6 +39,7 @@ pub record IsRunSoFar (n : Net) (f0 f : Flight) : Type 0 where
   pub handled : HandledCountIs n count f
   pub more : (g : Flight) → EndsPastStrays n f g → EndsPastStrays n f0 g
 
+-- the run begins at the flight that starts
 pub run_so_far-start : (n : Net) (f : Flight) → (t : ℕ) × (f ≡ start n t) → IsRunSoFar n f f
 run_so_far-start n f is = record {
   count = 0;
@@ -53,6 +55,7 @@ ends_past_strays-step n f g goes rest = record {
   ends = rest.ends;
 }
 
+-- one handling more, of the first waiting copy
 pub run_so_far-step : (n : Net) (f0 f g : Flight) → IsRunSoFar n f0 f → goes_on f ≡ true → g ≡ step n 0 f
     → IsRunSoFar n f0 g
 run_so_far-step n f0 f g so_far goes next =
@@ -66,6 +69,7 @@ run_so_far-step n f0 f g so_far goes next =
 abbrev pub room_left : Net → Flight → ℕ
 room_left n f = (length (placed_interfaces n) + length f.waiting) - hearer_count n f.carried
 
+-- each handling leaves room for fewer
 pub room_left-step : (n : Net) (f0 f g : Flight) → IsRunSoFar n f0 f → goes_on f ≡ true → g ≡ step n 0 f
     → room_left n g < room_left n f
 room_left-step n f0 f g so_far goes next =

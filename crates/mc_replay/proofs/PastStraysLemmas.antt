@@ -136,6 +136,7 @@ IsSecondCopy (Loop l) = ⊤
 IsSecondCopy (Stray r v) = ⊥
 IsSecondCopy (Missed l) = ⊥
 
+-- what the carried copies show, if a LAN carried two, is a second copy
 pub is_second_copy-of_finding : (n : Net) (cs : List Copy) (x : Finding) → second_copy_finding n cs ≡ Some x
     → IsSecondCopy x
 is_second_copy-of_finding n cs x e = by (first_double [] cs) e
@@ -161,6 +162,7 @@ shows-in_closed : (n : Net) (count t : ℕ) (g : Flight) (x : Finding) → Wants
 shows-in_closed n count t g x wants r = subst (λ f. Shows (closed n) f x) (sym r.ends)
     (shows-travel_finding (closed n) count t [] false r.picks x wants r.travel)
 
+-- the flight with which the run past strays ends shows what is found there
 pub shows-past_strays : (n : Net) (count t : ℕ) (g : Flight) (x : Finding) → WantsBelow n count
     → EndsPastStrays n (start n t) g → second_copy_finding n g.carried ≡ Some x → Shows n g x
 shows-past_strays n count t g x wants past e =
@@ -212,6 +214,7 @@ has_need-in_closed n count s g x net wants low is r =
     (has_need-travel (closed n) count s [] false r.picks x (is_net-closed n net) wants low r.travel
     (second_copy_or_stray-of_second_copy x is))
 
+-- packets with some TTL up to that of the run show it as well
 pub has_need-past_strays : (n : Net) (count s : ℕ) (g : Flight) (x : Finding) → IsNet n → WantsBelow n count
     → 1 ≤ s → EndsPastStrays n (start n s) g → second_copy_finding n g.carried ≡ Some x
     → HasNeedUpTo n g.carried x s
@@ -291,6 +294,7 @@ came_from_lan-past_strays n count t l g c net wants past e first =
 
 -- ---- it ends
 
+-- where the run goes on, no LAN carried two copies
 pub goes_on-once : (f : Flight) → goes_on f ≡ true → first_double [] f.carried ≡ None
 goes_on-once f e = by (first_double [] f.carried) e
   where
@@ -298,6 +302,7 @@ goes_on-once f e = by (first_double [] f.carried) e
     by None e = refl
     by (Some c) e = absurd cc
 
+-- and some copy waits
 pub goes_on-waits : (f : Flight) → goes_on f ≡ true → 0 < length f.waiting
 goes_on-waits f e = by (first_double [] f.carried) e
   where
@@ -319,6 +324,7 @@ goes_on-not_at_end : (n : Net) (is : List ℕ) (f : Flight) → IsRunPastStrays 
 goes_on-not_at_end n [] f stops = stops
 goes_on-not_at_end n (i ∷ is) f stops = goes_on-not_at_end n is (step n i f) stops.2
 
+-- where the run ends with no LAN that carried two copies, no copy waits
 pub none_waits-past_strays : (n : Net) (f g : Flight) → EndsPastStrays n f g
     → first_double [] g.carried ≡ None → g.waiting ≡ []
 none_waits-past_strays n f g past once =
@@ -344,6 +350,7 @@ is_run_past_strays-unique n (i ∷ is) (j ∷ js) f p q =
     (subst (λ (k : ℕ). IsRunPastStrays n is (step n k f)) same p.2) q.2 in
     λ k. same k ∷ more k
 
+-- the run past strays ends with one flight alone
 pub ends_past_strays-unique : (n : Net) (f g h : Flight) → EndsPastStrays n f g → EndsPastStrays n f h → g ≡ h
 ends_past_strays-unique n f g h p q =
     p.ends ∙ ap (λ (is : List ℕ). run n (handles is) f)

@@ -13,6 +13,7 @@ use Rattle.mc_replay.specs.FindingValues.{finding_value}
 use Rattle.mc_replay.specs.Travels.{replay_of, IsRunTo, EndShowsFinding, WalksEndAtSource}
 use Rattle.mc_replay.specs.Travels.{ShowsWrongFlow}
 
+-- the flight with which a travel ends shows what its finding means
 pub end_shows_finding : (d : DomainValue) (flow ttl : ℕ) (choices : Choices) (t : Travel) (f : Flight)
     → IsDomain d
     → IsRunTo (replay_of d flow ttl choices) t f → EndShowsFinding (replay_of d flow ttl choices) t
@@ -22,6 +23,7 @@ end_shows_finding d flow ttl choices t f ok r =
     (finding_value t.finding) (λ l w. wants-below_lan_count d flow l ok w) r.travel in
     (f, r, subst (λ (g : Flight). Shows n g (finding_value t.finding)) (sym r.ends) at_end)
 
+-- there the walk back from each copy ends at the source's copy
 pub walks_end_at_source : (d : DomainValue) (flow ttl : ℕ) (choices : Choices) (t : Travel) (f : Flight)
     → IsRunTo (replay_of d flow ttl choices) t f → WalksEndAtSource (replay_of d flow ttl choices) t
 walks_end_at_source d flow ttl choices t f r =
@@ -30,6 +32,7 @@ walks_end_at_source d flow ttl choices t f r =
     (finding_value t.finding) r.travel in
     (f, r, subst (λ (g : Flight). AllWalksEnd n g.carried) (sym r.ends) at_end)
 
+-- a finding other than `Clean`, of a packet with at least the flow's TTL, shows that the flow isn't right
 pub shows_wrong_flow : (d : DomainValue) (flow ttl : ℕ) (choices : Choices) (t : Travel) (f : Flight)
     → IsDomain d → ttl ≤ 255
     → IsRunTo (replay_of d flow ttl choices) t f → ShowsWrongFlow (replay_of d flow ttl choices) t

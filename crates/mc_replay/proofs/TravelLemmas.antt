@@ -20,6 +20,7 @@ use Rattle.mc_replay.specs.Travels.{IsTravelTo}
 
 -- ---- the copies so far stay in front of the later ones
 
+-- the second flight carried the copies of the first, and then maybe more
 abbrev pub ExtendsCarried : Flight → Flight → Type 0
 ExtendsCarried f g = (cs : List Copy) × (g.carried ≡ f.carried ++ cs)
 
@@ -73,6 +74,7 @@ pub record FirstCopiesRecorded (firsts : List (Option Copy)) (lans k : ℕ) (cs 
   pub filled : HoldsFirstOfEachKey (λ (c : Copy). c.lan) firsts (take k cs)
   pub once : first_double [] (take k cs) ≡ None
 
+-- before any copy is looked at, the places are empty
 pub first_copies_recorded-none : (firsts : List (Option Copy)) (lans : ℕ) (cs : List Copy)
     → length firsts ≡ lans
     → HoldsFirstOfEachKey (λ (c : Copy). c.lan) firsts [] → FirstCopiesRecorded firsts lans 0 cs
@@ -83,6 +85,7 @@ first_copies_recorded-none firsts lans cs count none = record {
   once = refl;
 }
 
+-- in a flight without a finding no LAN carried two copies
 pub double-none_without_finding : (n : Net) (count : ℕ) (f : Flight) → finding n count f ≡ None
     → first_double [] f.carried ≡ None
 double-none_without_finding n count f h = by (first_double [] f.carried) h
@@ -193,6 +196,7 @@ is_travel_to-cons n lans c f pick e more g x none chosen event goes = record {
   ends = goes.ends;
 }
 
+-- one handling more, of the copy that the choices pick
 pub travel_so_far-more : (n : Net) (lans : ℕ) (c0 : Choices) (f0 : Flight) (c c' : Choices) (f g : Flight)
     (es es' : List Event) (pick : ℕ) (e : Event)
     → IsTravelSoFar n lans c0 f0 c f es → finding n lans f ≡ None
@@ -214,6 +218,7 @@ travel_so_far-more n lans c0 f0 c c' f g es es' pick e travel_so_far none chosen
 
 -- ---- the same in a domain
 
+-- equal domains and flows have the same net
 pub net_of-same_arguments : (a d : DomainValue) (v w : ℕ) → a ≡ d → v ≡ w → net_of a v ≡ net_of d w
 net_of-same_arguments a d v w e q = ap (λ (x : DomainValue). net_of x v) e ∙ ap (net_of d) q
 

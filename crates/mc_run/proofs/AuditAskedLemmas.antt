@@ -16,7 +16,7 @@ use Rattle.mc_asked.specs.Forwarding.{routers_in}
 use Rattle.mc_asked.specs.ListWants.{Want}
 use Rattle.mc_asked.specs.declared.forwarding.RouterState.{RouterState}
 use Rattle.mc_asked.specs.declared.forwarding.RouterState.TheVariants.{EverySource, NoneOut, Forwards}
-use Rattle.mc_explain.specs.AskedText.{asked_line_text, forwarding_words, listed_sources, what_in}
+use Rattle.mc_explain.specs.AskedText.{asked_line_text, forwarding_text, listed_sources, what_in}
 use Rattle.mc_explain.specs.declared.asked.asked_text.AskedLine.{AskedLine}
 use Rattle.mc_input.specs.AskedOfFiles.{UnansweredWantsValue}
 use Rattle.mc_json.specs.AskedData.{asked_object}
@@ -96,16 +96,22 @@ pub line-by_number : (json : Bool) (t u : TopologyValue) (are_excluded : Bool) (
 line-by_number true t u are_excluded a number line l at top excluded pair own list none out every =
     let states = states_of_line u a.states number in
     let whole : line_written true t l ≡ asked_line_of true u are_excluded states (Some line) =
-    parts-of_line (λ s b w ls x n f e. line_of (asked_object s (w, ls) x n f e)) t u l.are_excluded
-    are_excluded line
+    parts-of_line (λ s b w ls x n f e. line_of (asked_object s (w, ls) x (record {
+      forwards = f;
+      none_out = n;
+      every_source = e;
+    }))) t u l.are_excluded are_excluded line
     l.want.now l.lans.now l.listed.now l.routers.now.none_out.items l.routers.now.forwards.items
     l.routers.now.every_source.items states top excluded pair own list none out every in
     whole ∙ sym (ap (asked_line_of true u are_excluded states) at)
 line-by_number false t u are_excluded a number line l at top excluded pair own list none out every =
     let states = states_of_line u a.states number in
     let whole : line_written false t l ≡ asked_line_of false u are_excluded states (Some line) =
-    parts-of_line (λ s b w ls x n f e. asked_line_text s (w, ls) (what_in (forwarding_words s b f n e) x w))
-    t u l.are_excluded are_excluded line l.want.now l.lans.now l.listed.now l.routers.now.none_out.items
+    parts-of_line (λ s b w ls x n f e. asked_line_text s (w, ls) (what_in (forwarding_text s b (record {
+      forwards = f;
+      none_out = n;
+      every_source = e;
+    })) x w)) t u l.are_excluded are_excluded line l.want.now l.lans.now l.listed.now l.routers.now.none_out.items
     l.routers.now.forwards.items l.routers.now.every_source.items states top excluded pair own list
     none out every in
     whole ∙ sym (ap (asked_line_of false u are_excluded states) at)

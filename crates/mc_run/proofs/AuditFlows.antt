@@ -42,7 +42,7 @@ use Rattle.mc_run.specs.AuditEnd.{one_if_true, says_right, says_wrong, with_stat
 use Rattle.mc_run.specs.AuditPieces.{AreFlowsPushed, IsFlowPushed, explanation_in}
 use Rattle.mc_run.specs.AuditExplanation.{IsExplanation, is_known_wrong, without_remedies}
 use Rattle.mc_run.specs.AuditRun.{IsFlowAnswer, AuditedValue, is_whole, excluded, trees_shown}
-use Rattle.mc_run.specs.AuditText.{Explanation}
+use Rattle.mc_explain.specs.ExplanationValues.{ExplanationValue}
 use Rattle.mc_run.proofs.ExplanationLemmas.{unsaid}
 use Rattle.mc_run.specs.AuditFlowText.{is_hidden, known_right, right_flow_lines, status_of, status_of_right}
 use Rattle.mc_run.specs.AuditFlowText.{status_of_wrong}
@@ -81,7 +81,7 @@ is_first_pick_travel-of_examined d flow (FoundAtTtl255 ended) is = (ended.flight
 is_first_pick_travel-of_examined d flow (FoundAtFlowTtl greatest least) is = (least.flight.flight, is.2.run)
 
 -- a flow without a finding has no explanation
-abbrev explanation-none : Explanation
+abbrev explanation-none : ExplanationValue
 explanation-none = record {
   printed = [];
   search = None;
@@ -167,7 +167,7 @@ is_flow_pushed-right v o flow (Ok s) x entries seen printed new_printed old new 
 
 -- or a fault was found, by a travel with this explanation
 pub is_flow_pushed-wrong : (v : AuditedValue) (o : AuditOptions) (flow : ℕ) (x : ExaminedFlights) (ttl : ℕ)
-    (travel : Travel) (e : Explanation) (old new : List ℕ)
+    (travel : Travel) (e : ExplanationValue) (old new : List ℕ)
     → flow < length v.domain.topology.flows → HasExaminedFlights v.domain flow x
     → IsExamined v.domain flow (without_flights v.domain flow x)
     → without_flights v.domain flow x ≡ examined.Found ttl travel

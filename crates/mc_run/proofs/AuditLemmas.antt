@@ -28,12 +28,11 @@ use Rattle.mc_explain.specs.WantedText.{lans_wanting}
 use Rattle.mc_maker.specs.Examined.{IfCertified, IfFound, is_certified}
 use Rattle.mc_maker.specs.declared.examination.Examined.{Examined}
 use Rattle.mc_maker.specs.declared.examination.Examined.TheVariants.{Certified, Found}
-use Rattle.mc_json.specs.FlowData.{wrong_flow_of}
-use Rattle.mc_json.specs.BehindData.{behind_data}
-use Rattle.mc_json.specs.WhyData.{why_data}
+use Rattle.mc_json.specs.WrongLine.{wrong_flow_of}
 use Rattle.mc_run.specs.AuditEnd.{FlowAnswer, are_right, begin_lines, end_lines, verdict_line}
 use Rattle.mc_run.specs.AuditPieces.{output_of}
 use Rattle.mc_run.specs.Failures.{is_write}
+use Rattle.mc_run.specs.AuditObjects.{found_travel}
 use Rattle.mc_run.specs.AuditRun.{LeftOutValue}
 use Rattle.mc_run.specs.AuditRun.{AreFlowAnswers, FilesKeepHeadline, IsFlowAnswer, IsAudited}
 use Rattle.mc_run.specs.AuditRun.{IsAuditText, IsChecked}
@@ -41,7 +40,8 @@ use Rattle.mc_run.specs.AuditRun.{KeepsHeadlineByLists, MeansAudited, AuditedVal
 use Rattle.mc_run.specs.AuditRun.{SaysFinding, SaysWhatIsFound, SaysWhichAreRight, SaysYesOf}
 use Rattle.mc_run.specs.AuditRun.{WritesOfEach, WritesWhichAreRight, is_whole, is_yes, excluded}
 use Rattle.mc_run.specs.AuditRun.{trees_shown}
-use Rattle.mc_run.specs.AuditText.{Explanation, events_if_shown, explanation_lines, shown_by_text}
+use Rattle.mc_explain.specs.ExplanationValues.{ExplanationValue}
+use Rattle.mc_run.specs.AuditText.{events_if_shown, explanation_lines, shown_by_text}
 use Rattle.mc_run.specs.AuditFlowText.{answer_lines, right_flow_lines, wrong_lines_or_object}
 use Rattle.mc_run.specs.AuditFlowText.{wrong_flow_lines}
 use Rattle.mc_run.specs.AuditExplanation.{IsBehindAt255, IsBehindIfStray, IsExplanation, IsShownFromAt255}
@@ -186,7 +186,7 @@ is_known-whole false known search same is = absurd cc
 
 -- the lines of a flow with a finding start so
 wrong_flow_lines-say_finding : (o : AuditOptions) (whole : Bool) (d : DomainFacts)
-    (summary : List SummaryValue) (flow ttl : ℕ) (travel : Travel) (e : Explanation) (lines : List ℕ)
+    (summary : List SummaryValue) (flow ttl : ℕ) (travel : Travel) (e : ExplanationValue) (lines : List ℕ)
     → e.certainty.known ≡ is_known_wrong whole e.search
     → lines ≡ wrong_flow_lines o d summary flow ttl travel e
     → SaysFinding o.json whole d.topology flow lines
@@ -195,8 +195,7 @@ wrong_flow_lines-say_finding o whole d summary flow ttl travel e lines known is 
     by : (json : Bool) → lines ≡ wrong_lines_or_object json o.travels d summary flow ttl travel e
         → SaysFinding json whole d.topology flow lines
     by true is = (
-      wrong_flow_of d flow e.certainty ttl travel.finding travel.events.items e.also
-          (behind_data d summary flow e.behind) (why_data d summary flow e.printed e.search) o.travels,
+      wrong_flow_of d summary (found_travel o.travels flow ttl travel) e,
       is_known-whole whole e.certainty.known e.search known,
       is,
     )
@@ -212,7 +211,7 @@ wrong_flow_lines-say_finding o whole d summary flow ttl travel e lines known is 
 -- a flow's lines say whether it is right
 says_flow_right-answer_lines : (v : AuditedValue) (o : AuditOptions) (printed : List Tree)
     (flow : ℕ)
-    (x : Examined) (e : Explanation) (wanted lines : List ℕ)
+    (x : Examined) (e : ExplanationValue) (wanted lines : List ℕ)
     → (IsTrue (is_certified x) ↔ IsRight (net_of v.domain flow))
     → e.certainty.known ≡ is_known_wrong (is_whole v) e.search
     → wanted ≡ lans_wanting (facts v.domain) flow
@@ -262,7 +261,7 @@ writes_which_are_right-audited v o all written a =
 
 -- the lines of a certified flow say yes of it
 pub says_yes_of-certified : (v : AuditedValue) (o : AuditOptions) (printed : List Tree) (flow : ℕ)
-    (entries : Vec Reached Global) (e : Explanation) (wanted lines : List ℕ)
+    (entries : Vec Reached Global) (e : ExplanationValue) (wanted lines : List ℕ)
     → IsChecked v.domain flow (Certified entries) → wanted ≡ lans_wanting (facts v.domain) flow
     → lines ≡ answer_lines o (is_whole v) (facts v.domain) v.summary printed flow (Certified entries) e
     wanted
@@ -345,7 +344,7 @@ is_true-behind_at_255 whole d flow (FoundAtFlowTtl greatest least) behind ok is 
 -- a flow's lines say yes, or what is found
 says_yes_or_found-answer_lines : (v : AuditedValue) (o : AuditOptions) (printed : List Tree)
     (flow : ℕ) (x : Examined)
-    (flights : ExaminedFlights) (e : Explanation) (wanted lines : List ℕ) → IsDomain v.domain
+    (flights : ExaminedFlights) (e : ExplanationValue) (wanted lines : List ℕ) → IsDomain v.domain
     → HasExaminedFlights v.domain flow flights → x ≡ without_flights v.domain flow flights
     → IsChecked v.domain flow x → IsExplanation v.domain v.summary (excluded v) (is_whole v) flow flights e
     → wanted ≡ lans_wanting (facts v.domain) flow

@@ -20,10 +20,8 @@ use Rattle.mc_maker.specs.declared.examination.Examined.{Examined}
 use Rattle.mc_maker.specs.declared.examination.Examined.TheVariants.{Certified, Found}
 use Rattle.mc_tables.specs.Summary.{SummaryValue}
 use Rattle.mc_forward.specs.ListedTables.{DomainFacts, facts, flow_pairs}
-use Rattle.mc_asked.specs.Forwarding.{routers_in}
 use Rattle.mc_asked.specs.ListWants.{Want}
 use Rattle.mc_asked.specs.declared.forwarding.RouterState.{RouterState}
-use Rattle.mc_asked.specs.declared.forwarding.RouterState.TheVariants.{EverySource, NoneOut, Forwards}
 use Rattle.mc_lines.specs.ExplanationText.{causes_text, deeper_causes_text}
 use Rattle.mc_explain.specs.AskedText.{IsAskedLine, asked_more_text, listed_sources, services_text}
 use Rattle.mc_explain.specs.Indented.{AreIndented, HasNoLineFeed, indented}
@@ -37,6 +35,7 @@ use Rattle.mc_explain.specs.BehindText.{leaks_behind_text}
 use Rattle.mc_explain.specs.declared.causes.Cause.{Cause}
 use Rattle.mc_explain.specs.declared.causes.behind.Behind.{Behind}
 use Rattle.mc_explain.specs.declared.causes.explanation.ShownBy.{ShownBy}
+use Rattle.mc_explain.specs.RoutersForWant.{routers_by_state}
 use Rattle.mc_explain.proofs.AskedLineLemmas.{are_asked_lines-asked_more, are_asked_lines-asked_text}
 use Rattle.mc_explain.proofs.AskedLineLemmas.{are_asked_lines-services}
 use Rattle.mc_explain.proofs.BehindTextLemmas.{are_indented-leaks_behind_text}
@@ -54,8 +53,6 @@ use Rattle.mc_json.specs.FlowData.{tree_data}
 use Rattle.mc_json.specs.ObjectLines.{AreObjectLines, BeginsObject, IsNotVerdict}
 use Rattle.mc_json.specs.RowData.{line_of}
 use Rattle.mc_json.specs.RowData.{lan_data}
-use Rattle.mc_json.specs.BehindData.{behind_data}
-use Rattle.mc_json.specs.WhyData.{why_data}
 use Rattle.mc_json.proofs.EachLineLemmas.{are_object_lines-asked, are_object_lines-asked_more}
 use Rattle.mc_json.proofs.EachLineLemmas.{are_object_lines-asked_services}
 use Rattle.mc_json.proofs.EachLineLemmas.{are_object_lines-domain, are_object_lines-right}
@@ -68,10 +65,11 @@ use Rattle.mc_run.specs.AuditEnd.{FlowAnswer, begin_lines, count, end_text_or_ob
 use Rattle.mc_run.specs.AuditEnd.{end_objects, end_text, is_right, is_unknown, is_unwanted, is_wrong}
 use Rattle.mc_run.specs.AuditEnd.{option_words, strict_lines, strict_line, summary_line}
 use Rattle.mc_run.specs.AuditEnd.{summary_of_flows}
-use Rattle.mc_run.specs.AuditObjects.{key_of_tree, tree_line, tree_number}
+use Rattle.mc_run.specs.AuditObjects.{found_travel, key_of_tree, tree_line, tree_number}
 use Rattle.mc_run.specs.AuditRun.{AreFlowAnswers, IsFlowAnswer, AuditedValue, is_whole, is_yes, excluded}
 use Rattle.mc_run.specs.AuditRun.{AreYesWords, trees_shown, yes_object}
-use Rattle.mc_run.specs.AuditText.{Explanation, events_if_shown, explanation_lines, right_line}
+use Rattle.mc_explain.specs.ExplanationValues.{ExplanationValue}
+use Rattle.mc_run.specs.AuditText.{events_if_shown, explanation_lines, right_line}
 use Rattle.mc_run.specs.AuditText.{at_flow_ttl_text, behind_text, deeper_shown_from_text}
 use Rattle.mc_run.specs.AuditText.{found_flow_line, known_word, searched_lines, second_behind_text}
 use Rattle.mc_run.specs.AuditText.{shown_by_text, shown_from_text}
@@ -399,7 +397,7 @@ no_yes_line-behind_text d summary flow (Some b) ok =
 
 -- the lines of an explanation
 no_yes_line-explanation_lines : (d : DomainFacts) (summary : List SummaryValue) (flow : ℕ)
-    (x : Explanation) → IsValidTopology d.topology → AreLinesWithoutYes
+    (x : ExplanationValue) → IsValidTopology d.topology → AreLinesWithoutYes
     (explanation_lines d summary flow x)
 no_yes_line-explanation_lines d summary flow x ok =
     no_yes_line-append (causes_text d summary flow x.printed) _
@@ -412,19 +410,16 @@ no_yes_line-explanation_lines d summary flow x ok =
     searched : (s : Option LanSearch) → AreLinesWithoutYes (searched_lines d summary flow s)
     searched None = no_yes_line-no_lines
     searched (Some found) = no_yes_line-indented_lines _
-        (are_indented-search_text d summary flow found.lines.items
-        found.reach.sent_on.items found.reach.took_none.items ok)
+        (are_indented-search_text d summary flow found ok)
 
 -- the lines of a flow with a finding, in text or in JSON
 no_yes_line-wrong_lines_or_object : (json travels : Bool) (d : DomainFacts)
     (summary : List SummaryValue) (flow : ℕ)
-    (ttl : ℕ) (travel : Travel) (x : Explanation) → IsValidTopology d.topology
+    (ttl : ℕ) (travel : Travel) (x : ExplanationValue) → IsValidTopology d.topology
     → AreLinesWithoutYes (wrong_lines_or_object json travels d summary flow ttl travel x)
 no_yes_line-wrong_lines_or_object true travels d summary flow ttl travel x ok =
     no_yes_line-objects _
-    (are_object_lines-wrong d flow (flow_at d.topology flow) x.certainty ttl travel.finding
-    travel.events.items x.also
-    (behind_data d summary flow x.behind) (why_data d summary flow x.printed x.search) travels)
+    (are_object_lines-wrong d summary (found_travel travels flow ttl travel) x)
 no_yes_line-wrong_lines_or_object false travels d summary flow ttl travel x ok =
     let t = d.topology in
     no_yes_line-append (found_flow_line t (flow_at t flow) x.certainty.known travel.finding) _
@@ -436,7 +431,7 @@ no_yes_line-wrong_lines_or_object false travels d summary flow ttl travel x ok =
 
 -- the lines of a flow's answer
 no_yes_line-answer_lines : (o : AuditOptions) (whole : Bool) (d : DomainFacts) (summary : List SummaryValue)
-    (printed : List Tree) (flow : ℕ) (x : Examined) (e : Explanation) (wanted : List ℕ)
+    (printed : List Tree) (flow : ℕ) (x : Examined) (e : ExplanationValue) (wanted : List ℕ)
     → IsValidTopology d.topology
     → AreLinesWithoutYes (answer_lines o whole d summary printed flow x e wanted)
 no_yes_line-answer_lines o whole d summary printed flow (Certified entries) e wanted ok =
@@ -550,7 +545,7 @@ no_yes_line-asked_line_of : (json : Bool) (t : TopologyValue) (are_excluded : Bo
 no_yes_line-asked_line_of json t are_excluded states None ok = no_yes_line-no_lines
 no_yes_line-asked_line_of true t are_excluded states (Some line) ok =
     no_yes_line-objects _ (are_object_lines-asked t line (listed_sources (flow_pairs t.flows) line.0.0)
-    (routers_in NoneOut states) (routers_in Forwards states) (routers_in EverySource states))
+    (routers_by_state states))
 no_yes_line-asked_line_of false t are_excluded states (Some line) ok =
     no_yes_line-asked_text _ (are_asked_lines-asked_text t are_excluded (flow_pairs t.flows) states line ok)
 

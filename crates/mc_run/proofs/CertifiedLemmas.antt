@@ -24,10 +24,10 @@ use Rattle.mc_input.specs.Input.{with_certificate}
 use Rattle.mc_input.proofs.UniqueDomain.{MeansDomain-unique}
 use Rattle.mc_input.proofs.WithCertificate.{MeansDomain-with_certificate}
 use Rattle.mc_cert.specs.Certificate.{Tree, HasByteNumbers}
-use Rattle.mc_cert.specs.CertificateText.{certificate_text}
+use Rattle.mc_cert.specs.CertificateText.{certificate_json}
 use Rattle.mc_cert.specs.Reading.{parse_certificate}
 use Rattle.mc_cert.specs.Denotation.{DenotesCertificate}
-use Rattle.mc_cert.proofs.WrittenCertificates.{certificate_text-denotes}
+use Rattle.mc_cert.proofs.WrittenCertificates.{certificate_json-denotes}
 use Rattle.mc_cert.proofs.LineFeed.{read-with_line_feed}
 use Rattle.mc_cert.proofs.ReadLemmas.{DenotesCertificate-unique}
 use Rattle.mc_cert.proofs.CertificateTexts.{parse_certificate-from_denotes}
@@ -125,10 +125,10 @@ denotes_certificate-made_text text written m few =
     let d = m.domain in
     let t = d.topology in
     let lists = certified_lists m.holds.examined in
-    let body = certificate_text t lists in
+    let body = certificate_json t lists in
     let size : length written ≡ length body + 1 =
     ap (λ (bytes : List ℕ). length bytes) m.holds.spelled ∙ length-append body (10 ∷ []) in
-    let denotes = certificate_text-denotes t lists m.means.rules.topology
+    let denotes = certificate_json-denotes t lists m.means.rules.topology
     (certified_lists-belong d m.holds.examined m.holds.are_examined (sym m.holds.answer))
     (certified_lists-keep_headline d m.holds.examined m.holds.are_examined)
     (certified_lists-bytes d m.holds.examined m.holds.are_examined) (omega (arith, size, few)) in

@@ -42,7 +42,8 @@ use Rattle.mc_run.specs.AuditExplanation.{IsShownFromUnless, certain_finding, is
 use Rattle.mc_run.specs.AuditExplanation.{search_context}
 use Rattle.mc_run.specs.AuditExplanation.{without_remedies}
 use Rattle.mc_run.specs.AuditRun.{AuditedValue, is_whole, excluded}
-use Rattle.mc_run.specs.AuditText.{Explanation, behind_text, events_if_shown, explanation_lines}
+use Rattle.mc_explain.specs.ExplanationValues.{ExplanationValue}
+use Rattle.mc_run.specs.AuditText.{behind_text, events_if_shown, explanation_lines}
 use Rattle.mc_run.specs.AuditText.{searched_lines, deeper_shown_from_text, found_flow_line}
 use Rattle.mc_run.specs.AuditText.{second_behind_text, shown_by_text, wrong_lines}
 use Rattle.mc_run.proofs.MissedLemmas.{missed_lan-below_count}
@@ -206,7 +207,7 @@ second_behind-pushed d summary flow b t x shown causes (Ok a) old one two new sa
     (sym some)
 
 -- as text
-pub explanation_lines-pushed : {A X : Type 0} (v : AuditedValue) (flow : ℕ) (e : Explanation)
+pub explanation_lines-pushed : {A X : Type 0} (v : AuditedValue) (flow : ℕ) (e : ExplanationValue)
     (t : TopologyValue) (r : Result A X) (old one two three new : List ℕ) → t ≡ v.domain.topology
     → one ≡ old ++ causes_text (facts v.domain) v.summary flow e.printed
     → two ≡ one ++ searched_lines (facts v.domain) v.summary flow e.search
@@ -229,7 +230,7 @@ explanation_lines-pushed v flow e t (Ok a) old one two three new same first seco
 
 -- all lines of a flow with a finding
 pub wrong_lines-pushed : {A X : Type 0} (v : AuditedValue) (flow : ℕ) (travels : Bool) (travel : Travel)
-    (e : Explanation) (t : TopologyValue) (f : Flow) (r : Result A X) (old one two three new : List ℕ)
+    (e : ExplanationValue) (t : TopologyValue) (f : Flow) (r : Result A X) (old one two three new : List ℕ)
     → t ≡ v.domain.topology → f ≡ flow_at v.domain.topology flow
     → one ≡ old ++ found_flow_line t f e.certainty.known travel.finding
     → two ≡ one ++ shown_by_text t f.ttl e.certainty.shown_by
@@ -260,7 +261,7 @@ wrong_lines-pushed v flow travels travel e t f (Ok a) old one two three new same
 
 -- an explanation by its parts
 abbrev pub explanation_with : List Cause → Option LanSearch → (also : List ℕ) → Option Behind → (known : Bool)
-    → ShownBy → Explanation
+    → ShownBy → ExplanationValue
 explanation_with causes found also behind known shown_by = record {
   printed = causes;
   search = found;

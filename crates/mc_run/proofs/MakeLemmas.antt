@@ -15,7 +15,7 @@ use Rattle.mc_forward.specs.Domains.{DomainValue, net_of}
 use Rattle.mc_forward.proofs.IndexLemmas.{slice_get-exists}
 use Rattle.mc_cert.specs.declared.reached.Reached.{Reached}
 use Rattle.mc_cert.specs.Certificate.{Tree, BelongsTo, IsEntryOf, IsWritableTree}
-use Rattle.mc_cert.specs.CertificateText.{certificate_text}
+use Rattle.mc_cert.specs.CertificateText.{certificate_json}
 use Rattle.mc_replay.specs.declared.travel.Travel.{Travel}
 use Rattle.mc_maker.specs.Examined.{FindsFault, IfCertified, IfFound, AreEntriesOfCleanTravel}
 use Rattle.mc_maker.specs.Examined.{IsFirstPickTravel}
@@ -307,13 +307,13 @@ is_make_output-lines d lists lines made some = record {
 -- the certificate of a domain
 pub is_make_output-certificate : (d : DomainValue) (t : TopologyValue) (lists : List Tree)
     (lines written : List ℕ) → AreMadeListsAndLines d lists lines → t ≡ d.topology → length lines ≡ 0
-    → written ≡ certificate_text t lists ++ codes "\n" → IsMakeOutput d true written
+    → written ≡ certificate_json t lists ++ codes "\n" → IsMakeOutput d true written
 is_make_output-certificate d t lists lines written made same none spelled = record {
   examined = made.examined;
   are_examined = made.are_examined;
   answer = sym (are_certified-no_lines d lists lines made none);
-  spelled = spelled ∙ ap (λ x. certificate_text x lists ++ codes "\n") same
-      ∙ ap (λ ls. certificate_text d.topology ls ++ codes "\n") made.lists_are;
+  spelled = spelled ∙ ap (λ x. certificate_json x lists ++ codes "\n") same
+      ∙ ap (λ ls. certificate_json d.topology ls ++ codes "\n") made.lists_are;
 }
 
 -- and what the answer says of the flows

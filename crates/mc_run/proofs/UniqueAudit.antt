@@ -2,7 +2,7 @@
 use Rattle.std.proofs.Common.{◌≡◌, ℕ, suc, ◌+◌, Bool, true, false, cond, List, [], ◌∷◌, ◌++◌}
 use Rattle.std.proofs.Common.{length, Option, Some, None, refl, sym, ap, ap₂, subst, ◌∙◌, arith}
 use Rattle.std.proofs.Common.{filter, fold, take, ◌&&◌, slice_get}
-use Rattle.std.specs.Prelude.{◌==◌, codes, flat_map, map, ⊤, is_none}
+use Rattle.std.specs.Prelude.{◌==◌, codes, flat_map, if◌then◌else◌, map, option_map, ⊤, is_none}
 use Rattle.mc_files.specs.Files.{FileText}
 use Rattle.mc_tables.specs.Summary.{SummaryValue}
 use Rattle.mc_topology.specs.Topology.{TopologyValue, flow_at}
@@ -26,31 +26,35 @@ use Rattle.mc_maker.specs.declared.examined_flights.ExaminedFlights.TheVariants.
 use Rattle.mc_maker.specs.declared.examined_flights.ExaminedFlights.TheVariants.{FoundAtTtl255}
 use Rattle.mc_maker.specs.declared.examined_flights.ExaminedFlights.TheVariants.{FoundAtFlowTtl}
 use Rattle.mc_explain.specs.declared.searches.searching.LanSearch.{LanSearch}
-use Rattle.mc_lines.specs.ExplanationText.{causes_text}
-use Rattle.mc_lines.specs.ExplanationText.{search_text}
-use Rattle.mc_explain.specs.WantedText.{also_missed_text}
+use Rattle.mc_lines.specs.ExplanationText.{causes_text, context_of, first_lines_text}
+use Rattle.mc_lines.specs.Filled.{line_text}
+use Rattle.mc_lines.specs.SearchLines.{reach_items, search_items}
+use Rattle.mc_explain.specs.ShownLines.{shown_lines}
+use Rattle.mc_explain.specs.WantedText.{also_missed_text, lans_wanting}
 use Rattle.mc_explain.specs.BehindText.{leaks_behind_text}
 use Rattle.mc_explain.specs.declared.causes.Cause.{Cause}
 use Rattle.mc_explain.specs.declared.causes.behind.Behind.{Behind}
 use Rattle.mc_explain.specs.declared.causes.explanation.Certainty.{Certainty}
-use Rattle.mc_explain.specs.declared.searches.search_line.SearchLine.{SearchLine}
 use Rattle.mc_json.specs.BehindData.{behind_data, found_behind_data, stray_data}
 use Rattle.mc_json.specs.EndData.{routers_data}
-use Rattle.mc_json.specs.FlowData.{optional_finding_data, shown_from_data, wrong_line}
-use Rattle.mc_json.specs.RowData.{lan_data, list_data, object_data}
-use Rattle.mc_json.specs.WhyData.{search_data}
+use Rattle.mc_json.specs.FlowData.{WrongFlow, event_data, finding_data, optional_finding_data}
+use Rattle.mc_json.specs.FlowData.{shown_from_data, wrong_data}
+use Rattle.mc_json.specs.RowData.{lan_data, line_of, list_data, object_data}
+use Rattle.mc_json.specs.LineData.{line_values}
 use Rattle.mc_json.specs.WhyData.{causes_data}
 use Rattle.mc_json.specs.WhyData.{search_data_if_any, why_data}
+use Rattle.mc_json.specs.WrongLine.{wrong_flow_of}
 use Rattle.mc_json.specs.TreeKey.{tree_key}
 use Rattle.serde_json.specs.Data.{Data}
 use Rattle.mc_run.specs.AuditEnd.{FlowAnswer, are_right, begin_lines, count, end_text_or_objects, end_lines}
 use Rattle.mc_run.specs.AuditEnd.{is_right, is_unknown, is_unwanted, is_wrong, says_right, says_wrong}
 use Rattle.mc_run.specs.AuditEnd.{verdict_line}
-use Rattle.mc_run.specs.AuditObjects.{wrong_object}
+use Rattle.mc_run.specs.AuditObjects.{found_travel, wrong_object}
 use Rattle.mc_run.specs.AuditRun.{LeftOutValue}
 use Rattle.mc_run.specs.AuditRun.{IsFlowAnswer, IsAuditText, IsAudited, MeansAudited, AuditedValue}
 use Rattle.mc_run.specs.AuditRun.{is_whole, is_yes, excluded, trees_shown}
-use Rattle.mc_run.specs.AuditText.{Explanation, behind_text, events_if_shown, explanation_lines}
+use Rattle.mc_explain.specs.ExplanationValues.{ExplanationValue}
+use Rattle.mc_run.specs.AuditText.{behind_text, events_if_shown, explanation_lines}
 use Rattle.mc_run.specs.AuditText.{searched_lines, second_behind_text, found_flow_line, shown_by_text}
 use Rattle.mc_run.specs.AuditText.{wrong_lines}
 use Rattle.mc_run.specs.AuditFlowText.{answer_lines, is_hidden, known_right, right_flow_lines}
@@ -74,9 +78,8 @@ searched_lines-same_search d summary flow None None same = refl
 searched_lines-same_search d summary flow None (Some b) same = absurd same
 searched_lines-same_search d summary flow (Some a) None same = absurd same
 searched_lines-same_search d summary flow (Some a) (Some b) same =
-    ap (λ (ls : List SearchLine).
-    search_text d summary flow ls a.reach.sent_on.items a.reach.took_none.items) same.0
-    ∙ ap₂ (λ (sent took : List ℕ). search_text d summary flow b.lines.items sent took) same.1 same.2
+    let c = context_of d summary flow in
+    λ i. reach_items line_text c (same.1 i) (same.2 i) ++ first_lines_text c (shown_lines (same.0 i))
 
 -- the lines of a travel's events
 events_if_shown-same_events : (travels : Bool) (t : TopologyValue) (a b : FinishedTravel)
@@ -141,7 +144,7 @@ behind_data-same_behind d summary flow (Some a) (Some b) same =
 
 -- the lines of an explanation
 explanation_lines-same_explanation : (d : DomainFacts) (summary : List SummaryValue) (flow : ℕ)
-    (x y : Explanation) → IsSameExplanation x y
+    (x y : ExplanationValue) → IsSameExplanation x y
     → explanation_lines d summary flow x ≡ explanation_lines d summary flow y
 explanation_lines-same_explanation d summary flow x y same =
     ap (λ (printed : List Cause). causes_text d summary flow printed
@@ -156,7 +159,7 @@ explanation_lines-same_explanation d summary flow x y same =
 
 -- the lines of a flow with a finding
 wrong_lines-same_travel : (travels : Bool) (d : DomainFacts) (summary : List SummaryValue)
-    (flow : ℕ) (a b : FinishedTravel) (x y : Explanation) → IsSameFinishedTravel a b
+    (flow : ℕ) (a b : FinishedTravel) (x y : ExplanationValue) → IsSameFinishedTravel a b
     → IsSameExplanation x y
     → wrong_lines travels d summary flow a.travel x ≡ wrong_lines travels d summary flow b.travel y
 wrong_lines-same_travel travels d summary flow a b x y ended same =
@@ -179,41 +182,50 @@ found_data-same_travel d summary flow None None same = refl
 found_data-same_travel d summary flow None (Some b) same = absurd same
 found_data-same_travel d summary flow (Some a) None same = absurd same
 found_data-same_travel d summary flow (Some a) (Some b) same =
-    ap (λ (ls : List SearchLine).
-    search_data d summary flow ls a.reach.sent_on.items a.reach.took_none.items) same.0
-    ∙ ap₂ (λ (sent took : List ℕ). search_data d summary flow b.lines.items sent took) same.1 same.2
+    let c = context_of d summary flow in
+    λ i. reach_items line_values c (same.1 i) (same.2 i) ++ search_items line_values c (same.0 i)
 
 -- the values of causes and of a search
 why_data-same_explanation : (d : DomainFacts) (summary : List SummaryValue) (flow : ℕ)
-    (x y : Explanation)
+    (x y : ExplanationValue)
     → IsSameExplanation x y
     → why_data d summary flow x.printed x.search ≡ why_data d summary flow y.printed y.search
 why_data-same_explanation d summary flow x y same =
     ap₂ (λ (printed : List Cause) (found : List Data). causes_data d summary flow printed ++ found)
     same.printed (found_data-same_travel d summary flow x.search y.search same.search)
 
+-- what is written of a flow with a finding
+wrong_flow_of-same_travel : (travels : Bool) (d : DomainFacts) (summary : List SummaryValue)
+    (flow ttl : ℕ) (a b : FinishedTravel) (x y : ExplanationValue) → IsSameFinishedTravel a b
+    → IsSameExplanation x y
+    → wrong_flow_of d summary (found_travel travels flow ttl a.travel) x
+    ≡ wrong_flow_of d summary (found_travel travels flow ttl b.travel) y
+wrong_flow_of-same_travel travels d summary flow ttl a b x y ended same = λ i. record {
+  certainty = same.certainty i;
+  also = map (lan_data d.topology) (same.also i);
+  at_flow_ttl = optional_finding_data d.topology (same.certainty i).shown_by.at_flow_ttl;
+  behind = behind_data-same_behind d summary flow x.behind y.behind same.behind i;
+  events = option_map (map (event_data d.topology (d.nets flow)))
+      (if travels then Some (ended.events i) else None);
+  finding = finding_data d.topology (ended.finding i);
+  found_ttl = ttl;
+  wanted = map (lan_data d.topology) (lans_wanting d flow);
+  why = why_data-same_explanation d summary flow x y same i;
+}
+
 -- the object of a flow with a finding
 wrong_object-same_travel : (travels : Bool) (d : DomainFacts) (summary : List SummaryValue)
-    (flow ttl : ℕ) (a b : FinishedTravel) (x y : Explanation) → IsSameFinishedTravel a b
+    (flow ttl : ℕ) (a b : FinishedTravel) (x y : ExplanationValue) → IsSameFinishedTravel a b
     → IsSameExplanation x y
     → wrong_object travels d summary flow ttl a.travel x
     ≡ wrong_object travels d summary flow ttl b.travel y
 wrong_object-same_travel travels d summary flow ttl a b x y ended same =
-    ap₂ (λ (w : Finding) (es : List Event). wrong_line d flow (flow_at d.topology flow) x.certainty
-    ttl w es x.also
-    (behind_data d summary flow x.behind) (why_data d summary flow x.printed x.search) travels) ended.finding
-    ended.events
-    ∙ ap₂ (λ (c : Certainty) (past : Data). wrong_line d flow (flow_at d.topology flow) c ttl b.travel.finding
-    b.travel.events.items x.also past (why_data d summary flow x.printed x.search) travels) same.certainty
-    (behind_data-same_behind d summary flow x.behind y.behind same.behind)
-    ∙ ap₂ (λ (also : List ℕ) (why : List Data). wrong_line d flow (flow_at d.topology flow) y.certainty ttl
-    b.travel.finding b.travel.events.items also (behind_data d summary flow y.behind) why travels)
-    same.also
-    (why_data-same_explanation d summary flow x y same)
+    ap (λ (w : WrongFlow). line_of (wrong_data flow (flow_at d.topology flow) w))
+    (wrong_flow_of-same_travel travels d summary flow ttl a b x y ended same)
 
 -- its lines, in text or in JSON
 wrong_flow_lines-same_travel : (json travels : Bool) (d : DomainFacts) (summary : List SummaryValue)
-    (flow ttl : ℕ) (a b : FinishedTravel) (x y : Explanation) → IsSameFinishedTravel a b
+    (flow ttl : ℕ) (a b : FinishedTravel) (x y : ExplanationValue) → IsSameFinishedTravel a b
     → IsSameExplanation x y
     → wrong_lines_or_object json travels d summary flow ttl a.travel x
     ≡ wrong_lines_or_object json travels d summary flow ttl b.travel y
@@ -236,7 +248,7 @@ record IsSameAnswer (o : AuditOptions) (a b : FlowAnswer) : Type 0 where
 
 -- the answers by two results of an examination
 answer_lines-same_flights : (o : AuditOptions) (whole : Bool) (d : DomainValue) (summary : List SummaryValue)
-    (printed : List Tree) (flow : ℕ) (a b : ExaminedFlights) (x y : Explanation) (wanted : List ℕ)
+    (printed : List Tree) (flow : ℕ) (a b : ExaminedFlights) (x y : ExplanationValue) (wanted : List ℕ)
     → HaveSameFlights a b → IsSameExplanation x y
     → answer_lines o whole (facts d) summary printed flow (without_flights d flow a) x wanted
     ≡ answer_lines o whole (facts d) summary printed flow (without_flights d flow b) y wanted
@@ -333,7 +345,7 @@ same_answer-flow_answers v o printed flow a b ok p q =
     let certified : is_certified a.examined ≡ is_certified b.examined =
     ap is_certified p.examined ∙ is_certified-same_flights d flow p.flights q.flights flights
     ∙ ap is_certified (sym q.examined) in
-    let lines = λ (x : Examined) (w : List ℕ) (y : Explanation).
+    let lines = λ (x : Examined) (w : List ℕ) (y : ExplanationValue).
     answer_lines o (is_whole v) (facts d) v.summary printed flow x y w in
     record {
       lines = p.spelled

@@ -55,7 +55,7 @@ use Rattle.mc_run.specs.AuditExplanation.{IsBehindAt255, IsBehindIfStray, IsFoun
 use Rattle.mc_run.specs.AuditExplanation.{IsFoundAtFlowTtlIf, IsFoundBelow, IsShownBy, IsShownFromAt255}
 use Rattle.mc_run.specs.AuditExplanation.{IsShownFromUnless, certain_finding, is_known_wrong}
 use Rattle.mc_run.specs.AuditExplanation.{search_context, without_remedies}
-use Rattle.mc_run.specs.AuditText.{Explanation}
+use Rattle.mc_explain.specs.ExplanationValues.{ExplanationValue}
 use Rattle.mc_run.specs.MakeRun.{IsExamined}
 
 -- ---- entries by ascending numbers of their LANs
@@ -388,10 +388,10 @@ optional_finding-same_value (Some x) (Some y) e =
     ap Some (sym (finding_value-injective x) ∙ ap finding_of_value same ∙ finding_value-injective y)
 
 -- behind the same flight there is one thing
-is_behind_in-unique : (whole greatest : Bool) (t : TopologyValue) (n : Net) (own : Interface) (g : Flight)
-    (double : Option Copy) (x y : Behind) → IsBehindIn whole greatest t n own g double x
-    → IsBehindIn whole greatest t n own g double y → IsSameBehind x y
-is_behind_in-unique whole greatest t n own g double x y p q = record {
+is_behind_in-unique : (whole : Bool) (t : TopologyValue) (n : Net) (own : Interface) (g : Flight)
+    (double : Option Copy) (x y : Behind) → IsBehindIn whole t n own g double x
+    → IsBehindIn whole t n own g double y → IsSameBehind x y
+is_behind_in-unique whole t n own g double x y p q = record {
   finding = optional_finding-same_value x.finding y.finding (p.finding ∙ sym q.finding);
   causes = p.causes ∙ sym q.causes;
   shown_from = p.shown ∙ sym q.shown;
@@ -406,9 +406,9 @@ is_behind-unique : (whole : Bool) (d : DomainValue) (flow : ℕ) (own : Interfac
 is_behind-unique whole d flow own x y p q =
     let n = net_of d flow in
     let same = ends_past_strays-unique n (start n 255) p.flight q.flight p.run q.run in
-    is_behind_in-unique whole (ttl_of d flow == 255) d.topology n own q.flight
+    is_behind_in-unique whole d.topology n own q.flight
     (first_double [] q.flight.carried) x y
-    (subst (λ (g : Flight). IsBehindIn whole (ttl_of d flow == 255) d.topology n own g
+    (subst (λ (g : Flight). IsBehindIn whole d.topology n own g
     (first_double [] g.carried) x) same p.shows) q.shows
 
 -- two that aren't there
@@ -450,7 +450,7 @@ is_behind_at_255-unique whole d flow (FoundAtFlowTtl a b) (FoundAtTtl255 c) s t 
 -- ---- whole explanations
 
 -- Two explanations are the same.
-pub record IsSameExplanation (x y : Explanation) : Type 0 where
+pub record IsSameExplanation (x y : ExplanationValue) : Type 0 where
   pub printed : x.printed ≡ y.printed
   pub search : HaveSameSearch x.search y.search
   pub also : x.also ≡ y.also
@@ -549,8 +549,9 @@ same_certainty x y known shown = λ i. record { known = known i; shown_by = show
 
 -- so two explanations of a flow are the same
 pub is_explanation-unique : (d : DomainValue) (summary : List SummaryValue) (excluded : List Bool)
-    (whole : Bool) (flow : ℕ) (a b : ExaminedFlights) (x y : Explanation) → IsDomain d → HaveSameFlights a b
-    → IsExplanation d summary excluded whole flow a x → IsExplanation d summary excluded whole flow b y
+    (whole : Bool) (flow : ℕ) (a b : ExaminedFlights) (x y : ExplanationValue) → IsDomain d
+    → HaveSameFlights a b → IsExplanation d summary excluded whole flow a x
+    → IsExplanation d summary excluded whole flow b y
     → IsSameExplanation x y
 is_explanation-unique d summary excluded whole flow a b x y ok same p q =
     let search = is_search_if_missed-unique (facts d) summary excluded flow a b x.search y.search same

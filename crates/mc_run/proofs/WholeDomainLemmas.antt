@@ -30,7 +30,7 @@ use Rattle.mc_run.specs.AuditRun.{LeftOutValue}
 use Rattle.mc_run.specs.AuditRun.{AreFoundInWhole, WritesOfEachInWhole, IsFlowAnswer, IsAudited, IsAuditText}
 use Rattle.mc_run.specs.AuditRun.{IsChecked, IsFoundInWhole, MeansAudited, AuditedValue}
 use Rattle.mc_run.specs.AuditRun.{SaysYesOf, is_whole, excluded}
-use Rattle.mc_run.specs.AuditText.{Explanation}
+use Rattle.mc_explain.specs.ExplanationValues.{ExplanationValue}
 use Rattle.mc_run.specs.AuditFlowText.{answer_lines}
 use Rattle.mc_cli.specs.declared.audit_options.AuditOptions.{AuditOptions}
 use Rattle.mc_run.specs.declared.fault.RunFault.{RunFault}
@@ -65,7 +65,7 @@ not_right-whole_domain o left files v flow ttl travel audited_value low high run
 -- a flow's lines say yes, or what is found in the whole domain
 is_found_in_whole-answer_lines : (o : AuditOptions) (left : LeftOutValue) (files : List FileText)
     (v : AuditedValue)
-    (printed : List Tree) (flow : ℕ) (x : Examined) (e : Explanation) (wanted lines : List ℕ)
+    (printed : List Tree) (flow : ℕ) (x : Examined) (e : ExplanationValue) (wanted lines : List ℕ)
     → MeansAudited o left files v → IsChecked v.domain flow x
     → IfFound (IsFirstPickTravel v.domain flow) x
     → IfFound (λ ttl travel. (ttl_of v.domain flow ≤ ttl) × (ttl ≤ 255)) x

@@ -31,7 +31,7 @@ use Rattle.mc_explain.specs.declared.causes.Cause.{Cause}
 use Rattle.mc_explain.specs.declared.causes.explanation.ShownBy.{ShownBy}
 use Rattle.mc_explain.specs.declared.causes.Cause.TheVariants.{Circle, LeastTtl, OnlyEverySource}
 use Rattle.mc_explain.specs.declared.causes.Cause.TheVariants.{SentOnto, StoppedAt, TakeOut, Unplaced}
-use Rattle.mc_run.specs.AuditText.{Explanation}
+use Rattle.mc_explain.specs.ExplanationValues.{ExplanationValue}
 
 -- the other LANs that the packet of the printed finding missed
 abbrev pub also_missed : DomainFacts → (flow : ℕ) → ExaminedFlights → List ℕ
@@ -176,7 +176,7 @@ IsBehindAt255 whole d flow (FoundAtFlowTtl greatest least) behind = behind ≡ N
 
 -- This is the explanation of the finding of a domain's flow, by the flights of its travels.
 pub record IsExplanation (d : DomainValue) (summary : List SummaryValue) (excluded : List Bool)
-    (whole : Bool) (flow : ℕ) (flights : ExaminedFlights) (x : Explanation) : Type 0 where
+    (whole : Bool) (flow : ℕ) (flights : ExaminedFlights) (x : ExplanationValue) : Type 0 where
   pub printed : ArePrintedCauses whole d flow flights x.printed
   pub search : IsSearchAt255 (facts d) summary excluded flow flights x.search
   pub also : x.also ≡ also_missed (facts d) flow flights

@@ -13,7 +13,8 @@ use Rattle.mc_maker.specs.declared.examination.Examined.{Examined}
 use Rattle.mc_maker.specs.declared.examination.Examined.TheVariants.{Certified, Found}
 use Rattle.mc_json.specs.TreeKey.{tree_key}
 use Rattle.mc_run.specs.AuditObjects.{right_objects, wrong_object}
-use Rattle.mc_run.specs.AuditText.{Explanation, right_lines, wrong_lines}
+use Rattle.mc_explain.specs.ExplanationValues.{ExplanationValue}
+use Rattle.mc_run.specs.AuditText.{right_lines, wrong_lines}
 use Rattle.mc_cli.specs.declared.audit_options.AuditOptions.{AuditOptions}
 use Rattle.mc_run.specs.declared.audit.flow_status.FlowStatus.{FlowStatus}
 
@@ -44,7 +45,7 @@ right_flow_lines o whole d printed flow es wanted =
 
 -- the lines of a flow with a finding, as text or in JSON
 abbrev pub wrong_lines_or_object : (json travels : Bool) → DomainFacts → List SummaryValue
-    → (flow ttl : ℕ) → Travel → Explanation → List ℕ
+    → (flow ttl : ℕ) → Travel → ExplanationValue → List ℕ
 wrong_lines_or_object true travels d summary flow ttl travel x =
     wrong_object travels d summary flow ttl travel x
 wrong_lines_or_object false travels d summary flow ttl travel x =
@@ -52,7 +53,7 @@ wrong_lines_or_object false travels d summary flow ttl travel x =
 
 -- the lines of a flow with a finding, as the options ask
 abbrev pub wrong_flow_lines : AuditOptions → DomainFacts → List SummaryValue → (flow ttl : ℕ) → Travel
-    → Explanation → List ℕ
+    → ExplanationValue → List ℕ
 wrong_flow_lines o d summary flow ttl travel x =
     wrong_lines_or_object o.json o.travels d summary flow ttl travel x
 
@@ -61,7 +62,7 @@ wrong_flow_lines o d summary flow ttl travel x =
 -- the lines of the flow with this number, by the result of its examination, the explanation of its finding,
 -- and the LANs that want it
 abbrev pub answer_lines : AuditOptions → (whole : Bool) → DomainFacts → List SummaryValue
-    → (printed : List Tree) → (flow : ℕ) → Examined → Explanation → (wanted : List ℕ) → List ℕ
+    → (printed : List Tree) → (flow : ℕ) → Examined → ExplanationValue → (wanted : List ℕ) → List ℕ
 answer_lines o whole d summary printed flow (Certified entries) x wanted =
     right_flow_lines o whole d printed flow entries.items wanted
 answer_lines o whole d summary printed flow (Found ttl travel) x wanted =

@@ -1,18 +1,18 @@
 -- The lines of a flow in the JSON of an audit (docs/FORMATS.md, "What `audit --json` writes"). `printed` are
 -- the keys of the trees that earlier lines have printed.
-use Rattle.std.specs.Prelude.{ℕ, Bool, List, [], ◌++◌, map, length, is_some, if◌then◌else◌}
+use Rattle.std.specs.Prelude.{ℕ, Bool, List, [], ◌++◌, map, length, is_some, if◌then◌else◌, Option, Some, None}
 use Rattle.mc_tables.specs.Summary.{SummaryValue}
 use Rattle.mc_topology.specs.Topology.{flow_at}
 use Rattle.mc_forward.specs.ListedTables.{DomainFacts}
 use Rattle.mc_cert.specs.Certificate.{Tree}
 use Rattle.mc_cert.specs.Distinct.{find_tree, tree_number_of, with_tree}
+use Rattle.mc_theory.specs.Events.{Event}
 use Rattle.mc_replay.specs.declared.travel.Travel.{Travel}
-use Rattle.mc_json.specs.BehindData.{behind_data}
-use Rattle.mc_json.specs.FlowData.{right_data, tree_data, wrong_line}
+use Rattle.mc_json.specs.FlowData.{right_data, tree_data}
 use Rattle.mc_json.specs.RowData.{lan_data, line_of}
 use Rattle.mc_json.specs.TreeKey.{tree_key}
-use Rattle.mc_json.specs.WhyData.{why_data}
-use Rattle.mc_run.specs.AuditText.{Explanation}
+use Rattle.mc_json.specs.WrongLine.{FoundTravelValue, wrong_line}
+use Rattle.mc_explain.specs.ExplanationValues.{ExplanationValue}
 
 -- ---- a flow that is right
 
@@ -42,9 +42,21 @@ right_objects whole d printed flow es wanted =
 
 -- ---- a flow with a finding
 
+-- the events of a travel, with the option travel
+abbrev pub events_asked : (travels : Bool) → Travel → Option (List Event)
+events_asked travels travel = if travels then Some travel.events.items else None
+
+-- the travel that shows the finding of the flow with this number, with the TTL of its packet
+abbrev pub found_travel : (travels : Bool) → (flow ttl : ℕ) → Travel → FoundTravelValue
+found_travel travels flow ttl travel = record {
+  flow = flow;
+  finding = travel.finding;
+  found_ttl = ttl;
+  events = events_asked travels travel;
+}
+
 -- the line of a flow with a finding: the finding, its explanation, and with the option travel the events
 abbrev pub wrong_object : (travels : Bool) → DomainFacts → List SummaryValue → (flow ttl : ℕ) → Travel
-    → Explanation → List ℕ
+    → ExplanationValue → List ℕ
 wrong_object travels d summary flow ttl travel x =
-    wrong_line d flow (flow_at d.topology flow) x.certainty ttl travel.finding travel.events.items x.also
-    (behind_data d summary flow x.behind) (why_data d summary flow x.printed x.search) travels
+    wrong_line d summary (found_travel travels flow ttl travel) x

@@ -9,7 +9,6 @@ use Rattle.mc_replay.specs.declared.travel.Travel.{Travel}
 use Rattle.mc_explain.specs.TopologyLans.{interfaces_on_lans}
 use Rattle.mc_explain.specs.SearchLine.{Search}
 use Rattle.mc_explain.specs.WantedText.{lans_wanting, missed_besides}
-use Rattle.mc_explain.specs.declared.causes.explanation.Explanation.{Explanation as ExplanationParts}
 use Rattle.mc_explain.specs.declared.searches.searching.LanSearch.{LanSearch}
 use Rattle.mc_explain.specs.declared.causes.Cause.{Cause}
 use Rattle.mc_explain.specs.declared.causes.behind.Behind.{Behind}
@@ -22,7 +21,8 @@ use Rattle.mc_run.specs.AuditObjects.{key_of_tree, right_objects, wrong_object}
 use Rattle.mc_run.specs.AuditExplanation.{is_known_wrong, search_context}
 use Rattle.mc_run.specs.AuditRun.{IsFlowAnswer, AuditedValue, LeftOutValue, excluded, is_whole}
 use Rattle.mc_run.specs.AuditRun.{trees_shown}
-use Rattle.mc_run.specs.AuditText.{Explanation, behind_text, second_behind_text}
+use Rattle.mc_explain.specs.ExplanationValues.{ExplanationValue}
+use Rattle.mc_run.specs.AuditText.{behind_text, second_behind_text}
 use Rattle.mc_run.specs.AuditText.{explanation_lines, right_lines, searched_lines, wrong_lines}
 use Rattle.mc_run.specs.AuditFlowText.{is_hidden, right_flow_lines, shown_trees_with, status_of}
 use Rattle.mc_run.specs.AuditFlowText.{status_of_right, status_of_wrong, with_shown_tree, wrong_flow_lines}
@@ -76,23 +76,13 @@ certainty_of whole search shown_by = record {
 
 -- the explanation of a finished travel's finding, from these parts
 abbrev pub explanation_in : (whole : Bool) → FinishedTravel → List Cause → Option LanSearch
-    → Option Behind → ShownBy → Explanation
+    → Option Behind → ShownBy → ExplanationValue
 explanation_in whole ended printed search behind shown_by = record {
   printed = printed;
   search = search;
   also = also_missed_of ended;
   behind = behind;
   certainty = certainty_of whole search shown_by;
-}
-
--- an explanation as a value
-abbrev pub explanation_value : ExplanationParts → Explanation
-explanation_value x = record {
-  printed = x.causes.now;
-  search = x.search.now;
-  also = x.also.now;
-  behind = x.behind.now;
-  certainty = x.certainty;
 }
 
 -- The lines of a flow were appended, after those of earlier flows, which have printed the trees `printed`;
@@ -183,23 +173,23 @@ behind_lines_of a flow behind = behind_text (facts (audited_value a).domain)
     (audited_value a).summary flow behind
 
 -- the lines of an explanation
-abbrev pub explanation_lines_of : AuditedDomain → (flow : ℕ) → Explanation → List ℕ
+abbrev pub explanation_lines_of : AuditedDomain → (flow : ℕ) → ExplanationValue → List ℕ
 explanation_lines_of a flow x =
     explanation_lines (facts (audited_value a).domain) (audited_value a).summary flow x
 
 -- the lines as text of a flow with a finding, by the travel that shows the finding
-abbrev pub wrong_lines_of : AuditedDomain → (flow : ℕ) → Travel → Explanation → List ℕ
+abbrev pub wrong_lines_of : AuditedDomain → (flow : ℕ) → Travel → ExplanationValue → List ℕ
 wrong_lines_of a flow travel x =
     wrong_lines a.options.travels (facts (audited_value a).domain) (audited_value a).summary flow travel x
 
 -- the line in JSON of such a flow, by the travel and the TTL of its packet
-abbrev pub wrong_object_of : AuditedDomain → (flow ttl : ℕ) → Travel → Explanation → List ℕ
+abbrev pub wrong_object_of : AuditedDomain → (flow ttl : ℕ) → Travel → ExplanationValue → List ℕ
 wrong_object_of a flow ttl travel x =
     wrong_object a.options.travels (facts (audited_value a).domain) (audited_value a).summary
     flow ttl travel x
 
 -- the lines of such a flow as the options ask
-abbrev pub explained_lines_of : AuditedDomain → (flow ttl : ℕ) → FinishedTravel → Explanation → List ℕ
+abbrev pub explained_lines_of : AuditedDomain → (flow ttl : ℕ) → FinishedTravel → ExplanationValue → List ℕ
 explained_lines_of a flow ttl ended x = wrong_flow_lines a.options (facts (audited_value a).domain)
     (audited_value a).summary flow ttl ended.travel x
 

@@ -32,7 +32,8 @@ use Rattle.mc_json.specs.RowData.{line_of}
 use Rattle.mc_run.specs.AuditEnd.{FlowAnswer, are_right, begin_lines, count, end_lines, is_unwanted}
 use Rattle.mc_run.specs.AuditEnd.{excluded_marks, verdict_line}
 use Rattle.mc_run.specs.AuditExplanation.{IsExplanation}
-use Rattle.mc_run.specs.AuditText.{Explanation, found_flow_line}
+use Rattle.mc_explain.specs.ExplanationValues.{ExplanationValue}
+use Rattle.mc_run.specs.AuditText.{found_flow_line}
 use Rattle.mc_run.specs.AuditFlowText.{answer_lines, known_right, right_flow_lines, shown_trees_with}
 use Rattle.mc_run.specs.AuditFlowText.{wrong_flow_lines}
 use Rattle.mc_run.specs.CheckRun.{IsLineStart, KeepsHeadline, WroteAtStart, WroteYes}
@@ -88,7 +89,7 @@ pub record IsChecked (d : DomainValue) (flow : ℕ) (x : Examined) : Type 0 wher
 pub record IsFlowAnswer (v : AuditedValue) (o : AuditOptions) (printed : List Tree) (flow : ℕ)
     (a : FlowAnswer) : Type 0 where
   pub flights : ExaminedFlights
-  pub explanation : Explanation
+  pub explanation : ExplanationValue
   pub listed : flow < length v.domain.topology.flows
   pub net : a.net ≡ net_of v.domain flow
   pub has_flights : HasExaminedFlights v.domain flow flights
@@ -217,7 +218,7 @@ pub record SaysWhatIsFound (v : AuditedValue) (o : AuditOptions) (flow : ℕ) (l
   pub ttl : ℕ
   pub travel : Travel
   pub flights : ExaminedFlights
-  pub explanation : Explanation
+  pub explanation : ExplanationValue
   -- By the known tables the flow isn't right.
   pub wrong : ¬ IsRight (net_of v.domain flow)
   -- The finding is that of the travel of a packet with this TTL in which the first waiting copy is handled
@@ -269,7 +270,7 @@ pub record IsFoundInWhole (v : AuditedValue) (o : AuditOptions) (files : List Fi
     (lines : List ℕ) : Type 0 where
   pub ttl : ℕ
   pub travel : Travel
-  pub explanation : Explanation
+  pub explanation : ExplanationValue
   pub least : ttl_of v.domain flow ≤ ttl
   pub greatest : ttl ≤ 255
   pub runs : IsFirstPickTravel v.domain flow ttl travel

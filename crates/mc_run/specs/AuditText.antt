@@ -13,11 +13,11 @@ use Rattle.mc_replay.specs.declared.travel.Travel.{Travel}
 use Rattle.mc_lines.specs.ExplanationText.{causes_text, deeper_causes_text}
 use Rattle.mc_lines.specs.ExplanationText.{search_text}
 use Rattle.mc_explain.specs.BehindText.{leaks_behind_text}
+use Rattle.mc_explain.specs.ExplanationValues.{ExplanationValue}
 use Rattle.mc_explain.specs.WantedText.{also_missed_text, wanted_text}
 use Rattle.mc_explain.specs.declared.causes.behind.Behind.{Behind}
 use Rattle.mc_explain.specs.declared.searches.searching.LanSearch.{LanSearch}
 use Rattle.mc_explain.specs.declared.causes.Cause.{Cause}
-use Rattle.mc_explain.specs.declared.causes.explanation.Certainty.{Certainty}
 use Rattle.mc_explain.specs.declared.causes.explanation.ShownBy.{ShownBy}
 use Rattle.mc_run.specs.ReplayRun.{event_lines}
 use Rattle.mc_run.specs.VerdictText.{flow_line, flow_words}
@@ -37,19 +37,6 @@ right_lines whole t flow copies wanted =
     right_line whole t (flow_at t flow) copies ++ wanted_text t wanted
 
 -- ---- a flow with a finding
-
--- The explanation of a finding.
-pub record Explanation : Type 0 where
-  -- the causes that are printed
-  pub printed : List Cause
-  -- the search for the LAN that a packet with TTL 255 missed, if it missed one
-  pub search : Option LanSearch
-  -- the other LANs that the packet missed
-  pub also : List ℕ
-  -- what is behind a stray, if the finding is one
-  pub behind : Option Behind
-  -- how certain the finding is
-  pub certainty : Certainty
 
 -- whether the flow is known to be wrong, in a word
 abbrev pub known_word : (known : Bool) → List ℕ
@@ -81,9 +68,7 @@ shown_by_text t ttl shown_by =
 -- the lines of the search, if there was one
 abbrev pub searched_lines : DomainFacts → List SummaryValue → (flow : ℕ) → Option LanSearch → List ℕ
 searched_lines d summary flow None = []
-searched_lines d summary flow (Some found) =
-    search_text d summary flow found.lines.items found.reach.sent_on.items
-    found.reach.took_none.items
+searched_lines d summary flow (Some found) = search_text d summary flow found
 
 -- the line `shown by` after four spaces; nothing where no TTL is given
 abbrev pub deeper_shown_from_text : Option ℕ → List ℕ
@@ -107,7 +92,7 @@ behind_text d summary flow (Some b) =
     ++ leaks_behind_text d b.strays.items b.open_routers.items b.missed.items
 
 -- the lines that explain a finding, but those of which packets show it
-abbrev pub explanation_lines : DomainFacts → List SummaryValue → (flow : ℕ) → Explanation → List ℕ
+abbrev pub explanation_lines : DomainFacts → List SummaryValue → (flow : ℕ) → ExplanationValue → List ℕ
 explanation_lines d summary flow x =
     causes_text d summary flow x.printed
     ++ (searched_lines d summary flow x.search
@@ -121,7 +106,7 @@ events_if_shown false t travel = []
 -- the lines of a flow with a finding: the finding, which packets show it, the explanation, and with the
 -- option travel the events
 abbrev pub wrong_lines : (travels : Bool) → DomainFacts → List SummaryValue → (flow : ℕ) → Travel
-    → Explanation → List ℕ
+    → ExplanationValue → List ℕ
 wrong_lines travels d summary flow travel x =
     found_flow_line d.topology (flow_at d.topology flow) x.certainty.known travel.finding
     ++ (shown_by_text d.topology (flow_at d.topology flow).ttl x.certainty.shown_by

@@ -59,5 +59,6 @@ pub use Rattle.mc_replay.specs.Travels
 pub use Rattle.mc_replay.specs.TravelText
 pub use Rattle.mc_cert.specs.CertificateText
 pub use Rattle.mc_maker.specs.Examined
+pub use Rattle.mc_explain.specs.ExplanationValues
 pub use Rattle.mc_cli.specs.Task as AllowedTask
 pub mod WantsSoFar

@@ -12,7 +12,7 @@ use Rattle.mc_forward.specs.Domains.{DomainValue, net_of}
 use Rattle.mc_input.specs.Input.{with_certificate}
 use Rattle.mc_input.specs.Meaning.{MeansUncertifiedDomain, MeansDomainWhere}
 use Rattle.mc_cert.specs.Certificate.{Tree, IsEntryOf, IsWritableTree}
-use Rattle.mc_cert.specs.CertificateText.{certificate_text}
+use Rattle.mc_cert.specs.CertificateText.{certificate_json}
 use Rattle.mc_replay.specs.TravelText.{finding_text}
 use Rattle.mc_replay.specs.declared.finding.Finding.{Finding}
 use Rattle.mc_maker.specs.Examined.{FindsFault, IfCertified, IfFound, AreEntriesOfCleanTravel}
@@ -89,7 +89,7 @@ are_certified xs = list_all is_certified xs
 
 -- the text: a certificate and a line feed if every flow is certified, and otherwise the lines of the flows
 abbrev pub made_text : (certified : Bool) → TopologyValue → List Examined → List ℕ
-made_text true t xs = certificate_text t (certified_lists xs) ++ codes "\n"
+made_text true t xs = certificate_json t (certified_lists xs) ++ codes "\n"
 made_text false t xs = found_lines_of_flows t t.flows xs
 
 -- These are the lists and the lines that are made for a domain's flows.

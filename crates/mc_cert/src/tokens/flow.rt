@@ -76,7 +76,7 @@ impl FlowFields {
     }
 
     /// The entries, if this is the flow of the topology with this number.
-    fn entries_of(self, topology: &Topology, number: u32) -> Option<Vec<Reached>>
+    fn entries_of_flow(self, topology: &Topology, number: u32) -> Option<Vec<Reached>>
         requires listed { number < length topology.now.flows }
         ensures { IfSome result (λ entries. (ms : Members) →
             HoldsFlow topology.now self.group self.source (option_map (λ es. es.items) self.reached) ms →
@@ -102,7 +102,7 @@ fn flow_value(
         (λ d. DenotesFlow topology.now number d entries.items) reader.new) }
 {
     let fields = read_object(alloc, topology, FlowFields::new(), reader)?;
-    let Some(entries) = fields.entries_of(topology, number) else {
+    let Some(entries) = fields.entries_of_flow(topology, number) else {
         return Err(NotRead);
     };
     Ok(entries)

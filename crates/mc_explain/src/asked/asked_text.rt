@@ -3,9 +3,10 @@
 ghost use Rattle.std.specs.Prelude.{◌≡◌, ◌++◌, OnOk, Some, flat_map};
 ghost use Rattle.std.specs.String.{string_bytes};
 ghost use Rattle.mc_explain.specs.AskedText.{addresses_text, asked_more_text, asked_text_of};
-ghost use Rattle.mc_explain.specs.AskedText.{forwarding_words, is_ignored_by_routers, listed_text};
+ghost use Rattle.mc_explain.specs.AskedText.{forwarding_text, is_ignored_by_routers, listed_text};
 ghost use Rattle.mc_explain.specs.AskedText.{service_text, services_text, some_services_text, ssm_text};
 ghost use Rattle.mc_explain.specs.AskedText.{what_text};
+ghost use Rattle.mc_explain.specs.RoutersForWant.{routers_value};
 
 use crate::asked::routers_by_state::RoutersByState;
 use crate::shown::row_text::ShownAddress;
@@ -39,9 +40,8 @@ struct ShownForwarding<'t> {
 }
 
 impl<'t> fmt::Display for ShownForwarding<'t> {
-    ghost output = { λ shown. Some (forwarding_words shown.topology.now shown.are_excluded
-        shown.routers.now.forwards.items shown.routers.now.none_out.items
-        shown.routers.now.every_source.items) };
+    ghost output = { λ shown. Some (forwarding_text shown.topology.now shown.are_excluded
+        (routers_value shown.routers.now)) };
 
     fn fmt<W: fmt::Write>(&self, f: &mut fmt::Formatter<W>) -> fmt::Result {
         let topology = self.topology;

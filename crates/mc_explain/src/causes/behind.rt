@@ -12,7 +12,7 @@ ghost use Rattle.mc_replay.specs.PastStrays.{finding_of_double};
 ghost use Rattle.std.specs.List.{list_any};
 ghost use Rattle.mc_explain.specs.Behind.{IsBehind, IsBehindIn, double_causes, is_missed, is_open};
 ghost use Rattle.mc_explain.specs.Behind.{is_other_leak, missed_lans, missed_unless_open, open_routers};
-ghost use Rattle.mc_explain.specs.Behind.{second_causes, with_open_router, with_router};
+ghost use Rattle.mc_explain.specs.Behind.{second_causes, with_open_router, with_router_once};
 ghost use Rattle.mc_explain.specs.Explained.{sender_causes};
 ghost use Rattle.mc_explain.specs.ShownNeed.{need_of_two_copies as least_of_two_copies};
 
@@ -92,7 +92,7 @@ fn has_router(routers: &[RouterNo], router: RouterNo) -> bool
 
 /// Adds a router, unless it is there.
 fn add_router(routers: &mut Vec<RouterNo>, router: RouterNo) -> Result<(), Memory>
-    ensures { OnOk result (routers.new.items ≡ with_router routers.old.items router) }
+    ensures { OnOk result (routers.new.items ≡ with_router_once routers.old.items router) }
 {
     if !has_router(routers, router) {
         routers.push(router)?;
@@ -261,8 +261,8 @@ fn behind_with_second(
     requires finding { optional_finding_value finding
         ≡ Some (finding_of_double (net_in view.now) flight.now.flight.carried second.now) }
     ensures { (whole : Bool) (own : Interface) → IfOk result
-        (IsBehindIn whole ((net_in view.now).ttl == 255) view.now.domain.topology (net_in view.now) own
-        flight.now.flight (Some second.now)) }
+        (IsBehindIn whole view.now.domain.topology (net_in view.now) own flight.now.flight
+        (Some second.now)) }
 {
     let copies = flight.copies();
     let causes = second_causes(alloc, view, copies, first_copies, second, &finding)?;
@@ -312,8 +312,8 @@ fn behind_without_second(
 ) -> Result<Behind, Memory>
     requires first_copies { HoldsFirstOfEachKey (λ c. c.lan) first_copies.now.by_lan
         flight.now.flight.carried }
-    ensures { IfOk result (IsBehindIn whole ((net_in view.now).ttl == 255) view.now.domain.topology
-        (net_in view.now) own flight.now.flight None) }
+    ensures { IfOk result (IsBehindIn whole view.now.domain.topology (net_in view.now) own
+        flight.now.flight None) }
 {
     let strays = other_leaks(alloc, view, own, flight.strays())?;
     let open_routers = routers_with_open_rows(alloc, view, flight.strays())?;

@@ -1,8 +1,10 @@
 //! Writes the lines of a flow with a finding: whether it is then known not to be right, and why.
 
-ghost use Rattle.std.specs.Prelude.{◌≡◌, ◌<◌, ◌++◌, IfOk, OnOk, length};
+ghost use Rattle.std.specs.Prelude.{◌≡◌, ◌<◌, ◌++◌, IfOk, OnOk, length, option_map};
 ghost use Rattle.std.specs.String.{string_bytes};
-ghost use Rattle.mc_run.specs.AuditPieces.{audited_value, explanation_lines_of, explanation_value};
+ghost use Rattle.mc_explain.specs.ExplanationValues.{explanation_value};
+ghost use Rattle.mc_run.specs.AuditObjects.{events_asked};
+ghost use Rattle.mc_run.specs.AuditPieces.{audited_value, explanation_lines_of};
 ghost use Rattle.mc_run.specs.AuditPieces.{searched_lines_of, explained_lines_of, status_of_wrong_flow};
 ghost use Rattle.mc_run.specs.AuditPieces.{wrong_flow_lines_of, behind_lines_of, second_behind_of};
 ghost use Rattle.mc_run.specs.AuditPieces.{wrong_lines_of, wrong_object_of};
@@ -19,7 +21,7 @@ use mc_explain::{
     Behind, Certainty, Explanation, LanSearch, ShownBy, missed_besides, push_also_missed,
     push_leaks_behind,
 };
-use mc_forward::FlowView;
+use mc_forward::{Event, FlowView};
 use mc_json::{FoundTravel, push_wrong_line};
 use mc_lines::{push_causes, push_deeper_causes, push_search};
 use mc_replay::{Finding, FinishedTravel, Travel};
@@ -239,6 +241,17 @@ fn push_wrong_lines(
 
 // ---- in JSON
 
+/// The events of a travel, if travels are to be printed.
+fn events_asked(are_printed: bool, travel: &Travel) -> Option<&[Event]>
+    ensures { option_map (λ events. events.now) result ≡ events_asked are_printed travel.now }
+{
+    if are_printed {
+        Some(&travel.events)
+    } else {
+        None
+    }
+}
+
 /// Writes the object of a flow with a finding.
 fn push_wrong_object(
     alloc: Global,
@@ -261,9 +274,9 @@ fn push_wrong_object(
     } = *audited;
     let found = FoundTravel {
         flow,
-        travel,
+        finding: travel.finding,
         found_ttl: ttl,
-        events_asked: options.travels,
+        events: events_asked(options.travels, travel),
     };
     push_wrong_line(alloc, text, domain, summary, &found, explanation)
 }

@@ -5,7 +5,7 @@ ghost use Rattle.std.specs.String.{string_bytes};
 ghost use Rattle.mc_text.specs.Bundle.{max_input};
 ghost use Rattle.mc_text.specs.ReadFault.{ConsumesUpTo};
 ghost use Rattle.mc_cert.specs.Certificate.{BelongsTo};
-ghost use Rattle.mc_cert.specs.CertificateText.{certificate_text as text_of_certificate};
+ghost use Rattle.mc_cert.specs.CertificateText.{certificate_json as text_of_certificate};
 ghost use Rattle.mc_run.specs.InputMeaning.{IsRefusedFor};
 ghost use Rattle.mc_text.specs.Device.{failures_after};
 ghost use Rattle.mc_run.specs.Failures.{is_read, is_write};
@@ -56,7 +56,7 @@ fn examine_all(alloc: Global, domain: &Domain) -> Result<MadeLists, NoMemory>
 }
 
 /// The text of the certificate with these lists, one for each flow of the topology, and a line feed.
-fn certificate_text(alloc: Global, topology: &Topology, lists: Trees) -> Result<String, NoMemory>
+fn certificate_json(alloc: Global, topology: &Topology, lists: Trees) -> Result<String, NoMemory>
     requires valid { BelongsTo topology.now lists }
     ensures ok { IfOk result (λ text. string_bytes text ≡
         text_of_certificate topology.now lists ++ codes "\n") }
@@ -78,7 +78,7 @@ fn make_for_domain(alloc: Global, domain: &Domain) -> Result<RunOutput, NoMemory
             yes: false,
         });
     }
-    let text = certificate_text(alloc, domain.topology(), made.lists)?;
+    let text = certificate_json(alloc, domain.topology(), made.lists)?;
     Ok(RunOutput { text, yes: true })
 }
 

@@ -8,8 +8,6 @@ use Rattle.mc_lines.specs.FlowContext.{flow_context}
 use Rattle.mc_lines.specs.SearchLines.{shown_items}
 use Rattle.mc_lines.proofs.FirstLinesLemmas.{first_40_lines-full, first_40_lines-more}
 use Rattle.mc_lines.proofs.explanation_text.push_first_lines.Goals as goal
-use Rattle.mc_lines.proofs.explanation_text.push_first_lines.Goals.{else-count-lt-MAX_SHOWN_LINES}
-use Rattle.mc_lines.proofs.explanation_text.push_first_lines.Goals.{then-count-lt-MAX_SHOWN_LINES+in_ok-add_shown_line}
 
 pub overflow_add-count : goal.overflow_add-count
 overflow_add-count c =
@@ -32,14 +30,14 @@ loop-line-preserved c =
     (let h = ap (λ (ls : List ShownLine). n + length ls) step in
     let all = c.loop-line.invariant.count in omega (arith, h, all)) in
     elim c.if-count-lt-MAX_SHOWN_LINES.branch [
-      | then-count-lt-MAX_SHOWN_LINES+in_ok-add_shown_line w ↦ rw w.text-is (record {
+      | goal.then-count-lt-MAX_SHOWN_LINES+in_ok-add_shown_line w ↦ rw w.text-is (record {
         text = ap (λ (l : List ℕ). l ++ flat_map f (take (40 - (n + 1)) rest))
             w.in_ok-add_shown_line.ensures
             ∙ first_40_lines-more f old line rest n w.if-count-lt-MAX_SHOWN_LINES.true ∙ before
             ∙ c.loop-line.invariant.text;
         count = count;
       })
-      | else-count-lt-MAX_SHOWN_LINES w ↦ rw w.text-is (record {
+      | goal.else-count-lt-MAX_SHOWN_LINES w ↦ rw w.text-is (record {
         text = first_40_lines-full f old line rest n w.if-count-lt-MAX_SHOWN_LINES.false ∙ before
             ∙ c.loop-line.invariant.text;
         count = count;

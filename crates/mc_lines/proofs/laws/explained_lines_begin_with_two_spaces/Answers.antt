@@ -9,8 +9,7 @@ pub returns-clause-deeper : goal.returns-clause-deeper
 returns-clause-deeper c = are_indented-deeper_causes_text
 
 pub returns-clause-search : goal.returns-clause-search
-returns-clause-search c = λ d ok summary flow lines sent_on took_none.
-    are_indented-search_text d summary flow lines sent_on took_none ok
+returns-clause-search c = λ d ok summary flow found. are_indented-search_text d summary flow found ok
 
 pub returns-clause-each : goal.returns-clause-each
 returns-clause-each c = λ context l ok well. are_indented-line_text context l ok well

@@ -9,5 +9,5 @@ use Rattle.mc_lines.proofs.text_sink.push_each_indented.Given as goal
 abbrev pub invariant-loop-sentence : goal.invariant-loop-sentence
 invariant-loop-sentence l =
     string_bytes l.text ≡ string_bytes l.initial.text
-    ++ flat_map (indented_sentence (flow_context l.fn.context) (map named_fact l.fn.facts))
+    ++ flat_map (indented_sentence l.fn.indent (flow_context l.fn.context) (map named_fact l.fn.facts))
     (map given_text (take l.sentence-index l.sentences))

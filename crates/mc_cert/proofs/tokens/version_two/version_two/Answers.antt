@@ -17,5 +17,6 @@ returns c =
     let (ms, reads, held) = c.in_ok-fields.ensures in
     record {
       denotes = DenotesCertificate-from_IsVersion Two c.args.topology.now c.args.text.now ms
-          c.in_ok-certificate.certificate c.requires.few c.utf8.text reads (c.in_ok-certificate.ensures ms held);
+          c.in_ok-certificate.certificate c.requires.few c.utf8.text reads
+          (c.in_ok-certificate.ensures ms held);
     }

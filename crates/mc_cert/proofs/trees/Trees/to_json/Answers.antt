@@ -1,10 +1,10 @@
 use Rattle.std.proofs.Common.{◌≡◌, ◌∙◌, All, List, string_bytes, subst, ap, ap₂, map, sym, rules, refl}
 use Rattle.mc_cert.specs.Certificate.{Tree, IsEntryOf, IsWritableTree}
-use Rattle.mc_cert.specs.CertificateText.{version_two_text, certificate_text}
+use Rattle.mc_cert.specs.CertificateText.{version_two_text, certificate_json}
 use Rattle.mc_cert.specs.Distinct.{distinct_trees}
 use Rattle.mc_cert.proofs.DistinctLemmas.{All-distinct_trees}
 use Rattle.mc_cert.proofs.TreeLemmas.{version_two_text-AreSharedTrees}
-use Rattle.mc_cert.proofs.WrittenCertificates.{certificate_text-denotes_as_written}
+use Rattle.mc_cert.proofs.WrittenCertificates.{certificate_json-denotes_as_written}
 use Rattle.mc_cert.proofs.trees.Trees.to_json.Goals as goal
 
 pub push_trees-requires : goal.push_trees-requires
@@ -23,11 +23,11 @@ returns-clause-text c =
     = search rules in
     is ∙ ap₂ (version_two_text c.args.topology.now) c.deref.ensures.value c.trees-trees.ensures
     ∙ version_two_text-AreSharedTrees c.args.topology.now c.self.inside.distinct c.self.inside.numbers.items
-    c.self.invariant ∙ ap (certificate_text c.args.topology.now) c.self.view_is
+    c.self.invariant ∙ ap (certificate_json c.args.topology.now) c.self.view_is
 
 pub returns-clause-denotes : goal.returns-clause-denotes
 returns-clause-denotes c = λ few.
-    certificate_text-denotes_as_written c.args.topology.now c.args.self.now
+    certificate_json-denotes_as_written c.args.topology.now c.args.self.now
     (map (λ t. t.value.items) c.trees-trees.result.now) (string_bytes c.push_str-2.new.self)
     c.flows-rules.ensures.rules c.requires.valid
     (c.trees-trees.ensures ∙ c.self.invariant.distinct ∙ ap distinct_trees c.self.view_is)

@@ -1,4 +1,5 @@
-use Rattle.mc_run.specs.AuditPieces.{audited_value, explanation_value}
+use Rattle.mc_explain.specs.ExplanationValues.{explanation_value}
+use Rattle.mc_run.specs.AuditPieces.{audited_value}
 use Rattle.mc_run.proofs.ExplanationLemmas.{explanation_lines-pushed}
 use Rattle.mc_run.proofs.audit.audit_wrong.push_explanation.Goals as goal
 

@@ -1,7 +1,8 @@
 use Rattle.std.proofs.Common.{ap, ◌∙◌}
 use Rattle.mc_topology.specs.Topology.{flow_at}
 use Rattle.mc_forward.specs.FlightsInDomain.{FlowOfDomain}
-use Rattle.mc_run.specs.AuditPieces.{audited_value, explanation_value}
+use Rattle.mc_explain.specs.ExplanationValues.{explanation_value}
+use Rattle.mc_run.specs.AuditPieces.{audited_value}
 use Rattle.mc_run.proofs.ExplanationLemmas.{wrong_lines-pushed}
 use Rattle.mc_run.proofs.audit.audit_wrong.push_wrong_lines.Goals as goal
 

@@ -10,8 +10,8 @@ returns-then-not-is_empty c =
     let there = found_lines-not_empty _ _ c.is_empty.ensures c.if-not-is_empty.true in
     is_make_output-lines c.args.domain.now _ _ c.in_ok-made.ensures (λ none. there (size ∙ none))
 
-pub certificate_text-requires : goal.certificate_text-requires
-certificate_text-requires c = record {
+pub certificate_json-requires : goal.certificate_json-requires
+certificate_json-requires c = record {
   valid = (
       let size = c.in_ok-made.made.lines.bytes.ok.0 in
       belongs_to-made_lists c.args.domain.now c.topology.result.now _ _ c.in_ok-made.ensures

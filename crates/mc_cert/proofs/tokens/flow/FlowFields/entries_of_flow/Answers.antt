@@ -1,6 +1,6 @@
 use Rattle.std.proofs.Common.{◌≡◌, Some, arith}
 use Rattle.mc_cert.proofs.FieldLemmas.{DenotesFlow-from_found}
-use Rattle.mc_cert.proofs.tokens.flow.FlowFields.entries_of.Goals as goal
+use Rattle.mc_cert.proofs.tokens.flow.FlowFields.entries_of_flow.Goals as goal
 
 pub returns : goal.returns
 returns c =

@@ -15,9 +15,9 @@ use Rattle.mc_forward.specs.ListedTables.{Pairwise}
 use Rattle.mc_input.specs.FilesReading.{part_from_file}
 use Rattle.mc_input.specs.PartsReading.{cache_of, reports_of, read_part, topology_of, vifs_of}
 use Rattle.mc_input.specs.SourceFault.{is_read}
-use Rattle.mc_input.specs.declared.each_file.RefusedFile.{RefusedFile}
-use Rattle.mc_input.specs.declared.each_file.Refusal.{Refusal}
-use Rattle.mc_input.specs.declared.each_file.Refusal.TheVariants.{Unread, Fault}
+use Rattle.mc_input.specs.declared.refused_file.RefusedFile.{RefusedFile}
+use Rattle.mc_input.specs.declared.refused_file.Refusal.{Refusal}
+use Rattle.mc_input.specs.declared.refused_file.Refusal.TheVariants.{Unread, Fault}
 use Rattle.mc_input.specs.declared.fault.InputFault.{InputFault}
 use Rattle.mc_input.specs.declared.fault.InputFault.TheVariants.{Memory}
 use Rattle.mc_input.specs.declared.source_fault.SourceFault.{SourceFault}

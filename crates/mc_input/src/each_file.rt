@@ -1,60 +1,34 @@
 //! Lists all refused files of a folder, each with its own fault.
 
-ghost use Rattle.std.specs.Prelude.{◌≡◌, ◌≢◌, ◌<◌, ◌+◌, ◌*◌, ◌∷◌, ◌++◌, List, [], IfOk, OnOk, Some, Result};
-ghost use Rattle.std.specs.Prelude.{false, length, map, slice_get};
+ghost use Rattle.std.specs.Prelude.{◌≡◌, ◌<◌, List, [], IfOk, OnOk, Some, length, map, slice_get};
 ghost use Rattle.std.specs.Result.{result_err};
-ghost use Rattle.mc_text.specs.Bundle.{PartText};
 ghost use Rattle.mc_topology.specs.SectionRows.{RouterRow};
 ghost use Rattle.mc_files.specs.Files.{FileText};
-ghost use Rattle.mc_files.specs.Layout.{Slot as SlotText, file_name, slots, topology_slot};
+ghost use Rattle.mc_files.specs.Layout.{topology_slot};
 ghost use Rattle.mc_input.specs.ExcludedRouters.{names_of};
 ghost use Rattle.mc_input.specs.FilesReading.{part_from_file};
 ghost use Rattle.mc_input.specs.PartsReading.{read_part, topology_of};
-ghost use Rattle.mc_input.specs.RefusedFiles.{AreExactlyRefusedFiles, AreRefusedFiles};
-ghost use Rattle.mc_input.specs.RefusedFiles.{IsOwnFaultUnlessMemory, ListsRefused};
-ghost use Rattle.mc_input.specs.RefusedFiles.{as_judged_file, failure_count, judged_file, judged_tables};
-ghost use Rattle.mc_input.specs.RefusedFiles.{fault_of_refusal, file_fault, files_with_fault};
-ghost use Rattle.mc_input.specs.RefusedFiles.{judged_files_of, judged_lans, judged_routers};
+ghost use Rattle.mc_input.specs.RefusedFiles.{AreExactlyRefusedFiles, AreRefusedFiles, ListsRefused};
+ghost use Rattle.mc_input.specs.RefusedFiles.{as_judged_file, failure_count, judged_files_of};
+ghost use Rattle.mc_input.specs.RefusedFiles.{judged_lans, judged_routers, judged_tables};
 ghost use Rattle.mc_input.specs.RefusedFiles.{saturating_failures, unread_count};
 ghost use Rattle.mc_input.specs.SourceFault.{GivesFromContents};
-ghost use Rattle.mc_input.specs.Stream.{IsReaderOf};
-ghost use Rattle.mc_input.specs.declared.fault.InputFault.{InputFault as Fault};
 ghost use Rattle.mc_input.specs.declared.source_fault.SourceFault.TheVariants.{Input};
 
 use crate::domain::PIECE;
 use crate::excluded::is_excluded;
-use crate::fault::InputFault;
-use crate::file_slots::{FileSlots, topology_in};
-use crate::part_reader::PartReader;
+use crate::file_slots::topology_in;
 use crate::part_result::listed_pairs;
+use crate::refused_file::{RefusedFile, judge_slot, push_if_fault};
 use crate::source_fault::SourceFault;
-use crate::walk::read_slot;
 use mc_files::{
-    PieceSource, Slot, Unread, cache_slot_number, first_lan_slot_number, slot_at, vif_slot_number,
+    PieceSource, Slot, cache_slot_number, first_lan_slot_number, vif_slot_number,
 };
 use mc_igmp::ListReader;
 use mc_tables::{CacheReader, ListedPairs, VifReader};
 use mc_text::Memory;
 use mc_topology::{RouterNo, Topology};
 use std::alloc::Global;
-
-/// Why a file is refused.
-#[derive(Clone, Copy, Debug, Drop)]
-pub enum Refusal {
-    /// It can't be read.
-    Unread(Unread),
-    /// Its text is refused, or it is too large.
-    Fault(InputFault),
-}
-
-/// A file that is refused.
-#[derive(Debug, Drop)]
-pub struct RefusedFile {
-    /// Its name in the folder.
-    pub name: String,
-    /// Why it is refused.
-    pub refusal: Refusal,
-}
 
 /// Reads the topology. Once the source's count of failures is at its maximum, this fails without a
 /// call.
@@ -73,104 +47,6 @@ fn topology_unless_u64_max<F: PieceSource>(
         return Err(SourceFault::Read);
     }
     topology_in(alloc, files)
-}
-
-/// The fault of the file of the slot with a number, as this reader reads it, if it has one.
-fn slot_fault<F: PieceSource, R: PartReader + Drop>(
-    alloc: Global,
-    files: &mut F,
-    buffer: &mut [u8],
-    topology: &Topology,
-    number: u32,
-    reader: R,
-) -> Option<SourceFault>
-    requires within { number < length (slots false topology.now) }
-    requires below_max { number < u32.MAX }
-    requires room { 0 < length buffer.old }
-    requires start { R.size reader ≡ 0 }
-    ensures same { F.borrows files.new ≡ F.borrows files.old }
-    ensures kept { F.contents files.new ≡ F.contents files.old }
-    ensures fault { (read : PartText → Result R.Out Fault) (slot : SlotText) (contents : List FileText) →
-        IsReaderOf (R.part_result reader) read →
-        slice_get (slots false topology.now) number ≡ Some slot →
-        F.contents files.old ≡ Some contents →
-        IsOwnFaultUnlessMemory result (file_fault contents slot read) }
-    ensures failures { F.failed files.new
-        ≡ saturating_failures (failure_count result) (F.failed files.old) }
-{
-    if files.failures() == u64::MAX {
-        return Some(SourceFault::Read);
-    }
-    let mut slots = FileSlots {
-        files,
-        without: &[],
-    };
-    let fault = read_slot(alloc, &mut slots, buffer, topology, number, reader).err();
-    let _files = slots.into_files();
-    fault
-}
-
-/// Why the file that was just read is refused.
-fn refusal_of<F: PieceSource>(files: &F, fault: SourceFault) -> Result<Refusal, Memory>
-    ensures { IfOk result (λ refusal. (fault_of_refusal refusal ≡ fault)
-        × (fault ≢ Input InputFault.Memory)) }
-{
-    match fault {
-        SourceFault::Input(InputFault::Memory) => Err(Memory),
-        SourceFault::Input(fault) => Ok(Refusal::Fault(fault)),
-        SourceFault::Read => Ok(Refusal::Unread(files.unread().unwrap_or(Unread::Failed))),
-    }
-}
-
-/// Appends the file of a slot to the refused ones, if it has a fault.
-fn push_if_fault<F: PieceSource>(
-    alloc: Global,
-    files: &F,
-    slot: &Slot<'_>,
-    fault: Option<SourceFault>,
-    refused: &mut Vec<RefusedFile>,
-) -> Result<(), Memory>
-    ensures listed { OnOk result (map as_judged_file refused.new.items ≡ map as_judged_file refused.old.items
-        ++ files_with_fault (record { name = file_name slot.now; fault = fault } ∷ [])) }
-    ensures not_out_of_memory { OnOk result (fault ≢ Some (Input InputFault.Memory)) }
-{
-    let Some(fault) = fault else {
-        return Ok(());
-    };
-    let refusal = refusal_of(files, fault)?;
-    let name = slot.file_name(alloc)?;
-    refused.push(RefusedFile { name, refusal })?;
-    Ok(())
-}
-
-/// Checks the file of the slot with a number.
-fn judge_slot<F: PieceSource, R: PartReader + Drop>(
-    alloc: Global,
-    files: &mut F,
-    buffer: &mut [u8],
-    topology: &Topology,
-    number: u32,
-    reader: R,
-    refused: &mut Vec<RefusedFile>,
-) -> Result<(), Memory>
-    requires within { number < length (slots false topology.now) }
-    requires below_max { number < u32.MAX }
-    requires room { 0 < length buffer.old }
-    requires start { R.size reader ≡ 0 }
-    ensures same { F.borrows files.new ≡ F.borrows files.old }
-    ensures kept { F.contents files.new ≡ F.contents files.old }
-    ensures judged { (read : PartText → Result R.Out Fault) (slot : SlotText) →
-        IsReaderOf (R.part_result reader) read →
-        slice_get (slots false topology.now) number ≡ Some slot →
-        OnOk result (ListsRefused (F.contents files.old) (λ contents.
-        judged_file contents slot read ∷ []) refused.old.items refused.new.items
-        (F.failed files.old) (F.failed files.new)) }
-{
-    let Some(slot) = slot_at(topology, false, number) else {
-        unreachable!()
-    };
-    let fault = slot_fault(alloc, files, buffer, topology, number, reader);
-    push_if_fault(alloc, files, &slot, fault, refused)
 }
 
 /// Checks the tables of a router, unless it is excluded.

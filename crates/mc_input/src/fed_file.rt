@@ -1,7 +1,7 @@
 //! Feeds files of a folder to their readers in pieces.
 
-ghost use Rattle.std.specs.Prelude.{◌≡◌, ◌<◌, ◌≤◌, ℕ, List, [], Some, Err};
-ghost use Rattle.std.specs.Prelude.{IfErr, IfSome, OnOk, length};
+ghost use Rattle.std.specs.Prelude.{◌≡◌, ◌<◌, ◌≤◌, ◌+◌, ◌++◌, ℕ, List, [], Some, Err, false};
+ghost use Rattle.std.specs.Prelude.{IfErr, IfOk, IfSome, OnOk, length};
 ghost use Rattle.mc_text.specs.Bundle.{max_part};
 ghost use Rattle.mc_text.specs.Device.{failures_after};
 ghost use Rattle.mc_files.specs.FilePart.{IsFailedOrMemory, bytes_within_max_part};
@@ -13,13 +13,39 @@ use mc_files::{FileFault, PieceSource, Slot};
 use mc_text::{MAX_PART, PieceReader};
 use std::alloc::Global;
 
-/// Feeds the whole open file to a reader, in pieces through the buffer. A file that is too large or
-/// can't be read is refused for that, whatever its text.
+/// Feeds a piece of a file to a reader, unless it is longer than the `left` bytes that the file may still
+/// have. Answers how many bytes are left after it.
+fn feed_piece<P: PieceReader>(
+    reader: &mut P,
+    piece: &[u8],
+    left: usize,
+) -> Result<usize, FileFault>
+    ensures left { IfOk result (λ after. after + length piece.now ≡ left) }
+    // Whatever bytes follow, the result is that of the piece and those bytes before the call.
+    ensures fed { (more : List ℕ) → P.size reader.old + length (piece.now ++ more) ≤ max_part → OnOk result
+        (P.result_after reader.new more ≡ P.result_after reader.old (piece.now ++ more)) }
+    ensures size { P.size reader.new ≤ P.size reader.old + length piece.now }
+    ensures too_large { IfErr result (λ fault. fault ≡ FileFault.TooLarge → left < length piece.now) }
+    ensures no_failure { IfErr result (λ fault. is_failure fault ≡ false) }
+{
+    if piece.len() > left {
+        return Err(FileFault::TooLarge);
+    }
+    if reader.take(piece).is_err() {
+        return Err(FileFault::Memory);
+    }
+    Ok(left - piece.len())
+}
+
+/// Feeds the whole open file to a reader, in pieces through the buffer. A file that has more bytes than the
+/// limit or can't be read is refused for that, whatever its text.
 fn feed_open<F: PieceSource, P: PieceReader>(
     files: &mut F,
     buffer: &mut [u8],
+    limit: usize,
     reader: &mut P,
 ) -> Result<(), FileFault>
+    requires limit { limit ≤ max_part }
     requires room { 0 < length buffer.old }
     requires start { P.size reader.old ≡ 0 }
     requires reads { F.failed files.old < u64.MAX }
@@ -27,24 +53,18 @@ fn feed_open<F: PieceSource, P: PieceReader>(
     ensures kept { F.contents files.new ≡ F.contents files.old }
     // The reader ends with the result of the whole file.
     ensures within { (bytes : List ℕ) → F.left files.old ≡ Some bytes → OnOk result
-        ((length bytes ≤ max_part) × (P.result_after reader.old bytes ≡ P.result_after reader.new [])) }
+        ((length bytes ≤ limit) × (P.result_after reader.old bytes ≡ P.result_after reader.new [])) }
     ensures too_large { (bytes : List ℕ) → F.left files.old ≡ Some bytes → IfErr result (λ fault.
-        fault ≡ FileFault.TooLarge → max_part < length bytes) }
+        fault ≡ FileFault.TooLarge → limit < length bytes) }
     ensures failures { F.failed files.new ≡ failures_after is_failure result (F.failed files.old) }
 {
-    let mut left = MAX_PART;
+    let mut left = limit;
     'pieces: loop {
         let count = files.read_piece(buffer)?;
         if count == 0 {
             return Ok(());
         }
-        if count > left {
-            return Err(FileFault::TooLarge);
-        }
-        left -= count;
-        if reader.take(&buffer[..count]).is_err() {
-            return Err(FileFault::Memory);
-        }
+        left = feed_piece(reader, &buffer[..count], left)?;
     }
 }
 
@@ -68,7 +88,7 @@ fn feed_file<F: PieceSource, P: PieceReader>(
     ensures failures { F.failed files.new ≡ failures_after is_failure result (F.failed files.old) }
 {
     files.open(alloc, name)?;
-    let fed = feed_open(files, buffer, reader);
+    let fed = feed_open(files, buffer, MAX_PART, reader);
     files.close();
     fed
 }

@@ -19,6 +19,7 @@ pub mod laws;
 mod list_keeper;
 mod part_reader;
 mod part_result;
+mod refused_file;
 mod slot_part;
 mod slots;
 mod source_fault;
@@ -29,9 +30,10 @@ mod walk;
 pub use domain::{
     BundleDomain, FolderDomain, FolderOptions, PIECE, read_bundle_domain, read_folder_domain,
 };
-pub use each_file::{Refusal, RefusedFile, refused_files};
+pub use each_file::refused_files;
 pub use excluded::is_excluded;
 pub use exclusion_fault::ExclusionFault;
 pub use fault::InputFault;
+pub use refused_file::{Refusal, RefusedFile};
 pub use source_fault::SourceFault;
 pub use unanswered::UnansweredWants;

@@ -1,7 +1,7 @@
 //! What hosts ask for and no flow answers, by the lists and the caches of a folder.
 
 ghost use Rattle.std.specs.Prelude.{◌≡◌, ◌<◌, ◌^◌, ℕ, Bool, IfErr, IfOk, List, OnOk, Some, length, map};
-ghost use Rattle.std.specs.Prelude.{true};
+ghost use Rattle.std.specs.Prelude.{slice_get, true};
 ghost use Rattle.std.specs.List.Sorted.{IsStrictlySortedBy};
 ghost use Rattle.mc_text.specs.Device.{failures_after};
 ghost use Rattle.mc_igmp.specs.declared.record.Record.{Record};
@@ -10,6 +10,7 @@ ghost use Rattle.mc_tables.specs.Summary.{SummaryValue};
 ghost use Rattle.mc_files.specs.Files.{FileText};
 ghost use Rattle.mc_asked.specs.Answers.{AnswersValue};
 ghost use Rattle.mc_asked.specs.AskedLines.{asked_lines, lan_wants_from};
+ghost use Rattle.mc_asked.specs.LanWants.{LanWantsValue};
 ghost use Rattle.mc_asked.specs.Unadmitted.{with_unadmitted};
 ghost use Rattle.mc_asked.specs.UnadmittedSoFar.{AddsLan};
 ghost use Rattle.mc_input.specs.AskedOfFiles.{IsAskedOf};
@@ -95,32 +96,34 @@ impl UnansweredWants {
     }
 }
 
-/// Takes the list of a LAN with these wants, which is read once more if it is needed.
+/// Takes the list of a LAN, of which these are the wants by LAN. It is read once more if it is needed.
 fn take_list<F: PieceSource>(
     alloc: Global,
     files: &mut F,
     buffer: &mut [u8],
     topology: &Topology,
     without: &[&str],
+    wants: &[LanWants],
     lan: u32,
-    own: &LanWants,
     sources: &mut UnadmittedSources,
 ) -> Result<(), SourceFault>
+    requires count { length wants.now ≡ length topology.now.lans }
     requires lan { lan < length topology.now.lans }
     requires room { 0 < length buffer.old }
     requires failures { F.failed files.old < u64.MAX }
     ensures same { F.borrows files.new ≡ F.borrows files.old }
     ensures kept { F.contents files.new ≡ F.contents files.old }
-    ensures sources { (lists : List (List Record)) (contents : List FileText) →
-        F.contents files.old ≡ Some contents →
+    ensures sources { (own : LanWantsValue) (lists : List (List Record)) (contents : List FileText) →
+        slice_get wants.now lan ≡ Some own → F.contents files.old ≡ Some contents →
         AreListsOf (files_without without.now contents) topology.now lists →
-        OnOk result (AddsLan own.now sources.old sources.new lists lan) }
+        OnOk result (AddsLan own sources.old sources.new lists lan) }
     ensures fault { (lists : List (List Record)) (contents : List FileText) →
         F.contents files.old ≡ Some contents →
         AreListsOf (files_without without.now contents) topology.now lists → IfErr result IsReadOrMemory }
     ensures faults { IfErr result (λ fault. is_possible_for_files fault ≡ true) }
     ensures failures { F.failed files.new ≡ failures_after is_read result (F.failed files.old) }
 {
+    let own = &wants[lan as usize];
     if !sources.needs_list(own) {
         return Ok(());
     }
@@ -162,15 +165,14 @@ fn read_asked_wants<F: PieceSource>(
 {
     let mut sources = UnadmittedSources::of_lines(alloc, lines)?;
     for lan in 0..topology.lans() {
-        let own = &wants[lan as usize];
         take_list(
             alloc,
             files,
             buffer,
             topology,
             without,
+            wants,
             lan,
-            own,
             &mut sources,
         )?;
     }

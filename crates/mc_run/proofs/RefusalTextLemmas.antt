@@ -8,9 +8,9 @@ use Rattle.mc_files.specs.FilePart.{unread_text}
 use Rattle.mc_files.specs.declared.unread.Unread.{Unread}
 use Rattle.mc_input.specs.RefusedFiles.{AreUnreadFilesMissing, AreRefusedFiles, saturating_failures}
 use Rattle.mc_input.specs.RefusedFiles.{refused_files_of, as_judged_file, unread_count}
-use Rattle.mc_input.specs.declared.each_file.Refusal.{Refusal}
-use Rattle.mc_input.specs.declared.each_file.Refusal.TheVariants as refusal
-use Rattle.mc_input.specs.declared.each_file.RefusedFile.{RefusedFile}
+use Rattle.mc_input.specs.declared.refused_file.Refusal.{Refusal}
+use Rattle.mc_input.specs.declared.refused_file.Refusal.TheVariants as refusal
+use Rattle.mc_input.specs.declared.refused_file.RefusedFile.{RefusedFile}
 use Rattle.mc_run.specs.RefusalText.{AppendsWithFailures, AreFirst50Lines, AreRefusedFileLines}
 use Rattle.mc_run.specs.RefusalText.{IsRefusalReason, IsRefusedFileLine, IsRefusalText, more_line}
 

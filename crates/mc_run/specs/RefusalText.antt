@@ -13,9 +13,9 @@ use Rattle.mc_files.specs.FilePart.{unread_text}
 use Rattle.mc_input.specs.RefusedFiles.{AreUnreadFilesMissing, AreRefusedFiles, saturating_failures}
 use Rattle.mc_input.specs.RefusedFiles.{refused_files_of, as_judged_file}
 use Rattle.mc_input.specs.RefusedFiles.{unread_count}
-use Rattle.mc_input.specs.declared.each_file.RefusedFile.{RefusedFile}
-use Rattle.mc_input.specs.declared.each_file.Refusal.{Refusal}
-use Rattle.mc_input.specs.declared.each_file.Refusal.TheVariants.{Unread, Fault}
+use Rattle.mc_input.specs.declared.refused_file.RefusedFile.{RefusedFile}
+use Rattle.mc_input.specs.declared.refused_file.Refusal.{Refusal}
+use Rattle.mc_input.specs.declared.refused_file.Refusal.TheVariants.{Unread, Fault}
 use Rattle.mc_explain.specs.RowText.{hex_digit_of}
 use Rattle.mc_run.specs.FaultText.{fault_text, line_of_fault}
 use Rattle.mc_run.specs.LineFront.{line_front}

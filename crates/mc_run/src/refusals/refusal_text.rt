@@ -5,7 +5,7 @@ ghost use Rattle.std.specs.Prelude.{codes, length, map, option_map, unwrap_or};
 ghost use Rattle.std.specs.String.{string_bytes};
 ghost use Rattle.mc_text.specs.Device.{failures_after};
 ghost use Rattle.mc_files.specs.FilePart.{unread_text};
-ghost use Rattle.mc_input.specs.declared.each_file.Refusal.TheVariants.{Fault};
+ghost use Rattle.mc_input.specs.declared.refused_file.Refusal.TheVariants.{Fault};
 ghost use Rattle.mc_run.specs.Failures.{is_write};
 ghost use Rattle.mc_run.specs.RefusalText.{AppendsWithFailures, AreFirst50Lines, AreRefusedFileLines};
 ghost use Rattle.mc_run.specs.RefusalText.{IsFrontText, IsReasonOfFile, IsRefusalReason, IsRefusedFileLine};

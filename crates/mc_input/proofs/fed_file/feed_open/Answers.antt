@@ -1,17 +1,15 @@
-use Rattle.std.proofs.Common.{◌≡◌, ◌+◌, ◌≤◌, ◌++◌, true, length, not, take, ap, ◌∙◌, sym, arith}
+use Rattle.std.proofs.Common.{◌≡◌, ◌+◌, ◌≤◌, ◌++◌, length, take, ap, ◌∙◌, sym, arith}
 use Rattle.std.proofs.Common.{rules, length-take, append_assoc}
-use Rattle.std.specs.Prelude.{is_ok}
 use Rattle.std.proofs.lemmas.List.{length-append}
 use Rattle.mc_text.specs.Bundle.{max_part}
 use Rattle.mc_text.proofs.PartsMeaning.{split-from_Consumes}
-use Rattle.mc_text.proofs.FedPieceLemmas.{result_after-append_piece, fact-from_OnOk}
+use Rattle.mc_text.proofs.FedPieceLemmas.{result_after-append_piece}
 use Rattle.mc_input.proofs.fed_file.feed_open.Goals as goal
 
 pub pieces-preserved : goal.pieces-preserved
 pieces-preserved g c =
     let count = c.in_ok-count.count in
     let piece = take count c.read_piece.new.buffer in
-    let taken : is_ok c.take.result ≡ true = c.is_err.ensures.negation ∙ ap not c.if-is_err.false in
     let long : length piece ≡ count =
     omega (arith, length-take count c.read_piece.new.buffer, c.in_ok-count.ensures.bound) in
     record {
@@ -26,16 +24,17 @@ pieces-preserved g c =
             next.0,
             next.1,
             known.3 ∙ ap (λ l. known.0 ++ l) next.2 ∙ sym (append_assoc known.0 piece next.0),
-            omega (arith, known.4, c.take.ensures.size, length-append known.0 piece),
-            omega (arith, known.5, long, length-append known.0 piece, c.if-count-left.false),
+            omega (arith, known.4, c.feed_piece.ensures.size, length-append known.0 piece),
+            omega (arith, known.5, long, length-append known.0 piece, c.in_ok-left.ensures.left),
             λ more within.
-                let fits : length known.0 + length (piece ++ more) ≤ max_part =
+                let fits : length known.0 + length (piece ++ more) ≤ c.args.limit =
                 omega (arith, within, length-append piece more, length-append known.0 piece) in
                 let room : g.P.PieceReader.size c.pieces.reader + length (piece ++ more) ≤ max_part =
-                omega (arith, fits, known.4) in
+                omega (arith, fits, known.4, c.requires.limit) in
                 result_after-append_piece (g.P.PieceReader.result_after c.args.reader.now)
-                (g.P.PieceReader.result_after c.pieces.reader) (g.P.PieceReader.result_after c.take.new.self)
+                (g.P.PieceReader.result_after c.pieces.reader)
+                (g.P.PieceReader.result_after c.feed_piece.new.reader)
                 known.0 piece more (known.6 (piece ++ more) fits)
-                (fact-from_OnOk c.take.result taken (c.take.ensures.goes_on more room)),
+                (c.in_ok-left.ensures.fed more room),
           );
     }

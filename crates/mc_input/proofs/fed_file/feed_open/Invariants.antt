@@ -1,5 +1,4 @@
 use Rattle.std.proofs.Common.{◌≡◌, ◌+◌, ◌<◌, ◌≤◌, ◌++◌, ℕ, List, Some, length}
-use Rattle.mc_text.specs.Bundle.{max_part}
 use Rattle.mc_input.proofs.fed_file.feed_open.Given as goal
 
 abbrev pub invariant-pieces : goal.invariant-pieces
@@ -10,8 +9,8 @@ invariant-pieces g l = record {
   failures : g.F.FileSource.failed l.files ≡ g.F.FileSource.failed l.fn.files;
   part : (bytes : List ℕ) → g.F.PieceSource.left l.fn.files ≡ Some bytes →
       (done : List ℕ) × (rest : List ℕ) × (g.F.PieceSource.left l.files ≡ Some rest) × (bytes ≡ done ++ rest)
-      × (g.P.PieceReader.size l.reader ≤ length done) × (length done + l.left ≡ max_part)
-      × ((more : List ℕ) → length done + length more ≤ max_part →
+      × (g.P.PieceReader.size l.reader ≤ length done) × (length done + l.left ≡ l.fn.limit)
+      × ((more : List ℕ) → length done + length more ≤ l.fn.limit →
       g.P.PieceReader.result_after l.fn.reader (done ++ more) ≡ g.P.PieceReader.result_after l.reader more);
 }
 

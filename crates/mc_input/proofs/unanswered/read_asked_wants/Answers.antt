@@ -1,24 +1,23 @@
-use Rattle.std.proofs.Common.{◌≡◌, ◌<◌, ◌∙◌, ℕ, List, Some, ap, arith, length, map, refl, rules, subst}
+use Rattle.std.proofs.Common.{◌≡◌, ◌<◌, ◌∙◌, ℕ, List, Some, ap, arith, length, map, rules, subst}
 use Rattle.std.specs.Prelude.{slice_get}
-use Rattle.std.proofs.lemmas.Option.{slice_get_read}
 use Rattle.mc_asked.specs.AskedLines.{asked_lines}
 use Rattle.mc_asked.specs.LanWants.{LanWantsValue}
 use Rattle.mc_asked.specs.ListWants.{Want}
 use Rattle.mc_asked.specs.UnadmittedSoFar.{AreSourcesBelow}
+use Rattle.mc_forward.proofs.IndexLemmas.{slice_get-exists}
 use Rattle.mc_input.proofs.unanswered.read_asked_wants.Goals as goal
 
 pub loop-lan-preserved : goal.loop-lan-preserved
 loop-lan-preserved g c =
     let wants = c.args.wants.now in
     let lan = c.loop-lan.lan in
-    let own = c.index-wants-lan.result in
     let within : lan < length wants = omega (
       arith,
       c.loop-lan-test.true,
       c.loop-lan.invariant.end,
       c.requires.count,
     ) in
-    let own_at = slice_get_read wants (length wants) lan own refl within c.index-wants-lan.is in
+    let own = slice_get-exists wants lan within in
     record {
       room = search rules;
       end = c.loop-lan.invariant.end;
@@ -26,9 +25,9 @@ loop-lan-preserved g c =
       kept = c.take_list.ensures.kept ∙ c.loop-lan.invariant.kept;
       failures = c.in_ok-take_list.ensures.failures ∙ c.loop-lan.invariant.failures;
       sources = λ all a lists contents is are wants_are.
-          c.in_ok-take_list.ensures.sources lists contents (c.loop-lan.invariant.kept ∙ is) are all a
-          (map (λ (line : Want × List ℕ). line.0) c.args.lines.now)
-          (subst (λ (ws : List LanWantsValue). slice_get ws lan ≡ Some own) wants_are own_at)
+          c.in_ok-take_list.ensures.sources own.0 lists contents own.1 (c.loop-lan.invariant.kept ∙ is) are
+          all a (map (λ (line : Want × List ℕ). line.0) c.args.lines.now)
+          (subst (λ (ws : List LanWantsValue). slice_get ws lan ≡ Some own.0) wants_are own.1)
           (c.loop-lan.invariant.sources all a lists contents is are wants_are);
     }
 

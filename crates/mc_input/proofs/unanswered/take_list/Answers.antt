@@ -1,10 +1,13 @@
-use Rattle.std.proofs.Common.{◌≡◌, ◌+◌, List, Some, ap, arith, false, subst}
+use Rattle.std.proofs.Common.{◌≡◌, ◌+◌, ◌∙◌, List, Some, ap, arith, false, length, refl, subst, sym}
 use Rattle.std.specs.Prelude.{slice_get}
+use Rattle.std.proofs.lemmas.Option.{slice_get_read}
 use Rattle.std.proofs.lemmas.Result.{err_from_is_err_and}
 use Rattle.mc_text.specs.Steps.{map_fault}
 use Rattle.mc_igmp.specs.declared.record.Record.{Record}
 use Rattle.mc_files.specs.Layout.{reports_slot}
 use Rattle.mc_files.proofs.SlotLemmas.{slots-reports_slot}
+use Rattle.mc_asked.specs.LanWants.{LanWantsValue}
+use Rattle.mc_asked.specs.UnadmittedSoFar.{AddsLan}
 use Rattle.mc_input.specs.ExcludedRouters.{files_without}
 use Rattle.mc_input.specs.PartsReading.{reports_of}
 use Rattle.mc_input.specs.declared.fault.InputFault.TheVariants.{Reports}
@@ -35,8 +38,12 @@ returns-in_err-list-clause-fault g c = λ lists contents is are.
     here is own.4.made
     (ap (map_fault (Reports own.4.part.name)) own.4.read))
 
+one_own : {x y : LanWantsValue} → Some x ≡ Some y → x ≡ y
+one_own e = cc
+
 pub returns-clause-sources : goal.returns-clause-sources
-returns-clause-sources g c = λ lists contents is are.
+returns-clause-sources g c = λ wanted lists contents at is are.
+    let wants = c.args.wants.now in
     let t = c.args.topology.now in
     let lan = c.args.lan in
     let files = files_without c.args.without.now contents in
@@ -47,8 +54,16 @@ returns-clause-sources g c = λ lists contents is are.
     (λ part small. ap (map_fault (Reports part.name)) (c.new-reader.ensures.reads part.bytes)) here is in
     let list = subst (λ (records : List Record). slice_get lists lan ≡ Some records)
     (same_list-read files own.0 own.2 c.in_ok-list.list own.4 read) own.3 in
-    c.in_ok-add_list.ensures lists lan list
+    let same = one_own (sym (slice_get_read wants (length wants) lan c.index-wants-lan.result refl
+    (omega (arith, c.requires.count, c.requires.lan)) c.index-wants-lan.is) ∙ at) in
+    subst (λ (own : LanWantsValue). AddsLan own c.args.sources.now c.add_list.new.self lists lan) same
+    (c.in_ok-add_list.ensures lists lan list)
 
 pub returns-then-not-needs_list-clause-sources : goal.returns-then-not-needs_list-clause-sources
-returns-then-not-needs_list-clause-sources g c = λ lists contents is are.
-    c.needs_list.ensures.skipped c.if-not-needs_list.true lists c.args.lan
+returns-then-not-needs_list-clause-sources g c = λ wanted lists contents at is are.
+    let wants = c.args.wants.now in
+    let lan = c.args.lan in
+    let same = one_own (sym (slice_get_read wants (length wants) lan c.index-wants-lan.result refl
+    (omega (arith, c.requires.count, c.requires.lan)) c.index-wants-lan.is) ∙ at) in
+    subst (λ (own : LanWantsValue). AddsLan own c.args.sources.now c.args.sources.now lists lan) same
+    (c.needs_list.ensures.skipped c.if-not-needs_list.true lists lan)

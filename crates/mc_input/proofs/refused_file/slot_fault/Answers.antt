@@ -4,7 +4,7 @@ use Rattle.mc_input.specs.RefusedFiles.{IsOwnFaultUnlessMemory, file_fault}
 use Rattle.mc_input.specs.Stream.{files_give}
 use Rattle.mc_input.specs.declared.source_fault.SourceFault.{SourceFault}
 use Rattle.mc_input.proofs.RefusedLemmas.{IsOwnFaultUnlessMemory-of_slot}
-use Rattle.mc_input.proofs.each_file.slot_fault.Goals as goal
+use Rattle.mc_input.proofs.refused_file.slot_fault.Goals as goal
 
 pub returns-clause-fault : goal.returns-clause-fault
 returns-clause-fault g c = λ read slot contents same at is.

@@ -3,7 +3,6 @@
 Version 2 is `{"files": {NAME: {"by": KIND, "of": ROUTER or null, "time": SECONDS, "unchecked": [..]}}, "version": 2}`;
 version 1, which 0.2.0 wrote, has the time of each file alone.
 """
-import calendar
 import dataclasses
 import json
 import os
@@ -55,6 +54,7 @@ def origin_of(value):
 
 def old_origin(name, text):
     """Returns what version 1 says of a file."""
+    import calendar  # (for what 0.2.0 wrote alone)  pylint: disable=import-outside-toplevel
     when = calendar.timegm(time.strptime(text, "%Y-%m-%dT%H:%M:%SZ"))
     prefix = next((it for it in TABLES if name.startswith(it)), None)
     by = COLLECT if prefix else UNKNOWN if name.startswith("igmp-") else OPERATOR

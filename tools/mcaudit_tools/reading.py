@@ -8,8 +8,6 @@ import os
 import time
 
 from mcaudit_tools import answers, facts
-from mcaudit_tools.believed import Beliefs, told_of
-from mcaudit_tools.daemon import SCRIPTS, Daemon
 from mcaudit_tools.programs import RUNNING, run
 
 KEPT = "kept-"  # the folders of tables that held still
@@ -32,11 +30,10 @@ class Collected:
 class Reading:
     """The readings of one router, in a folder of its own."""
 
-    def __init__(self, words, router, folder, devices):
-        """Takes the arguments, the router, the folder, which it makes, and the devices on whose hosts the router's
-        daemon is asked."""
-        self.words, self.router, self.folder = words, router, folder
-        self.beliefs = Beliefs(devices) if devices else None
+    def __init__(self, words, router, folder, beliefs):
+        """Takes the arguments, the router, the folder, which it makes, and what is believed of its interfaces, where
+        its daemon is asked too, or None."""
+        self.words, self.router, self.folder, self.beliefs = words, router, folder, beliefs
         self.sentences, self.deadline, self.time = [], 0.0, 0
         self.daemon, self.shape = None, None
         os.makedirs(folder)
@@ -52,7 +49,7 @@ class Reading:
         script, most = answers.questions(word, tables), answers.MOST_ANSWER
         self.deadline = time.monotonic() + self.words.timeout
         if has_daemon:
-            script, most = script + facts.script(word.encode(), *SCRIPTS), most + facts.MOST_ANSWER
+            script, most = script + self.beliefs.questions(word.encode()), most + facts.MOST_ANSWER
             self.deadline += facts.TAKING
         try:
             with open(path, "wb") as file:
@@ -64,7 +61,7 @@ class Reading:
             with open(path, "rb") as file:
                 fault = answers.Answer(file, word, tables, self.folder, self.deadline).fault()
                 if has_daemon and fault is None:
-                    self.daemon = Daemon(told_of(came, file, word.encode(), self.words.timeout, self.deadline))
+                    self.daemon = self.beliefs.daemon_of(came, file, word.encode(), self.words.timeout, self.deadline)
                     self.deadline = time.monotonic() + facts.TAKING
             return limit or fault if fault else None
         except answers.Late:

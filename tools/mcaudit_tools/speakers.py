@@ -7,11 +7,11 @@ import ipaddress
 import os
 
 from mcaudit_tools import igmp
+from mcaudit_tools.addresses import told_addresses
 from mcaudit_tools.common import Failed
-from mcaudit_tools.draft.told import told_addresses
 from mcaudit_tools.facts import PREFIX
 from mcaudit_tools.files import read_regular
-from mcaudit_tools.premises.reader import read_facts
+from mcaudit_tools.premises.read import read_facts
 from mcaudit_tools.told import UNREADABLE, is_shallow
 
 PIM = 103  # the protocol in IPv4

@@ -28,6 +28,10 @@ class Topology:
     lans: list
     interfaces: list  # (LAN, router, device) each
 
+    def devices_of(self, router):
+        """Returns the devices of a router that are on listed LANs."""
+        return list(dict.fromkeys(device for _, it, device in self.interfaces if it == router))
+
 
 def read_toml(folder, named):
     """Returns the topology of a folder as a table; what is wrong with it is told by the name of the site."""

@@ -14,9 +14,9 @@ import sys
 import time
 
 from mcaudit_tools import audit as audits
-from mcaudit_tools import locks, origins, sets
+from mcaudit_tools import locks, origins
 from mcaudit_tools.ages import Ages
-from mcaudit_tools.common import Failed, Refused, clean, find_tool
+from mcaudit_tools.common import Failed, Refused, clean, find_tool, is_set_name
 from mcaudit_tools.files import failing, printing, read_json, write_beside
 from mcaudit_tools.monitor import metrics, plugin
 from mcaudit_tools.monitor.judged import judged_of
@@ -101,7 +101,7 @@ class Run:
             names = [state["judged"], *state["sets"]]
             if not all(it is None or isinstance(it, int) for it in times):
                 raise ValueError
-            if not all(sets.SET_NAME.fullmatch(it) for it in names if it is not None):
+            if not all(is_set_name(it) for it in names if it is not None):
                 raise ValueError
             self.state = state
         except (Failed, ValueError, KeyError, TypeError, RecursionError):
@@ -229,7 +229,7 @@ class Run:
         folder = f"{self.site}.sets"
         with contextlib.suppress(FileNotFoundError):
             written = {it.name: it.stat().st_mtime for it in os.scandir(folder)
-                       if sets.SET_NAME.fullmatch(it.name) and it.is_dir(follow_symlinks=False)}
+                       if is_set_name(it.name) and it.is_dir(follow_symlinks=False)}
             current = os.path.basename(os.path.realpath(self.site))
             order = [it for it in self.state.get("sets", []) if it in written]
             order += sorted(set(written) - set(order), key=lambda it: (it == current, it))

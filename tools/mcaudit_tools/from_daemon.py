@@ -10,11 +10,13 @@ from mcaudit_tools.believed import (BelievedLan, Options, ask_daemon, ask_told, 
 from mcaudit_tools.common import Ended, Failed, say, tell_lines
 from mcaudit_tools.daemon import Belief
 from mcaudit_tools.gather import finish
-from mcaudit_tools.live import Task, hear
+from mcaudit_tools.listed import Listed
+from mcaudit_tools.live import hear
 from mcaudit_tools.programs import RUNNING, side_by_side
 from mcaudit_tools.session import NoCapture
 from mcaudit_tools.sets import Site
-from mcaudit_tools.speakers import Listed, Speakers
+from mcaudit_tools.speakers import Speakers
+from mcaudit_tools.task import Task
 from mcaudit_tools.topology import check_lans, read_topology
 from mcaudit_tools.ways import SSH, Router
 from mcaudit_tools.window import WRITTEN

@@ -3,7 +3,6 @@
 With them, in the same session, its routing daemon may be asked what hosts ask for, so that both are of one moment. What
 comes of that makes no reading fail.
 """
-import dataclasses
 import os
 import time
 
@@ -13,18 +12,16 @@ from mcaudit_tools.programs import RUNNING, run
 KEPT = "kept-"  # the folders of tables that held still
 
 
-@dataclasses.dataclass
 class Collected:
     """What came of a router: why it is missing, or where its tables are."""
 
-    fault: "str | None" = None
-    sentences: list = dataclasses.field(default_factory=list)  # what the way to it said
-    line: str = ""
-    folder: str = ""
-    time: int = 0
-    facts_time: int = 0
-    identity: "bytes | None" = None  # the boot and the network namespace, where the router says them
-    beliefs: dict = dataclasses.field(default_factory=dict)  # what its daemon believes, by device
+    def __init__(self, fault=None, sentences=(), line="", folder="", when=0):
+        """Takes why it is missing, or None; what the way to it said; the line that is printed of it; and the folder of
+        its tables, and when they were read."""
+        self.fault, self.sentences, self.line, self.folder, self.time = fault, sentences, line, folder, when
+        self.facts_time = 0
+        self.identity = None  # the boot and the network namespace, where the router says them
+        self.beliefs = {}  # what its daemon believes, by device
 
 
 class Reading:
@@ -114,7 +111,7 @@ class Reading:
         for table in answers.TABLES:
             os.rename(os.path.join(self.folder, table), os.path.join(folder, table))
         return None, Collected(line=f"vifs {vifs}, rows {rows}, readings {count}, {order}", folder=folder,
-                               time=self.time)
+                               when=self.time)
 
     def ask_more(self, found):
         """Asks for what goes beyond the three tables, which a key that is restricted to them doesn't answer."""

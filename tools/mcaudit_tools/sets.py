@@ -19,7 +19,7 @@ from mcaudit_tools.files import copy, failing, open_folder, replace_link, sync_f
 from mcaudit_tools.programs import RUNNING
 
 SCRATCH = ".reading."  # what the folders are called in which sets are made
-OLD_SCRATCH = re.compile(r"\.reading\.[0-9]+")  # of 0.2.0, which locked none
+OLD_SCRATCH = r"\.reading\.[0-9]+"  # of 0.2.0, which locked none
 STALE = 3600  # seconds after which one of those is nobody's
 MOST_LINKS = 40  # that are followed from a name of a site to it
 NOT_CARRIED = origins.FILE, "audit.json"
@@ -94,7 +94,7 @@ class Site:
         for entry in list(os.scandir(self.sets)):
             if not entry.name.startswith(SCRATCH) or not entry.is_dir(follow_symlinks=False):
                 continue
-            if OLD_SCRATCH.fullmatch(entry.name) and is_young(entry.path):
+            if re.fullmatch(OLD_SCRATCH, entry.name) and is_young(entry.path):
                 continue
             with contextlib.suppress(FileNotFoundError), open_folder(entry.path) as opened:  # its run may end now
                 if locks.try_lock(opened):

@@ -7,7 +7,7 @@ import dataclasses
 import json
 
 from mcaudit_tools import audit as audits
-from mcaudit_tools import changes, conf, diff
+from mcaudit_tools import changes, diff
 from mcaudit_tools.common import Failed, Parser, Wrong, clean_lines, find_tool, printable
 from mcaudit_tools.files import printing
 from mcaudit_tools.programs import run
@@ -70,7 +70,7 @@ def audit_twice(words, copy, confs, made):
         if it.verb in changes.OF_FLOWS:
             copy.apply(it)
     for one in confs:
-        unaudited, on_demand = conf.apply(copy, one, words.conf_root)
+        unaudited, on_demand = one.apply(copy, words.conf_root)
         tried.unaudited += unaudited
         tried.assumed += [f"{it}: entries that come on demand are audited as if they were there" for it in on_demand]
     for it in made:
@@ -125,7 +125,10 @@ def main():
     """Tries the changes. Returns the status."""
     words = read_arguments()
     made = changes.read_changes(words.changes, words.f or ())
-    confs = conf.parse_all(words.conf or ())
+    confs = []
+    if words.conf:
+        from mcaudit_tools.conf import parse_all  # (for --conf alone)  pylint: disable=import-outside-toplevel
+        confs = parse_all(words.conf)
     if not made and not confs:
         raise Wrong("no change is given")
     if words.page is not None:

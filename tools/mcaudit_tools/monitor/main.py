@@ -9,7 +9,6 @@ import contextlib
 import json
 import os
 import re
-import shutil
 import sys
 import time
 
@@ -30,7 +29,7 @@ MOST_STATE = 1 << 20  # bytes of what is kept
 GRACE = 5  # seconds that what it runs has to end what that began
 YOUNG = 600  # seconds in which no set is removed
 NEWEST = 4  # sets that are never removed: of so many the counters say whether packets flow
-FAULT_CHANGE = re.compile(r"flow \S+ \S+: (new fault: |fault gone: |fault .*, was )")  # as mcaudit-diff tells it
+FAULT_CHANGE = r"flow \S+ \S+: (new fault: |fault gone: |fault .*, was )"  # as mcaudit-diff tells it
 
 
 class Busy(Failed):
@@ -243,6 +242,7 @@ class Run:
 
     def remove(self, folder, name):
         """Removes a set, which is none from the first moment on."""
+        import shutil  # (for --keep alone)  pylint: disable=import-outside-toplevel
         gone = f"{folder}/.removed"
         with failing(f"{folder}/{name} can't be removed"):
             with contextlib.suppress(FileNotFoundError):
@@ -258,7 +258,7 @@ class Run:
             self.state.update(last_success=now, judged=os.path.basename(self.folder))
             if self.count:
                 self.state["last_change"] = now
-            if any(map(FAULT_CHANGE.match, self.changes or ())):
+            if any(re.match(FAULT_CHANGE, it) for it in self.changes or ()):
                 self.state["last_fault_change"] = now
 
     def keep_state(self):

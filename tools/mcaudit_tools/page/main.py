@@ -8,7 +8,6 @@ from mcaudit_tools import audit as audits
 from mcaudit_tools.common import Parser, find_tool
 from mcaudit_tools.page.answer import read_audit, run_audit
 from mcaudit_tools.page.graph import Graph, roots_of
-from mcaudit_tools.page.plans import read_plans
 from mcaudit_tools.page.remarks import Folder
 from mcaudit_tools.page.render import page_of
 from mcaudit_tools.page.write import write_page
@@ -57,6 +56,7 @@ def main():
     folder = None if words.site is None else Folder(words.site)
     audit = read_audit(words.audit) if words.audit is not None else run_audit(words, folder)
     if words.plan is not None:
+        from mcaudit_tools.page.plans import read_plans  # (for --plan alone)  pylint: disable=import-outside-toplevel
         audit.plans = read_plans(words.plan, audit)
     graph = Graph(audit.domain, roots_of(audit))
     page = page_of(audit, graph if graph.lay_out() else None, folder)

@@ -12,7 +12,7 @@ from mcaudit_tools import ways
 from mcaudit_tools.ages import Ages
 from mcaudit_tools.common import Failed, Parser, find_tool
 from mcaudit_tools.files import printing
-from mcaudit_tools.premises import counted, domain, judge, text, watch
+from mcaudit_tools.premises import counted, domain, judge, text
 from mcaudit_tools.premises.findings import BAD, counts_of
 
 PAUSES = "1,5,1"
@@ -100,6 +100,7 @@ def read_counters(words, folder, answer):
     """Returns what the counters say: of four readings now, or of the last four sets."""
     if words.watch is None:
         return counted.of_sets(answer, words.site, folder)
+    from mcaudit_tools.premises import watch  # (for --watch alone)  pylint: disable=import-outside-toplevel
     return watch.watched(words, answer)
 
 

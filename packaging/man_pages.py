@@ -18,6 +18,7 @@ TOP = os.path.join(os.path.dirname(os.path.abspath(__file__)), "..")
 TOOLS = os.path.join(TOP, "tools")
 sys.path.insert(0, TOOLS)
 from mcaudit_tools.common import PROGRAM  # noqa: E402 pylint: disable=wrong-import-position
+from mcaudit_tools.start import module_of  # noqa: E402 pylint: disable=wrong-import-position
 
 
 class Caught(Exception):
@@ -35,10 +36,10 @@ argparse.ArgumentParser.parse_intermixed_args = catch  # type: ignore
 
 def parser_of(tool):
     """Returns what reads the arguments of a tool."""
-    module_name = "mcaudit_tools." + tool.removeprefix("mcaudit-")
+    name = tool.removeprefix("mcaudit-")
     PROGRAM.name = tool
-    if importlib.util.find_spec(module_name):
-        read = importlib.import_module(module_name).read_arguments
+    if importlib.util.find_spec(f"mcaudit_tools.{name}"):
+        read = module_of(name).read_arguments
     else:
         loader = importlib.machinery.SourceFileLoader("alone", os.path.join(TOOLS, tool))
         module = importlib.util.module_from_spec(importlib.util.spec_from_loader("alone", loader))

@@ -19,10 +19,10 @@ from ended import status_of  # noqa: E402
 from mcaudit_tools import origins  # noqa: E402
 from mcaudit_tools.ages import Ages  # noqa: E402
 from mcaudit_tools.premises import basis  # noqa: E402
+from mcaudit_tools.premises.counters import Counters  # noqa: E402
 from mcaudit_tools.premises.domain import Domain  # noqa: E402
 from mcaudit_tools.premises.findings import (DROPS, LOST, MORE, NONE_COMES, NOT_KNOWN, STRANGERS,  # noqa: E402
                                              Finding)
-from mcaudit_tools.premises.windows import Counters  # noqa: E402
 
 NOW = 1_800_000_000
 TEN = [f"r{it}" for it in range(1, 11)]

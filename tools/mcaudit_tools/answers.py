@@ -4,10 +4,8 @@ as they are told to be.
 A router is asked by a shell script that holds a random word, which no greeting has. The lines that begin with the word
 are believed; where a table goes is made of our own name of it.
 """
-import hashlib
 import os
 import re
-import secrets
 import shlex
 import time
 
@@ -48,7 +46,7 @@ class Late(Failed):
 
 def random_word():
     """Returns a word that nobody can know before."""
-    return f"mcaudit-{secrets.token_hex(16)}"
+    return f"mcaudit-{os.urandom(16).hex()}"
 
 
 def questions(word, tables):
@@ -132,6 +130,8 @@ def lines_of(path, deadline):
 
 def shape_of(folder, deadline):
     """Returns a digest of what has to hold still of a router's tables: all but the counters."""
+    # (OpenSSL is loaded with it, and whoever takes only an answer apart needs no digest)
+    import hashlib  # pylint: disable=import-outside-toplevel
     digest = hashlib.sha256()
     for line in lines_of(os.path.join(folder, "ip_mr_vif"), deadline):
         fields = line.split()

@@ -3,7 +3,6 @@ import os
 
 from mcaudit_tools import igmp
 from mcaudit_tools.common import Refused
-from mcaudit_tools.flows import FlowText
 from mcaudit_tools.rewrite import CLOSED, Entry, ReportList
 
 
@@ -165,6 +164,8 @@ def join_or_leave(copy, change):
 def flow(copy, change):
     """Changes the time to live of a flow in the topology, or adds a flow."""
     pairs = [it[:2] for it in copy.flows]
+    # (its expressions take long to be compiled, and most changes are of entries)
+    from mcaudit_tools.flows import FlowText  # pylint: disable=import-outside-toplevel
     pair, text = (change.source, change.group), copy.file("topology", FlowText)
     if change.verb == "new":
         if pair in pairs:

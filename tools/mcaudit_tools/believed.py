@@ -58,6 +58,16 @@ class Beliefs:
         self.devices, self.last, self.count = devices, None, 0
         self.found = {}
 
+    @staticmethod
+    def questions(word):
+        """Returns what asks the daemon on the router, whose answer begins with the word."""
+        return script(word, *SCRIPTS)
+
+    @staticmethod
+    def daemon_of(came, answer, word, seconds, until):
+        """Returns the daemon that the rest of an open answer tells of, which had so many seconds."""
+        return Daemon(told_of(came, answer, word, seconds, until))
+
     def take(self, daemon):
         """Takes a reading. Returns whether it believes of each interface what the one before did."""
         now, self.count = {it: daemon.belief(it) for it in self.devices}, self.count + 1
@@ -280,11 +290,6 @@ def lans_of(topology, options_of):
     """Returns all LANs, each with the interfaces that the topology has on it."""
     return [BelievedLan(name, [(router, device) for lan, router, device in topology.interfaces if lan == name],
                         options_of(name)) for name in dict.fromkeys(topology.lans)]
-
-
-def devices_of(topology, router):
-    """Returns the devices of a router that are on listed LANs."""
-    return list(dict.fromkeys(device for _, it, device in topology.interfaces if it == router))
 
 
 def by_place(beliefs):

@@ -13,10 +13,7 @@ import sys
 import threading
 
 from mcaudit_tools import answers, facts, origins, topology, ways
-from mcaudit_tools.believed import Options, by_place, devices_of, judge_until, lans_of
 from mcaudit_tools.common import Ended, Failed, Parser, Wrong, printable, say, tell_lines
-from mcaudit_tools.daemon import Belief
-from mcaudit_tools.gather import files_of, tell_empty
 from mcaudit_tools.programs import RUNNING, side_by_side
 from mcaudit_tools.reading import Collected, Reading
 from mcaudit_tools.sets import Site
@@ -113,10 +110,10 @@ def take_words(parser, found):
 class Collection:
     """All routers, collected side by side: once, or where lists are held back once more."""
 
-    def __init__(self, words, scratch, listed):
-        """Takes the arguments, the folder in which the set is made, and what the topology lists, where that is
-        needed."""
-        self.words, self.scratch, self.listed, self.count, self.found = words, scratch, listed, 0, {}
+    def __init__(self, words, scratch):
+        """Takes the arguments, and the folder in which the set is made."""
+        self.words, self.scratch, self.count, self.found = words, scratch, 0, {}
+        self.beliefs_of = lambda name: None  # what is believed of a router's interfaces, where its daemon is asked too
 
     def collect(self):
         """Collects all routers."""
@@ -128,9 +125,9 @@ class Collection:
 
     def collect_router(self, router, folder):
         """Collects one router, and prints what came of it."""
-        devices = devices_of(self.listed, router.name) if self.listed else []
         with self.words.site.failing():
-            found = Reading(self.words, router, os.path.join(folder, router.name), devices).collect()
+            own = os.path.join(folder, router.name)
+            found = Reading(self.words, router, own, self.beliefs_of(router.name)).collect()
         if RUNNING.ended.is_set():
             raise Ended
         if found.fault:
@@ -141,23 +138,10 @@ class Collection:
             show(self.words, f"{router.name}: {found.line}")
         return found
 
-    def beliefs(self):
-        """Collects all routers. Returns what their daemons believe, by router and device."""
-        self.collect()
-        missing = Belief(reason="its tables were not collected")
-        return by_place({name: one.beliefs if not one.fault else dict.fromkeys(devices_of(self.listed, name), missing)
-                         for name, one in self.found.items()})
-
-    def lists(self):
-        """Collects all routers, and makes the lists of their LANs. Returns the LANs."""
-        names = self.words.empty_lan or ()
-        lans = lans_of(self.listed, lambda name: Options(name in names, f"--empty-lan {name}", is_named=name in names))
-        judge_until(lans, self.words.site.folder(), self.beliefs)
-        for lan in lans:
-            with self.words.site.failing(), PRINTING:
-                tell_lines(lan.name, [*lan.answers, *lan.sentences], lan.answers)
-        tell_empty("--empty-lan", [it.name for it in lans if it.list.is_decided])
-        return lans
+    def tell(self, name, sentences, answers):
+        """Tells what is so of a LAN, and the sentences that are answers as such."""
+        with self.words.site.failing(), PRINTING:
+            tell_lines(name, sentences, answers)
 
 
 def show(words, line):
@@ -214,13 +198,14 @@ def unlisted_of(words, folder):
     return [it.name for it in words.all if listed and it.name not in listed]
 
 
-def publish(words, found, lans, scratch):
-    """Makes the new set. Returns whether all routers are in it, and in its topology."""
+def publish(words, found, lists, scratch):
+    """Makes the new set, with the lists that are written into a folder by a call. Returns whether all routers are in
+    it, and in its topology."""
     missing = [name for name, one in found.items() if one.fault]
     count = f"{len(words.all) - len(missing)} of {len(words.all)} routers collected"
     replaced = (*(f"{FILES[it]}-" for it in tables_of(words)), *(facts.PREFIXES if words.facts else ()))
     with words.site.failing():
-        files = {**new_files(words, found), **files_of(lans, scratch)}
+        files = {**new_files(words, found), **lists(scratch)}
     folder = words.site.publish(files, lambda it: it.startswith(replaced), scratch,
                                 lambda folder: show(words, f"{count}: {folder}"))
     if missing:
@@ -242,9 +227,11 @@ def main():
             words.site.adopt(scratch)
         if not words.all:
             return 0
-        listed = topology.read_topology(words.site.folder(), words.site.path) if words.from_daemon else None
-        if listed:
-            topology.check_lans(listed, {"--empty-lan": words.empty_lan})
-        collection = Collection(words, scratch, listed)
-        lans = collection.lists() if listed else collection.collect() or []
-        return 0 if publish(words, collection.found, lans, scratch) else 1
+        collection, lists = Collection(words, scratch), lambda folder: {}
+        if words.from_daemon:
+            # (what makes a list of a daemon's answers takes longer to load than all else)
+            from mcaudit_tools import collect_lists  # pylint: disable=import-outside-toplevel
+            lists = collect_lists.collect(collection)
+        else:
+            collection.collect()
+        return 0 if publish(words, collection.found, lists, scratch) else 1

@@ -2,7 +2,6 @@
 import argparse
 import os
 import re
-import shutil
 import sys
 import types
 
@@ -97,6 +96,11 @@ def is_name(text):
     return isinstance(text, str) and NAME.fullmatch(text) is not None and text not in (".", "..")
 
 
+def is_set_name(text):
+    """Whether the text is the name of a set, which is the time at which it was made."""
+    return re.fullmatch(r"\d{8}T\d{6}Z", text, re.ASCII) is not None
+
+
 def name_fault(text):
     """Returns what is wrong with the name of a router, or None."""
     if not re.fullmatch(r"[A-Za-z0-9_.-]+", text):
@@ -109,8 +113,10 @@ def name_fault(text):
 def find_tool(name, about=""):
     """Returns the path of a tool, which lies beside the one that runs or on the path. Where it is missing, that is told
     with what is said about it."""
-    beside = os.path.join(os.path.dirname(os.path.realpath(sys.argv[0])), name)
-    found = beside if os.access(beside, os.X_OK) else shutil.which(name)
+    found = os.path.join(os.path.dirname(os.path.realpath(sys.argv[0])), name)
+    if not os.access(found, os.X_OK):
+        import shutil  # (what it compresses by is loaded with it)  pylint: disable=import-outside-toplevel
+        found = shutil.which(name)
     if not found:
         raise Failed(f"there is no {name} beside this program or on the path{about}")
     return found

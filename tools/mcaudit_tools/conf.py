@@ -32,6 +32,30 @@ class Given:
     router: str
     path: str
 
+    def apply(self, copy, root):
+        """Gives the router in the copy the vifs and entries that smcrouted makes of the file. Returns what isn't
+        audited, and the lines whose entries come on demand."""
+        router = self.router
+        if router not in copy.first.orders:
+            raise Refused(f"--conf {router}={self.path}: the topology has no router {router}")
+        vifs, cache = copy.vifs(router), copy.cache(router)
+        before = {number: it for number, it in vifs.vifs.items() if it.is_link}
+        daemon, lans = daemon_of(copy, self, root, before)
+        entries, on_demand = daemon.entries_of(copy.flows)
+        locals_of = {it.device: vifs.lines[it.place].split()[7] for it in before.values()}
+        for table in (vifs, cache):
+            table.clear()
+        for device, (number, threshold) in sorted(daemon.vifs.items(), key=lambda it: it[1]):
+            name = os.fsencode(device)
+            vifs.add(number, name, locals_of.get(name, EVERY))
+            cache.thresholds[number] = threshold
+        for pair, entry in entries.items():
+            cache.put(*pair, Entry(entry.vif, {vif: it for vif, it in entry.outgoing.items() if it < CLOSED}))
+        copy.changing(f"vif-{router}")
+        copy.changing(f"cache-{router}")
+        join(copy, daemon.joins, lans)
+        return [f"{router}: {it}" for it in daemon.unaudited], [f"{router}: {it}" for it in on_demand]
+
 
 @dataclasses.dataclass
 class Range:
@@ -259,31 +283,6 @@ def daemon_of(copy, given, root, before):
     for line, words in lines:
         daemon.take(line, words)
     return daemon, lans
-
-
-def apply(copy, given, root):
-    """Gives a router of the copy the vifs and entries that smcrouted makes of a file. Returns what isn't audited, and
-    the lines whose entries come on demand."""
-    router = given.router
-    if router not in copy.first.orders:
-        raise Refused(f"--conf {router}={given.path}: the topology has no router {router}")
-    vifs, cache = copy.vifs(router), copy.cache(router)
-    before = {number: it for number, it in vifs.vifs.items() if it.is_link}
-    daemon, lans = daemon_of(copy, given, root, before)
-    entries, on_demand = daemon.entries_of(copy.flows)
-    locals_of = {it.device: vifs.lines[it.place].split()[7] for it in before.values()}
-    for table in (vifs, cache):
-        table.clear()
-    for device, (number, threshold) in sorted(daemon.vifs.items(), key=lambda it: it[1]):
-        name = os.fsencode(device)
-        vifs.add(number, name, locals_of.get(name, EVERY))
-        cache.thresholds[number] = threshold
-    for pair, entry in entries.items():
-        cache.put(*pair, Entry(entry.vif, {vif: it for vif, it in entry.outgoing.items() if it < CLOSED}))
-    copy.changing(f"vif-{router}")
-    copy.changing(f"cache-{router}")
-    join(copy, daemon.joins, lans)
-    return [f"{router}: {it}" for it in daemon.unaudited], [f"{router}: {it}" for it in on_demand]
 
 
 def join(copy, joins, lans):

@@ -3,7 +3,6 @@
 An audit is a folder, which `mcaudit audit --json --unlisted` judges, or a file of what that printed. Ways are
 compared by LANs, routers and devices: the numbers of vifs change as a routing daemon starts anew.
 """
-import dataclasses
 import ipaddress
 import json
 import os
@@ -29,17 +28,17 @@ Examples:
   mcaudit audit --json --unlisted site > today; mcaudit-diff yesterday today"""
 
 
-@dataclasses.dataclass
 class Audit:
     """What an audit says."""
-    devices: "dict | None" = None  # by router and vif
-    ways: dict = dataclasses.field(default_factory=dict)  # by tree: what `sender` says of each LAN
-    flows: dict = dataclasses.field(default_factory=dict)  # by source and group
-    unlisted: dict = dataclasses.field(default_factory=dict)  # by group and source: routers
-    wants: Wants = dataclasses.field(default_factory=Wants)
-    excluded: list = dataclasses.field(default_factory=list)
-    is_whole: bool = True  # whether it tells all pairs that are no flow's
-    verdict: "str | None" = None
+
+    def __init__(self):
+        """Begins with nothing."""
+        self.devices = None  # by router and vif
+        self.ways = {}  # by tree: what `sender` says of each LAN
+        self.flows = {}  # by source and group
+        self.unlisted = {}  # by group and source: routers
+        self.wants, self.excluded, self.verdict = Wants(), [], None
+        self.is_whole = True  # whether it tells all pairs that are no flow's
 
     def take(self, line):
         """Takes one line."""

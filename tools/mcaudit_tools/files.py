@@ -3,9 +3,7 @@ import contextlib
 import errno
 import json
 import os
-import shutil
 import stat
-import tempfile
 
 from mcaudit_tools.common import Failed
 
@@ -110,6 +108,7 @@ def copy(path, target, named):
     if os.path.islink(path):
         os.symlink(os.readlink(path), target)
     elif stat.S_ISDIR(kind):
+        import shutil  # pylint: disable=import-outside-toplevel
         shutil.copytree(path, target, symlinks=True, copy_function=copy_file)
     else:
         copy_file(path, target, named)
@@ -119,6 +118,7 @@ def copy_file(path, target, named=None):
     """Copies a file, of a folder or of this name, which is a regular one: what is none may have no end."""
     if not stat.S_ISREG(os.lstat(path).st_mode):
         raise Failed(f"{named or path} is not a regular file")
+    import shutil  # pylint: disable=import-outside-toplevel
     shutil.copy2(path, target)
 
 
@@ -131,6 +131,8 @@ def printing():
 def beside(path, mode=None, is_new=False):
     """Gives a file beside the path, or what a link there leads to, to be written. At the end it is put on the disk and
     renamed; where anything fails, the path stays as it was, and nothing is left. Nothing may be there of a new one."""
+    # (it and shutil, with which come all compressors, are loaded by whoever writes or copies a file)
+    import tempfile  # pylint: disable=import-outside-toplevel
     folder, name = os.path.split(path if is_new else os.path.realpath(path))
     with failing(f"{path} can't be written"):
         opened, made = tempfile.mkstemp(prefix=f".{name[:80]}.", dir=folder)

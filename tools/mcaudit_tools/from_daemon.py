@@ -5,16 +5,18 @@ import os
 
 from mcaudit_tools import bridge as bridges
 from mcaudit_tools import origins
-from mcaudit_tools.believed import (BelievedLan, Options, ask_daemon, ask_told, ask_until_still, by_place, devices_of,
-                                    judge_until, lans_of)
+from mcaudit_tools.believed import (BelievedLan, Options, ask_daemon, ask_told, ask_until_still, by_place, judge_until,
+                                    lans_of)
 from mcaudit_tools.common import Ended, Failed, say, tell_lines
 from mcaudit_tools.daemon import Belief
 from mcaudit_tools.gather import finish
-from mcaudit_tools.live import Task, hear
+from mcaudit_tools.listed import Listed
+from mcaudit_tools.live import hear
 from mcaudit_tools.programs import RUNNING, side_by_side
 from mcaudit_tools.session import NoCapture
 from mcaudit_tools.sets import Site
-from mcaudit_tools.speakers import Listed, Speakers
+from mcaudit_tools.speakers import Speakers
+from mcaudit_tools.task import Task
 from mcaudit_tools.topology import check_lans, read_topology
 from mcaudit_tools.ways import SSH, Router
 from mcaudit_tools.window import WRITTEN
@@ -88,7 +90,7 @@ def gather_all(words):
         words.empty or name in (words.empty_lan or ()), f"--empty-lan {name}", words.statics.get(name, []),
         name in (words.empty_lan or ())))
     folder = site.folder()
-    devices = {it: devices_of(topology, it) for it in topology.routers}
+    devices = {it: topology.devices_of(it) for it in topology.routers}
     judge_until(lans, folder, lambda: ask_routers(words, devices))
     heard = hear_transit(words, lans)
     listed = Listed(folder, topology.routers)

@@ -1,4 +1,4 @@
-"""The lists of all LANs of a site, gathered side by side, and how lists come into a site."""
+"""The lists of all LANs of a site, gathered side by side, and how they come into it."""
 import contextlib
 import os
 import resource
@@ -7,35 +7,20 @@ import time
 
 from mcaudit_tools import origins
 from mcaudit_tools.common import Ended, Failed, say, tell_lines
-from mcaudit_tools.files import beside, write_beside
-from mcaudit_tools.live import Task, capture_list
+from mcaudit_tools.files import beside
+from mcaudit_tools.listed import Listed
+from mcaudit_tools.live import capture_list
 from mcaudit_tools.programs import RUNNING
 from mcaudit_tools.session import NoCapture
-from mcaudit_tools.sets import Site, record, site_of
-from mcaudit_tools.speakers import Listed, Speakers
-from mcaudit_tools.topology import check_lans, read_routers, read_topology
+from mcaudit_tools.sets import Site, record
+from mcaudit_tools.speakers import Speakers
+from mcaudit_tools.task import Task
+from mcaudit_tools.topology import check_lans, read_topology
 from mcaudit_tools.window import NO_LIST, WRITTEN, List
 from mcaudit_tools.ways import SSH
 
 A_SECOND = 10  # LANs that are begun in a second
 MOST_FILES = 8192  # that are open at a time
-
-
-def text_of(messages):
-    """Returns the text of a list."""
-    return b"".join(it.hex().encode() + b"\n" for it in messages)
-
-
-def write_list(path, data, origin):
-    """Writes a list into its file: in a site under the lock of whoever makes sets, and with where it comes from."""
-    folder = os.path.dirname(path)
-    site = site_of(folder)
-    if site is None:
-        write_beside(path, data)
-        return
-    with site.writing():
-        write_beside(path, data)
-        record(folder, {os.path.basename(path): origin})
 
 
 class Lan:
@@ -136,7 +121,7 @@ def files_of(lans, folder):
     for lan in (it for it in lans if it.list.status == WRITTEN):
         path = os.path.join(folder, f"igmp-{lan.name}")
         with open(path, "wb") as file:
-            file.write(text_of(lan.list.messages))
+            file.write(lan.list.text())
         new[f"igmp-{lan.name}"] = path, lan.origin()
     return new
 
@@ -152,7 +137,7 @@ def publish(site, lans, scratch):
     with site.writing():
         for lan in whole:
             with beside(os.path.join(site.path, f"igmp-{lan.name}")) as file:
-                file.write(text_of(lan.list.messages))
+                file.write(lan.list.text())
         record(site.path, {f"igmp-{it.name}": it.origin() for it in whole})
 
 
@@ -188,22 +173,6 @@ def gather_all(words):
     if unknown:
         say(unknown)
     return finish(site, lans)
-
-
-def tell_strangers(words, task):
-    """Names who speaks as a multicast router and is no listed one, where the list goes into a site that says which
-    are."""
-    site = site_of(os.path.dirname(words.o)) if words.o else None
-    if site is None or not os.path.lexists(os.path.join(site.folder(), "topology")):
-        return
-    try:
-        listed = Listed(site.folder(), read_routers(site.folder(), site.path))
-    except Failed as fault:
-        say(f"whether all who speak as multicast routers are listed isn't known: {fault}")
-        return
-    unknown = listed.sentence([(words.device or "the LAN", task.speakers, task.own)])
-    for sentence in [unknown] * bool(unknown) if listed.missing else task.speakers.sentences(listed, task.own):
-        say(sentence)
 
 
 def finish(site, lans):

@@ -1,6 +1,4 @@
 """One LAN's list, gathered from a capture that goes on: on an interface here, or on a router."""
-import argparse
-import dataclasses
 import ipaddress
 import re
 import shlex
@@ -12,40 +10,12 @@ from mcaudit_tools.common import Failed, find_tool
 from mcaudit_tools.files import PIECE
 from mcaudit_tools.programs import run
 from mcaudit_tools.session import NoCapture, Session
-from mcaudit_tools.window import NO_LIST, REFUSED, SPOILT, Gathering, List, Rules, list_of
+from mcaudit_tools.window import NO_LIST, REFUSED, SPOILT, Gathering, List
 
 QUERY_SECONDS = 30  # in which the queries of --ask have to be sent
 ANSWERS_SECONDS = 10  # that the answers to them have
 MARGIN = 0.5  # seconds for what is on its way
 MOST_HELD = 65_536  # frames that come while it is asked
-
-
-@dataclasses.dataclass
-class Task:
-    """One list: where it is gathered, what it has besides, and what tells a person of it."""
-
-    words: argparse.Namespace
-    shell: list
-    device: "str | None"
-    statics: list
-    say: object
-    is_empty_allowed: bool = False
-    empty_option: str = "--empty"
-    is_asking: bool = False
-    others: "int | None" = None  # routers that lie on the LAN, where nothing is asked for their sake
-    speakers: object = None  # takes all that is heard, beside the list
-    own: set = dataclasses.field(default_factory=set)  # gets the addresses by which it is asked
-
-    def rules(self, networks, is_live):
-        """Returns what queries count."""
-        given = self.words.networks
-        known = [*(networks or ()), *given] if networks is not None or given else None
-        return Rules(known, self.words.queriers, self.words.slack * capture.SECOND, self.words.queries, is_live,
-                     self.words.fold)
-
-    def list_of(self, gathering):
-        """Makes the list of what was gathered."""
-        return list_of(gathering, self.statics, self.is_empty_allowed, self.empty_option)
 
 
 class Live:

@@ -3,8 +3,6 @@
 Version 2 is `{"files": {NAME: {"by": KIND, "of": ROUTER or null, "time": SECONDS, "unchecked": [..]}}, "version": 2}`;
 version 1, which 0.2.0 wrote, has the time of each file alone.
 """
-import calendar
-import dataclasses
 import json
 import os
 import re
@@ -17,7 +15,7 @@ FILE = "collected.json"
 MOST_BYTES = 16 << 20
 TABLES = "vif-", "cache-", "address-", "route-"
 MOST_SECONDS = 1 << 40
-OLD_TIME = re.compile(r"\d{4}-\d\d-\d\dT\d\d:\d\d:\d\dZ", re.ASCII)  # as version 1 has it
+OLD_TIME = r"\d{4}-\d\d-\d\dT\d\d:\d\d:\d\dZ"  # as version 1 has it
 AHEAD = 60  # seconds that a time may be later than now
 CHANGED = 2  # seconds that a file may be newer than its time says
 COLLECT, CAPTURE, STATIC, OPERATOR = "collect", "capture", "static", "operator"
@@ -26,15 +24,12 @@ DAEMON, BRIDGE = "daemon", "bridge"  # of lists that a router's routing daemon o
 NOT_ASKED = "hosts"  # unchecked of a list that is empty because no router asks the hosts of its LAN
 
 
-@dataclasses.dataclass
 class Origin:
     """Where a file comes from: what made it, on which router, when, and what could not be checked of it."""
 
-    by: str
-    of: "str | None"
-    time: int
-    unchecked: list = dataclasses.field(default_factory=list)
-    is_timed: bool = True  # the file was given that time
+    def __init__(self, by, of, time, unchecked=(), is_timed=True):
+        """Takes all of it, and whether the file was given that time."""
+        self.by, self.of, self.time, self.unchecked, self.is_timed = by, of, time, list(unchecked), is_timed
 
 
 class Unknown(Failed):
@@ -55,6 +50,7 @@ def origin_of(value):
 
 def old_origin(name, text):
     """Returns what version 1 says of a file."""
+    import calendar  # (for what 0.2.0 wrote alone)  pylint: disable=import-outside-toplevel
     when = calendar.timegm(time.strptime(text, "%Y-%m-%dT%H:%M:%SZ"))
     prefix = next((it for it in TABLES if name.startswith(it)), None)
     by = COLLECT if prefix else UNKNOWN if name.startswith("igmp-") else OPERATOR
@@ -76,7 +72,7 @@ def parse(path):
             raise ValueError
         if found["version"] == 1:
             return {name: old_origin(name, it) for name, it in found["files"].items()
-                    if isinstance(it, str) and OLD_TIME.fullmatch(it)}
+                    if isinstance(it, str) and re.fullmatch(OLD_TIME, it, re.ASCII)}
         return {name: origin_of(it) for name, it in found["files"].items()}
     except (ValueError, KeyError, TypeError, AttributeError, RecursionError, OverflowError) as fault:
         raise Unknown("it is none that a tool wrote") from fault

@@ -3,9 +3,7 @@
 A signal that ends the tool raises `Ended` in its main thread, never between the fork of a program and the moment from
 which that program can be ended; whatever still runs at the end of the tool is ended with all that it began.
 """
-import concurrent.futures
 import contextlib
-import dataclasses
 import os
 import selectors
 import signal
@@ -22,15 +20,14 @@ TURN = 0.5  # seconds after which a thread that runs one looks whether the tool 
 MOST_WORDS = 4096  # bytes that are kept of what a program says
 
 
-@dataclasses.dataclass
 class Came:
     """What came of a program: its status, what it printed where that was kept, and the first of what it said."""
 
-    status: int
-    printed: bytes
-    words: bytes
-    is_late: bool = False  # it was ended, since its time was over
-    is_long: bool = False  # it was ended, since it printed too much
+    def __init__(self):
+        """Begins with nothing."""
+        self.status, self.printed, self.words = 0, b"", b""
+        self.is_late = False  # it was ended, since its time was over
+        self.is_long = False  # it was ended, since it printed too much
 
     def sentences(self):
         """Returns what it said, in clean lines."""
@@ -141,7 +138,7 @@ def run(words, text=b"", seconds=None, most=None, into=None, grace=GRACE, keeps_
     once."""
     process = RUNNING.begin(words, stdin=subprocess.PIPE if text else subprocess.DEVNULL, stdout=subprocess.PIPE,
                             stderr=subprocess.PIPE if keeps_words else None)
-    came, kept = Came(0, b"", b""), bytearray()
+    came, kept = Came(), bytearray()
     deadline = None if seconds is None else time.monotonic() + seconds
     try:
         exchange(process, text, deadline, most, into.write if into else kept.extend, came)
@@ -221,6 +218,8 @@ def hand_on(pipe, rest):
 def side_by_side(works, at_once):
     """Does all works, at most so many at a time, each under its name. Returns what came of each, by name; where one
     fails, or the tool is to end, all are ended."""
+    # (it loads all of `logging`, and most tools do one thing after the other)
+    import concurrent.futures  # pylint: disable=import-outside-toplevel
     with concurrent.futures.ThreadPoolExecutor(at_once) as pool:
         running = {name: pool.submit(work) for name, work in works.items()}
         try:

@@ -3,40 +3,34 @@
 With them, in the same session, its routing daemon may be asked what hosts ask for, so that both are of one moment. What
 comes of that makes no reading fail.
 """
-import dataclasses
 import os
 import time
 
 from mcaudit_tools import answers, facts
-from mcaudit_tools.believed import Beliefs, told_of
-from mcaudit_tools.daemon import SCRIPTS, Daemon
 from mcaudit_tools.programs import RUNNING, run
 
 KEPT = "kept-"  # the folders of tables that held still
 
 
-@dataclasses.dataclass
 class Collected:
     """What came of a router: why it is missing, or where its tables are."""
 
-    fault: "str | None" = None
-    sentences: list = dataclasses.field(default_factory=list)  # what the way to it said
-    line: str = ""
-    folder: str = ""
-    time: int = 0
-    facts_time: int = 0
-    identity: "bytes | None" = None  # the boot and the network namespace, where the router says them
-    beliefs: dict = dataclasses.field(default_factory=dict)  # what its daemon believes, by device
+    def __init__(self, fault=None, sentences=(), line="", folder="", when=0):
+        """Takes why it is missing, or None; what the way to it said; the line that is printed of it; and the folder of
+        its tables, and when they were read."""
+        self.fault, self.sentences, self.line, self.folder, self.time = fault, sentences, line, folder, when
+        self.facts_time = 0
+        self.identity = None  # the boot and the network namespace, where the router says them
+        self.beliefs = {}  # what its daemon believes, by device
 
 
 class Reading:
     """The readings of one router, in a folder of its own."""
 
-    def __init__(self, words, router, folder, devices):
-        """Takes the arguments, the router, the folder, which it makes, and the devices on whose hosts the router's
-        daemon is asked."""
-        self.words, self.router, self.folder = words, router, folder
-        self.beliefs = Beliefs(devices) if devices else None
+    def __init__(self, words, router, folder, beliefs):
+        """Takes the arguments, the router, the folder, which it makes, and what is believed of its interfaces, where
+        its daemon is asked too, or None."""
+        self.words, self.router, self.folder, self.beliefs = words, router, folder, beliefs
         self.sentences, self.deadline, self.time = [], 0.0, 0
         self.daemon, self.shape = None, None
         os.makedirs(folder)
@@ -52,7 +46,7 @@ class Reading:
         script, most = answers.questions(word, tables), answers.MOST_ANSWER
         self.deadline = time.monotonic() + self.words.timeout
         if has_daemon:
-            script, most = script + facts.script(word.encode(), *SCRIPTS), most + facts.MOST_ANSWER
+            script, most = script + self.beliefs.questions(word.encode()), most + facts.MOST_ANSWER
             self.deadline += facts.TAKING
         try:
             with open(path, "wb") as file:
@@ -64,7 +58,7 @@ class Reading:
             with open(path, "rb") as file:
                 fault = answers.Answer(file, word, tables, self.folder, self.deadline).fault()
                 if has_daemon and fault is None:
-                    self.daemon = Daemon(told_of(came, file, word.encode(), self.words.timeout, self.deadline))
+                    self.daemon = self.beliefs.daemon_of(came, file, word.encode(), self.words.timeout, self.deadline)
                     self.deadline = time.monotonic() + facts.TAKING
             return limit or fault if fault else None
         except answers.Late:
@@ -117,7 +111,7 @@ class Reading:
         for table in answers.TABLES:
             os.rename(os.path.join(self.folder, table), os.path.join(folder, table))
         return None, Collected(line=f"vifs {vifs}, rows {rows}, readings {count}, {order}", folder=folder,
-                               time=self.time)
+                               when=self.time)
 
     def ask_more(self, found):
         """Asks for what goes beyond the three tables, which a key that is restricted to them doesn't answer."""

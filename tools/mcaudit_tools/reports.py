@@ -11,12 +11,12 @@ import os
 import sys
 import time
 
-from mcaudit_tools import capture, from_daemon, igmp, origins, recording, ways
+from mcaudit_tools import igmp, origins, ways
+from mcaudit_tools.capture import Decoder
 from mcaudit_tools.common import Failed, Parser, Wrong, say
 from mcaudit_tools.files import PIECE, open_regular, printing
-from mcaudit_tools.gather import gather_all, tell_strangers, text_of, write_list
-from mcaudit_tools.live import Task, capture_list
 from mcaudit_tools.speakers import Speakers
+from mcaudit_tools.task import Task
 from mcaudit_tools.window import NO_LIST, REFUSED, SPOILT, WRITTEN, Gathering, List
 
 ABOUT = """Writes the IGMP reports of one LAN into a file or to standard output, in hexadecimal, one a line,
@@ -224,7 +224,7 @@ def static_report(word):
 
 def file_list(task, path):
     """Reads a capture file, once. Returns its list."""
-    decoder = capture.Decoder(task.words.interface)
+    decoder = Decoder(task.words.interface)
     gathering = Gathering(task.rules(None, False), task.say)
     with open_regular(path) as file:
         for piece in iter(lambda: file.read(PIECE), b""):
@@ -244,7 +244,8 @@ def text_list(task):
     """Reads a recorded text on standard input. Returns its list."""
     if sys.stdin is None:
         raise Failed("standard input is closed")
-    reader = recording.Recording()
+    from mcaudit_tools.recording import Recording  # pylint: disable=import-outside-toplevel
+    reader = Recording()
     gathering = Gathering(task.rules(None, False), task.say)
     for frame in reader.frames(sys.stdin.buffer):
         task.speakers.take(frame)
@@ -279,13 +280,13 @@ def give(words, found, origin):
     """Gives the list out, where its status lets it. Returns the status."""
     if found.status in (NO_LIST, SPOILT):
         return NO_LIST
-    data = text_of(found.messages)
     if words.o is None:
         with printing():
-            sys.stdout.buffer.write(data)
+            sys.stdout.buffer.write(found.text())
             sys.stdout.buffer.flush()
     elif found.status == WRITTEN:
-        write_list(words.o, data, origin)
+        from mcaudit_tools.into_site import write_list  # pylint: disable=import-outside-toplevel
+        write_list(words.o, found.text(), origin)
     return found.status
 
 
@@ -293,11 +294,13 @@ def one_list(words):
     """Makes one list of the source that the arguments name. Returns the status."""
     check_output(words)
     if words.from_daemon or words.from_bridge:
+        from mcaudit_tools import from_daemon  # pylint: disable=import-outside-toplevel
         return give(words, *from_daemon.one_list(words))
     shell = ways.Router("router", words.by or "").shell(words.ssh or ways.SSH)
     task = Task(words, shell, words.device, words.statics.get(None, []), say, is_empty_allowed=words.empty,
                 is_asking=words.ask, speakers=Speakers())
     if words.device is not None:
+        from mcaudit_tools.live import capture_list  # pylint: disable=import-outside-toplevel
         found = capture_list(task)
     elif words.capture is not None:
         found = file_list(task, words.capture)
@@ -305,7 +308,9 @@ def one_list(words):
         found = text_list(task)
     else:
         found = List(WRITTEN, task.statics, True)
-    tell_strangers(words, task)
+    if words.o is not None:
+        from mcaudit_tools.into_site import tell_strangers  # pylint: disable=import-outside-toplevel
+        tell_strangers(words, task)
     by = origins.STATIC if found.is_decided else origins.CAPTURE
     return give(words, found, origins.Origin(by, None, int(time.time()), found.unchecked))
 
@@ -313,6 +318,11 @@ def one_list(words):
 def main():
     """Gathers one list, or those of all LANs. Returns the status."""
     words = read_arguments()
-    if words.all is not None:
-        return from_daemon.gather_all(words) if words.from_daemon else gather_all(words)
-    return one_list(words)
+    if words.all is None:
+        return one_list(words)
+    # (here and in one_list: lists have many sources, and each is loaded where it is asked for)
+    if words.from_daemon:
+        from mcaudit_tools import from_daemon  # pylint: disable=import-outside-toplevel
+        return from_daemon.gather_all(words)
+    from mcaudit_tools import gather  # pylint: disable=import-outside-toplevel
+    return gather.gather_all(words)

@@ -14,16 +14,14 @@ import tempfile
 import time
 
 from mcaudit_tools import late, locks, origins
-from mcaudit_tools.adopt import Adoption
-from mcaudit_tools.common import Failed, Wrong, say
+from mcaudit_tools.common import Failed, Wrong, is_set_name, say
 from mcaudit_tools.files import copy, failing, open_folder, replace_link, sync_files, sync_folder, write_beside
 from mcaudit_tools.programs import RUNNING
 
 SCRATCH = ".reading."  # what the folders are called in which sets are made
-OLD_SCRATCH = re.compile(r"\.reading\.[0-9]+")  # of 0.2.0, which locked none
+OLD_SCRATCH = r"\.reading\.[0-9]+"  # of 0.2.0, which locked none
 STALE = 3600  # seconds after which one of those is nobody's
 MOST_LINKS = 40  # that are followed from a name of a site to it
-SET_NAME = re.compile(r"\d{8}T\d{6}Z", re.ASCII)
 NOT_CARRIED = origins.FILE, "audit.json"
 PLAIN_NAME = re.compile(r"[A-Za-z0-9_.-]+")  # of files that collected.json tells of
 
@@ -96,7 +94,7 @@ class Site:
         for entry in list(os.scandir(self.sets)):
             if not entry.name.startswith(SCRATCH) or not entry.is_dir(follow_symlinks=False):
                 continue
-            if OLD_SCRATCH.fullmatch(entry.name) and is_young(entry.path):
+            if re.fullmatch(OLD_SCRATCH, entry.name) and is_young(entry.path):
                 continue
             with contextlib.suppress(FileNotFoundError), open_folder(entry.path) as opened:  # its run may end now
                 if locks.try_lock(opened):
@@ -106,7 +104,7 @@ class Site:
         """Removes what a run that was killed as it swapped left: beside SITE a folder with a link in it, or with
         nothing, and among the sets a link in a set's place. The lock is held, so no live run has one."""
         for entry in list(os.scandir(self.sets)):
-            if SET_NAME.fullmatch(entry.name) and entry.is_symlink() and os.readlink(
+            if is_set_name(entry.name) and entry.is_symlink() and os.readlink(
                     entry.path) == self.target_of(entry.path):
                 os.unlink(entry.path)
         folder, own = os.path.split(self.path)
@@ -120,6 +118,8 @@ class Site:
 
     def adopt(self, scratch):
         """Makes a plain folder the first set. In the scratch folder it is made where it has to be copied."""
+        # (once in the life of a site)
+        from mcaudit_tools.adopt import Adoption  # pylint: disable=import-outside-toplevel
         with self.writing(), RUNNING.unheeded():
             if os.path.islink(self.path) or not os.path.isdir(self.path):
                 self.check(True)

@@ -6,10 +6,8 @@ audit`, each by its own words. It takes nothing over from them but their statuse
 import os
 import subprocess
 
-from mcaudit_tools.ages import Ages
 from mcaudit_tools.common import Failed, Parser, clean, find_tool, options_of, printable, say
 from mcaudit_tools.files import read_regular
-from mcaudit_tools.premises import beside, domain
 from mcaudit_tools.programs import RUNNING
 from mcaudit_tools.topology import MOST_BYTES, read_topology
 from mcaudit_tools.ways import REACH
@@ -118,6 +116,9 @@ def run_step(command):
 
 def tell_basis(site, folder):
     """Tells beside the verdict what it rests on, and what contradicts it."""
+    # (only once there is a verdict: `lans` needs nothing of it)
+    from mcaudit_tools.ages import Ages  # pylint: disable=import-outside-toplevel
+    from mcaudit_tools.premises import beside, domain  # pylint: disable=import-outside-toplevel
     try:
         answer = domain.run_audit(find_tool("mcaudit"), folder, "mcaudit audit")
     except Failed as fault:

@@ -3,16 +3,7 @@ whose address belongs to no listed router forwards what the verdict knows nothin
 
 Any host can say such things, so what is kept and told is bounded.
 """
-import ipaddress
-import os
-
 from mcaudit_tools import igmp
-from mcaudit_tools.common import Failed
-from mcaudit_tools.draft.told import told_addresses
-from mcaudit_tools.facts import PREFIX
-from mcaudit_tools.files import read_regular
-from mcaudit_tools.premises.reader import read_facts
-from mcaudit_tools.told import UNREADABLE, is_shallow
 
 PIM = 103  # the protocol in IPv4
 ALL_PIM_ROUTERS = bytes([224, 0, 0, 13])
@@ -22,7 +13,6 @@ NOBODY = bytes(4)
 MOST_SPEAKERS, MOST_HARDWARE = 64, 4  # that are kept of a LAN, and of an address
 MOST_WANTED = 4096  # groups that are kept
 MOST_SHOWN = 8  # of many names
-MOST_TABLE = 16 << 20  # bytes of what a router says of its addresses
 
 
 class Speakers:
@@ -90,41 +80,3 @@ def pim_word(header, message):
     """Returns what a PIM message says of its sender, or None where it isn't one of a neighbour."""
     is_heeded = len(message) >= 4 and message[0] >> 4 == 2 and igmp.sum_of(message) == 0
     return MESSAGES.get(message[0] & 15) if is_heeded and header.target == ALL_PIM_ROUTERS else None
-
-
-class Listed:
-    """The addresses of the listed routers, as a folder's facts have them, and of which routers they aren't known."""
-
-    def __init__(self, folder, routers):
-        """Reads the addresses."""
-        self.addresses, self.missing = set(), []
-        for router in routers:
-            found = addresses_of(folder, router)
-            self.addresses |= found
-            if not found:
-                self.missing.append(router)
-
-    def sentence(self, speaking):
-        """Returns who speaks on which LANs, where it isn't known whether they are listed routers."""
-        found = {}
-        for lan, speakers, own in speaking:
-            for address in speakers.strangers(self, own):
-                found.setdefault(address, []).append(lan)
-        shown = [f"{igmp.dotted(it)} on {' '.join(lans[:MOST_SHOWN])}" for it, lans in sorted(found.items())]
-        more = [".."] if len(shown) > MOST_SHOWN else []
-        names = " ".join(self.missing[:MOST_SHOWN]) + (" .." if len(self.missing) > MOST_SHOWN else "")
-        return (f"whether these are listed routers isn't known without the addresses of {names} (mcaudit-collect "
-                f"--facts): {', '.join(shown[:MOST_SHOWN] + more)}") if shown and self.missing else ""
-
-
-def addresses_of(folder, router):
-    """Returns the addresses of a router, as its facts or what else a folder has of it say; none where they don't."""
-    facts, _ = read_facts(folder, PREFIX + router)
-    if facts is not None and facts.own_addresses:
-        return facts.own_addresses
-    try:
-        text = read_regular(os.path.join(folder, f"address-{router}"), MOST_TABLE).decode("ascii", "replace")
-        found = told_addresses(text) if is_shallow(text) else []
-        return {str(it.local) for _, it in found if it is not None and isinstance(it.local, ipaddress.IPv4Address)}
-    except (Failed, *UNREADABLE):
-        return set()

@@ -14,6 +14,7 @@ if signal.getsignal(signal.SIGINT) is signal.default_int_handler:
 
 LEAST = (3, 9)
 FAILED = 3
+NOT_WHOLE = "it is not installed whole: {}: {}"
 
 
 def fail(program, sentence):
@@ -66,6 +67,13 @@ def buffer_output():
         sys.stdout.reconfigure(errors="backslashreplace")
 
 
+def module_of(name):
+    """Returns the module of the tool with this name; of a package that is its `main`, so that whoever takes another
+    module of it doesn't load the tool too."""
+    module = importlib.import_module("mcaudit_tools." + name)
+    return importlib.import_module(module.__name__ + ".main") if hasattr(module, "__path__") else module
+
+
 def run(name, version):
     """Runs the tool of the module with this name, whose script says this version. Returns its status."""
     program = "mcaudit-" + name
@@ -75,9 +83,9 @@ def run(name, version):
     try:
         common = importlib.import_module("mcaudit_tools.common")
         running = importlib.import_module("mcaudit_tools.programs").RUNNING
-        main = importlib.import_module("mcaudit_tools." + name).main
+        main = module_of(name).main
     except Exception as fault:  # pylint: disable=broad-exception-caught
-        return fail(program, "it is not installed whole: {}: {}".format(type(fault).__name__, fault))
+        return fail(program, NOT_WHOLE.format(type(fault).__name__, fault))
     try:
         if sys.stdout is None:
             raise common.Failed("standard output is closed")
@@ -101,7 +109,8 @@ def run(name, version):
     except MemoryError:
         return fail(program, "no memory is left")
     except Exception as fault:  # pylint: disable=broad-exception-caught
-        return fail(program, "{}: {}".format(type(fault).__name__, fault))
+        sentence = NOT_WHOLE if isinstance(fault, ImportError) else "{}: {}"
+        return fail(program, sentence.format(type(fault).__name__, fault))
     finally:
         running.end_all()
     return finish_output(program, status)

@@ -1,6 +1,5 @@
 """The topology of a site: its routers, LANs and interfaces, whose names are checked before anything is made of them."""
 import contextlib
-import dataclasses
 import os
 import re
 import signal
@@ -20,13 +19,16 @@ class NoReader(Failed):
     sentence = "a topology is read by python3 of 3.11 or later"
 
 
-@dataclasses.dataclass
 class Topology:
     """What a topology lists, in its order."""
 
-    routers: list
-    lans: list
-    interfaces: list  # (LAN, router, device) each
+    def __init__(self, routers, lans, interfaces):
+        """Takes its routers, its LANs, and its interfaces: (LAN, router, device) each."""
+        self.routers, self.lans, self.interfaces = routers, lans, interfaces
+
+    def devices_of(self, router):
+        """Returns the devices of a router that are on listed LANs."""
+        return list(dict.fromkeys(device for _, it, device in self.interfaces if it == router))
 
 
 def read_toml(folder, named):

@@ -19,7 +19,6 @@ from mcaudit_tools import origins
 from mcaudit_tools.apply import APPLIERS
 from mcaudit_tools.common import Failed, Refused, find_tool, is_name
 from mcaudit_tools.files import failing, open_regular, read_regular, umask
-from mcaudit_tools.flows import ODD
 from mcaudit_tools.rewrite import CacheTable, VifTable
 
 MOST_BYTES = 16 << 20  # of a file that mcaudit reads
@@ -177,6 +176,7 @@ class Copy:
         if (self.verdict == "yes") != (self.status == 0):
             raise Failed(f"{self.named}: mcaudit prints another verdict than that of its status {self.status}")
         if (self.flows, self.first.listed()) != (self.domain.flows, self.domain.listed()):
+            from mcaudit_tools.flows import ODD  # (as in apply.py)  pylint: disable=import-outside-toplevel
             raise Refused(ODD)
 
     def write(self):

@@ -7,14 +7,9 @@ import dataclasses
 import json
 
 from mcaudit_tools import audit as audits
-from mcaudit_tools import changes, conf, diff
+from mcaudit_tools import changes, diff
 from mcaudit_tools.common import Failed, Parser, Wrong, clean_lines, find_tool, printable
 from mcaudit_tools.files import printing
-from mcaudit_tools.page import write_page
-from mcaudit_tools.page.answer import audit_of
-from mcaudit_tools.page.graph import Graph, roots_of
-from mcaudit_tools.page.remarks import Folder
-from mcaudit_tools.page.render import page_of
 from mcaudit_tools.programs import run
 from mcaudit_tools.tried import Copy
 
@@ -75,7 +70,7 @@ def audit_twice(words, copy, confs, made):
         if it.verb in changes.OF_FLOWS:
             copy.apply(it)
     for one in confs:
-        unaudited, on_demand = conf.apply(copy, one, words.conf_root)
+        unaudited, on_demand = one.apply(copy, words.conf_root)
         tried.unaudited += unaudited
         tried.assumed += [f"{it}: entries that come on demand are audited as if they were there" for it in on_demand]
     for it in made:
@@ -118,17 +113,22 @@ def json_lines(words, copy, changed, objects, tried):
 
 def make_page(path, copy, objects, tried):
     """Writes the page of the changed domain."""
-    audit = audit_of(objects)
-    graph, folder = Graph(audit.domain, roots_of(audit)), Folder(copy.folder)
+    # (most runs make none, and what makes it takes as long to load as all else)
+    from mcaudit_tools.page import answer, graph, remarks, render, write  # pylint: disable=import-outside-toplevel
+    audit = answer.audit_of(objects)
+    drawn, folder = graph.Graph(audit.domain, graph.roots_of(audit)), remarks.Folder(copy.folder)
     folder.named = copy.named
-    write_page(path, page_of(audit, graph if graph.lay_out() else None, folder, tried))
+    write.write_page(path, render.page_of(audit, drawn if drawn.lay_out() else None, folder, tried))
 
 
 def main():
     """Tries the changes. Returns the status."""
     words = read_arguments()
     made = changes.read_changes(words.changes, words.f or ())
-    confs = conf.parse_all(words.conf or ())
+    confs = []
+    if words.conf:
+        from mcaudit_tools.conf import parse_all  # (for --conf alone)  pylint: disable=import-outside-toplevel
+        confs = parse_all(words.conf)
     if not made and not confs:
         raise Wrong("no change is given")
     if words.page is not None:

@@ -1,7 +1,7 @@
 """What hosts ask for and no listed flow answers, as an audit says it."""
-import dataclasses
 import ipaddress
 import sys
+import typing
 
 from mcaudit_tools.common import names_change, some
 
@@ -15,8 +15,7 @@ def names(value):
     return list(map(sys.intern, value))  # told again and again, of one want after another
 
 
-@dataclasses.dataclass
-class Want:
+class Want(typing.NamedTuple):
     """A group, and a source or any, with the LANs that ask for it, and what routers do with it."""
     source: str
     group: str

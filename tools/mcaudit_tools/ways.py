@@ -1,5 +1,4 @@
 """Routers and the ways to them: NAME=ADDRESS, in arguments and in files of them."""
-import dataclasses
 import os
 import re
 import signal
@@ -15,12 +14,12 @@ HOST = re.compile(r"[A-Za-z0-9@:_.%][A-Za-z0-9@:_.%-]*")
 COMMAND = re.compile(r"!.+", re.DOTALL)
 
 
-@dataclasses.dataclass
 class Router:
     """A router's name, and the way to it: a host, nothing for this machine, or `!` and a command."""
 
-    name: str
-    way: str
+    def __init__(self, name, way):
+        """Takes both."""
+        self.name, self.way = name, way
 
     def shell(self, ssh):
         """Returns the arguments of the program that runs a shell on the router."""

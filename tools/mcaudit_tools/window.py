@@ -271,6 +271,10 @@ class List:
     is_decided: bool = False  # an operator said that nobody wants anything
     unchecked: list = dataclasses.field(default_factory=list)
 
+    def text(self):
+        """Returns its text."""
+        return b"".join(it.hex().encode() + b"\n" for it in self.messages)
+
 
 def followed(window, gathering):
     """Follows the changes in a window, where that is wanted and mcaudit would take its other reports. Returns the

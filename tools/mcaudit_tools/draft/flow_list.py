@@ -1,6 +1,5 @@
 """A list of flows that an operator has: CSV with the columns source, group and ttl (RFC 4180), or M3U. Of it come
 addresses and times to live alone: no title is copied, nothing is fetched, and no name is asked for."""
-import csv
 import io
 import ipaddress
 import re
@@ -53,6 +52,7 @@ class FlowList:
 
     def take_csv(self, text):
         """Takes the lines of CSV, where it is any. Returns whether it is."""
+        import csv  # (for --flows alone)  pylint: disable=import-outside-toplevel
         reader = csv.reader(io.StringIO(text, newline=""), strict=True)
         head, last = None, 0
         try:

@@ -2,8 +2,8 @@
 import itertools
 import re
 
+from mcaudit_tools.addresses import Link
 from mcaudit_tools.common import clean
-from mcaudit_tools.draft.told import Link
 
 LEAST_PREFIX = 8  # of a network that can be a LAN
 MOST_NETWORKS = 16  # on one interface

@@ -1,6 +1,5 @@
 """Flows: the rows of one source, each with its LAN and its rate, and with its time to live, as packets have it that
 tcpdump sees come in on the source's LAN."""
-import concurrent.futures
 import io
 import ipaddress
 import re
@@ -127,6 +126,8 @@ def measure_flows(words, draft, given):
             flow.said = IDLE
         elif flow.points:
             tasks.setdefault(flow.points[0][0], []).append((flow, flow.points[0][1]))
+    # (it loads all of logging, and with --ttl nothing is measured)
+    import concurrent.futures  # pylint: disable=import-outside-toplevel
     with concurrent.futures.ThreadPoolExecutor(max(1, min(16, len(tasks)))) as pool:
         for doubts in pool.map(lambda it: measure_on(words, *it), tasks.items()):
             draft.doubts += doubts

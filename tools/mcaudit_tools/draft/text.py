@@ -1,6 +1,4 @@
 """The text of a topology that is drafted, and what it has otherwise than one that is there."""
-import difflib
-
 from mcaudit_tools.common import clean
 from mcaudit_tools.draft.measure import command_of
 from mcaudit_tools.services import SERVICES
@@ -171,6 +169,7 @@ def print_changes(draft, topology):
         key = str(flow.source), str(flow.group)
         if flow.ttl is None and flow.lan is not None and key in known:
             flow.ttl, flow.said = known[key], "unchanged"
+    import difflib  # (for --update alone)  pylint: disable=import-outside-toplevel
     changes = [it for it in difflib.ndiff(content_of(topology), content_of(topology_of(draft))) if it[0] in "+-"]
     print("".join(it + "\n" for it in changes), end="")
     return bool(changes)

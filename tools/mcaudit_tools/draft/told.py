@@ -5,12 +5,12 @@ mcaudit-collect reads the routers, twice where there are rows: what was counted 
 import contextlib
 import dataclasses
 import ipaddress
-import json
 import os
 import re
 import sys
 import typing
 
+from mcaudit_tools.addresses import address_word, told_addresses, told_networks
 from mcaudit_tools.answers import MOST_TABLE
 from mcaudit_tools.common import Failed, find_tool
 from mcaudit_tools.files import read_regular
@@ -22,23 +22,6 @@ PAUSE = 5  # seconds between two readings of the counters, at least
 COLLECTED = re.compile(r"([A-Za-z0-9_.-]+): vifs \d+, .*, order (little|big|not known)")
 MOST_TOLD = 1 << 20  # bytes of what mcaudit-collect prints
 GROUPS = ipaddress.IPv4Address("224.0.1.0"), ipaddress.IPv4Address("239.255.255.255")
-ADDRESS_LINE = re.compile(r"^\d+: +(\S+) +inet ([0-9.]+)(?: peer ([0-9.]+))?/(\d+) ", re.MULTILINE)
-
-
-class Link(typing.NamedTuple):
-    """A link by its two ends, the lower address first."""
-    low: ipaddress.IPv4Address
-    high: ipaddress.IPv4Address
-
-    def __str__(self):
-        """Returns it for people."""
-        return f"{self.low} to {self.high}"
-
-
-class Address(typing.NamedTuple):
-    """An address of a device: its network, or on a link both ends, or neither (a lone address)."""
-    local: "ipaddress.IPv4Address | None"
-    network: "ipaddress.IPv4Network | Link | None"
 
 
 class Row(typing.NamedTuple):
@@ -88,49 +71,6 @@ class Draft:
     flows: list = dataclasses.field(default_factory=list)
     services: list = dataclasses.field(default_factory=list)  # what is sent to groups of services
     asked: list = dataclasses.field(default_factory=list)  # groups of which no source is known
-
-
-def address_word(word, order):
-    """Returns the address that the kernel prints as a number of its machine, or None."""
-    if not re.fullmatch(rb"[0-9A-Fa-f]{8}", word):
-        return None
-    return ipaddress.IPv4Address(int(word, 16).to_bytes(4, order))
-
-
-def told_address(local, peer, prefix):
-    """Returns what a device's address says, or None if it is none."""
-    try:
-        own, other = (ipaddress.IPv4Interface(f"{it}/{prefix}") for it in (local, peer or local))
-    except ValueError:
-        return None
-    if own.ip.is_loopback or not isinstance(prefix, int):
-        return None
-    if own.ip != other.ip:
-        return Address(own.ip, Link(*sorted((own.ip, other.ip))))
-    return Address(own.ip, own.network if prefix < 32 else None)
-
-
-def told_addresses(text):
-    """Returns devices and addresses of `ip -j address`, or of `ip -o -4 address`."""
-    if not text.startswith("["):
-        return [(device, told_address(local, peer, int(prefix[:3])))
-                for device, local, peer, prefix in ADDRESS_LINE.findall(text)]
-    return link_addresses(json.loads(text))
-
-
-def link_addresses(links):
-    """Returns devices and addresses of the value that `ip -j address` prints."""
-    return [(link["ifname"], told_address(it.get("local"), it.get("address"), it.get("prefixlen")))
-            for link in links for it in link.get("addr_info", []) if it.get("family") == "inet"]
-
-
-def told_networks(text, order):
-    """Yields devices and the networks that they are in, of /proc/net/route: no gateway, and no host's route."""
-    for words in map(str.split, text.split("\n")[1:]):
-        with contextlib.suppress(ValueError, IndexError):  # it is no line of routes
-            network, mask = (address_word(words[it].encode(), order) for it in (1, 7))
-            if words[2] == "00000000" and words[3][-1] in "19":
-                yield words[0], Address(None, ipaddress.IPv4Network((network, str(mask))))
 
 
 def read_addresses(router, address, route):

@@ -9,7 +9,7 @@ from mcaudit_tools.monitor.plugin import MOST_LETTERS
 from mcaudit_tools.ways import REACH
 
 WARN_AGE, WARN_REPORTS = 900, 3600  # seconds
-LABEL = re.compile(r"(?!__|router=|lan=)[A-Za-z_][A-Za-z0-9_]*=.*", re.DOTALL)
+LABEL = r"(?!__|router=|lan=)[A-Za-z_][A-Za-z0-9_]*=.*"
 ABOUT = """Collects the tables of SITE's routers (mcaudit-collect), audits them (mcaudit audit --json --unlisted) and
 prints what changed since last time (mcaudit-diff). The routers are given as for mcaudit-collect.
 
@@ -59,7 +59,7 @@ class MonitorParser(Parser):
 
 def label(text):
     """Reads a label."""
-    if not LABEL.fullmatch(text):
+    if not re.fullmatch(LABEL, text, re.DOTALL):
         raise argparse.ArgumentTypeError(f"{text!r} is not a valid NAME=VALUE of a label other than router and lan")
     return tuple(text.split("=", 1))
 

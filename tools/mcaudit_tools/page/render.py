@@ -1,13 +1,12 @@
 """The page: one file of HTML with the verdict, the flows, the graph, and what its script draws on demand."""
 import collections
 import json
-import pathlib
+import os
 
 from mcaudit_tools.common import PROGRAM
 from mcaudit_tools.page.explain import FLOW, MEANS, MISSED_PERHAPS, SEEN, some
 from mcaudit_tools.page.graph import DRAWING
 from mcaudit_tools.page.markup import Markup, digest, json_markup, table_of, tag
-from mcaudit_tools.page.plans import plans_section
 from mcaudit_tools.page.remarks import (basis_section, collected_section, unjudged_section, unlisted_section,
                                         wants_section, wants_words)
 from mcaudit_tools.page.travel import OUTCOMES
@@ -156,16 +155,26 @@ def page_data(audit, graph):
             "right": right_words(audit), "flows": audit.flows}
 
 
+def text_beside(name):
+    """Returns the text of a file that lies beside this module."""
+    with open(os.path.join(os.path.dirname(os.path.abspath(__file__)), name), encoding="utf-8") as file:
+        return file.read()
+
+
 def page_of(audit, graph, folder, tried=None):
     """Returns the page, of what was found or of what was tried."""
-    style, script = (pathlib.Path(__file__).with_name(it).read_text("utf-8") for it in ("page.css", "page.js"))
+    style, script = map(text_beside, ("page.css", "page.js"))
     policy = (f"default-src 'none'; base-uri 'none'; form-action 'none'; style-src {digest(style)}; "
               f"script-src {digest(WAIT)} {digest(script)}")
     site = folder.named if folder else None
     named = f" of {site}" if site else ""
     title = "not audited whole" if tried is not None and tried.unaudited else f"Verdict {audit.verdict}"
     title = "Tried: " * (tried is not None) + title
-    planned = [] if audit.plans is None else [("What to do about it", plans_section(audit.plans))]
+    planned = []
+    if audit.plans is not None:
+        # (for --plan alone)
+        from mcaudit_tools.page.plans import plans_section  # pylint: disable=import-outside-toplevel
+        planned = [("What to do about it", plans_section(audit.plans))]
     sections = [*planned, ("What hosts ask for and no flow answers", wants_section(audit)),
                 ("Flows that are not listed", unlisted_section(audit)),
                 ("What was collected, and when", collected_section(audit.domain, folder)),

@@ -6,8 +6,7 @@ import time
 
 from mcaudit_tools.ages import LATER, age_of, age_text
 from mcaudit_tools.common import clean, cut
-from mcaudit_tools.premises.findings import NOT_KNOWN, some
-from mcaudit_tools.premises.judge import KINDS, ROUTER, looked_at
+from mcaudit_tools.premises.findings import KINDS, NOT_KNOWN, ROUTER, looked_at, some
 
 SPREAD = 60  # seconds between the youngest and the oldest, below which the oldest alone is told
 MOST_REASON = 80  # letters

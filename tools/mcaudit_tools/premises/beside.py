@@ -3,9 +3,9 @@ counters, and what the facts of a set say, where it has any. Nothing of it makes
 import io
 
 from mcaudit_tools import audit as audits
-from mcaudit_tools.premises import basis, counted, domain, judge, links, text
-from mcaudit_tools.premises.findings import BAD, DROPS, NONE_COMES
-from mcaudit_tools.premises.windows import Counters
+from mcaudit_tools.premises import basis, counted, domain, judge, text
+from mcaudit_tools.premises.counters import Counters
+from mcaudit_tools.premises.findings import BAD, DROPS, KINDS, NONE_COMES, SIZES, looked_at
 
 MOST_SHOWN = 20  # lines of what was found
 
@@ -49,8 +49,8 @@ class Beside:
     def contradicted(self):
         """Returns 1 for each router whose own settings drop packets, and 0 where all that may was looked at."""
         dropping = {it.router for it in self.findings if it.word == DROPS}
-        known = judge.looked_at(self.domain, self.findings) if self.domain else {}
-        seen = set.intersection(*(set(known[it]) for it in judge.KINDS if it != links.SIZES)) if known else set()
+        known = looked_at(self.domain, self.findings) if self.domain else {}
+        seen = set.intersection(*(set(known[it]) for it in KINDS if it != SIZES)) if known else set()
         return {it: int(it in dropping) for it in (self.domain.routers if self.domain else ())
                 if it in dropping or it in seen}
 

@@ -4,6 +4,8 @@ import typing
 DROPS, MAY_DROP, BESIDE, NOT_KNOWN = "drops", "may drop", "beside", "not known"
 NONE_COMES, LOST, MORE, STRANGERS = "none comes", "lost", "more come", "by another vif"
 BAD = DROPS, NONE_COMES, LOST  # what contradicts a yes
+KINDS = REVERSE, LINKS, SIZES, NETFILTER, TABLES = "rp_filter", "links", "MTU", "netfilter", "ip mrule"
+ROUTER = "facts"  # the kind of what is found of them as a whole
 WORDS = (DROPS, NONE_COMES, LOST, MAY_DROP, MORE, STRANGERS, BESIDE, NOT_KNOWN)  # in the order in which they are told
 MOST_NAMES = 8  # that are told of many
 
@@ -17,6 +19,13 @@ class Finding(typing.NamedTuple):
     text: str
     remedy: str = ""
     flow: "tuple[str, str] | None" = None  # source and group
+
+
+def looked_at(domain, findings):
+    """Returns the routers on which each kind was looked at, by kind."""
+    unknown = {(it.kind, it.router) for it in findings if it.word == NOT_KNOWN}
+    return {kind: [it for it in domain.routers if (kind, it) not in unknown and (ROUTER, it) not in unknown]
+            for kind in KINDS}
 
 
 def some(names):

@@ -3,7 +3,6 @@ import shlex
 
 from mcaudit_tools.premises.findings import BESIDE, DROPS, MAY_DROP, NOT_KNOWN, some
 
-KIND, SIZES = "links", "MTU"
 UP = 1  # in the flags of a device
 INCOMING, OUTGOING = "in", "out"
 QUEUES = {INCOMING: ("ingress", "clsact"), OUTGOING: ("clsact", "netem")}  # that filter or lose packets

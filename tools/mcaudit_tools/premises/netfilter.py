@@ -7,7 +7,6 @@ from mcaudit_tools.premises.findings import DROPS, MAY_DROP, NOT_KNOWN
 from mcaudit_tools.premises.rules import Ruleset, TooMuch
 from mcaudit_tools.told import UNREADABLE
 
-KIND = "netfilter"
 TABLE_LINE = re.compile(r"\s*table (\S+) (\S+) \{")
 CHAIN_LINE = re.compile(r"\s*chain (\S+) \{")
 DEVICES = re.compile(r"hook \S+ devices? (?:= \{([^}]*)\}|(\S+)) priority")

@@ -1,15 +1,11 @@
 """The facts of one router, as a set has them in facts-NAME: its own words, believed of it alone and in bounds."""
 import functools
 import ipaddress
-import os
 import re
 
-from mcaudit_tools.common import Failed
-from mcaudit_tools.draft.told import link_addresses
-from mcaudit_tools.facts import MOST_FILE
-from mcaudit_tools.files import read_regular
+from mcaudit_tools.addresses import link_addresses
 from mcaudit_tools.premises.routes import MainTable, Route, routes_of
-from mcaudit_tools.told import MOST_LINES, UNREADABLE, Told, json_lists, json_of
+from mcaudit_tools.told import UNREADABLE, Told, json_lists, json_of
 
 ADDRESS_LINE = re.compile(r"\s+inet ([0-9.]+)")
 DEVICE_LINE = re.compile(r"\d+: ([^:@ ]+)")
@@ -113,17 +109,3 @@ class Facts(Told):
         if source in self.own_addresses:
             return Route("local", ["lo"])
         return self.main_table.route_back(int(ipaddress.IPv4Address(source)))
-
-
-def read_facts(folder, name):
-    """Returns the facts of a file in the folder, and why there are none."""
-    path = os.path.join(folder, name)
-    if not os.path.lexists(path):
-        return None, "not asked"
-    try:
-        text = read_regular(path, MOST_FILE)
-        return (Facts(text), None) if text.count(b"\n") <= MOST_LINES else (None, f"they have over {MOST_LINES} lines")
-    except Failed as fault:
-        return None, str(fault)
-    except UNREADABLE as fault:
-        return None, f"they can't be read ({type(fault).__name__})"

@@ -5,8 +5,6 @@ import shlex
 from mcaudit_tools.premises.findings import DROPS, MAY_DROP, NOT_KNOWN
 from mcaudit_tools.premises.routes import WITHOUT_IPROUTE2
 
-KIND = "rp_filter"
-
 
 def route_text(route, source):
     """Returns what the route back to the source is, in words."""

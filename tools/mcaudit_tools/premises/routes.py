@@ -3,7 +3,7 @@ main table."""
 import re
 import typing
 
-from mcaudit_tools.draft.told import address_word
+from mcaudit_tools.addresses import address_word
 
 KINDS = "local", "broadcast", "unreachable", "blackhole", "prohibit", "throw"
 FAILED = re.compile(r"Command failed .*:(\d{1,8})\s*")

@@ -4,7 +4,6 @@ import typing
 
 from mcaudit_tools.premises.findings import BESIDE, DROPS, MAY_DROP, NOT_KNOWN, some
 
-KIND = "ip mrule"
 RULE = re.compile(r"(\d{1,10}):\s+(.{1,1000})")  # no rule is longer
 ENDS = "prohibit", "blackhole", "unreachable"
 DEFAULT = "default", "253"

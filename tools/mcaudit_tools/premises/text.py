@@ -3,8 +3,7 @@ import json
 
 from mcaudit_tools.common import clean
 from mcaudit_tools.premises import basis
-from mcaudit_tools.premises.findings import BAD, MAY_DROP, counts_of, grouped, place_of
-from mcaudit_tools.premises.judge import ROUTER, looked_at
+from mcaudit_tools.premises.findings import BAD, MAY_DROP, ROUTER, counts_of, grouped, looked_at, place_of
 
 MOST_LINES = 200  # for people; --json has all
 

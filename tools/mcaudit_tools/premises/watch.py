@@ -11,10 +11,11 @@ from mcaudit_tools.answers import MOST_ANSWER, random_word
 from mcaudit_tools.common import Failed, clean, clean_lines, say
 from mcaudit_tools.facts import script_of
 from mcaudit_tools.files import PIECE
+from mcaudit_tools.premises.counters import ROUNDS
 from mcaudit_tools.premises.findings import NOT_KNOWN, Finding
 from mcaudit_tools.premises.readings import SECTIONS, reading_of
 from mcaudit_tools.premises.rows import Wanted
-from mcaudit_tools.premises.windows import KIND, ROUNDS, Windows, loss_text
+from mcaudit_tools.premises.windows import KIND, Windows, loss_text
 from mcaudit_tools.programs import MOST_WORDS, RUNNING
 
 STARTING = 32  # sessions that begin at once

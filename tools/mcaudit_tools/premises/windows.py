@@ -7,10 +7,10 @@ Whatever a router took in between its rounds 1 and 2, the one that it feeds must
 import dataclasses
 
 from mcaudit_tools.premises import places
-from mcaudit_tools.premises.findings import LOST, MORE, NONE_COMES, STRANGERS, Finding, grouped, place_of
+from mcaudit_tools.premises.counters import ROUNDS, Counters
+from mcaudit_tools.premises.findings import LOST, MORE, NONE_COMES, STRANGERS, Finding
 
 KIND = "packets"
-ROUNDS = 4
 LEAST = 20  # packets below which nothing is said
 SLACK = 10  # packets
 LOSS = 0.01  # of the packets
@@ -22,55 +22,6 @@ class Rise:
 
     inner: int
     outer: int
-
-
-@dataclasses.dataclass
-class Counters:
-    """What the counters say."""
-
-    findings: list = dataclasses.field(default_factory=list)
-    unjudged: list = dataclasses.field(default_factory=list)  # flow, router and why
-    failed: list = dataclasses.field(default_factory=list)  # routers that weren't read
-    flows: int = 0
-    idle: int = 0
-    come: int = 0
-    window: str = ""  # how long it was, and what it can show
-    reason: str = ""  # why they weren't looked at
-
-    def found(self):
-        """Returns of how many flows something was found."""
-        return len({it.flow for it in self.findings if it.flow is not None})
-
-    def first(self):
-        """Returns what was found of a flow, the first in the order in which all is printed, and of how many more flows
-        something was found."""
-        it, flows = next(grouped(it for it in self.findings if it.flow is not None))
-        more = self.found() - 1
-        return f"{it.word}: {place_of(it, flows[:1], [])}" + (f", and {more} more" if more else "")
-
-    def not_judged(self):
-        """Returns of how many flows they say nothing."""
-        return self.flows - self.come - self.found()
-
-    def sentence(self):
-        """Returns what they say, in one line."""
-        if self.reason or not self.flows:
-            return f"packets: not looked at ({self.reason or 'no flow is right'})"
-        parts = [f"packets flow on {self.come} of {self.flows} flows"]
-        parts += [f"idle {self.idle}"] if self.idle else []
-        parts += [f"with a finding {self.found()} ({self.first()})"] if self.found() else []
-        unjudged = len({flow for flow, _, _ in self.unjudged})
-        return ", ".join(parts + ([f"not judged everywhere {unjudged}"] if unjudged else []))
-
-    def details(self):
-        """Returns in which time that was, and what could be seen in it, as lines."""
-        return [f"packets: {self.window}"] if self.window and self.flows else []
-
-    def as_json(self):
-        """Returns the same as JSON has it."""
-        if self.reason:
-            return {"looked_at": False, "text": self.reason}
-        return {"looked_at": True, "flows": self.flows, "come": self.come, "idle": self.idle, "text": self.window}
 
 
 def rise_of(values):

@@ -10,7 +10,7 @@ ghost use Rattle.mc_asked.specs.Indexes.{IsIndexOfPairs, IsIndexOfGroups, IsInde
 use crate::services::service_name;
 use crate::want_class::WantClass;
 use crate::wants::{group_number, has_number};
-use mc_text::{Addr, GroupRange, Index, Memory, pair_number, pair_numbers};
+use mc_text::{Addr, GroupRange, Index, Memory, index_of_groups, pair_number, pair_numbers};
 use mc_topology::{LanNo, Topology};
 use std::alloc::Global;
 use std::marker::Model;
@@ -63,14 +63,10 @@ fn index_of_flows(alloc: Global, flows: &[(Addr, Addr)]) -> Result<Index, Memory
 }
 
 /// An index of the groups of flows.
-fn index_of_groups(alloc: Global, flows: &[(Addr, Addr)]) -> Result<Index, Memory>
+fn index_of_flow_groups(alloc: Global, flows: &[(Addr, Addr)]) -> Result<Index, Memory>
     ensures { IfOk result (IsIndexOfGroups flows.now) }
 {
-    let mut numbers = Vec::with_capacity(alloc, flows.len())?;
-    for flow in flows {
-        numbers.push(group_number(flow.1))?;
-    }
-    Index::of(alloc, numbers)
+    index_of_groups(alloc, flows)
 }
 
 /// An index of sources with their LANs.
@@ -116,7 +112,7 @@ impl WantAnswers {
         }) }
     {
         let channels = index_of_flows(alloc, &flows)?;
-        let groups = index_of_groups(alloc, &flows)?;
+        let groups = index_of_flow_groups(alloc, &flows)?;
         let sources = sources_of(alloc, topology)?;
         let places = index_of_sources(alloc, &sources)?;
         Ok(WantAnswers {

@@ -29,12 +29,14 @@ Decides-list_any p P each xs = (
   λ (k, x, below, is, holds). list_any-from_Any p xs (k, x, below, is, (each x).1 holds),
 )
 
+-- the test of all records decides whether a LAN wants the source of the group
 pub Decides-wanted : (records : List Record) (group s : ℕ)
     → Decides (wanted records group s) (Wants records group s)
 Decides-wanted records group s =
     Decides-list_any (wanted_by group s) (λ r. (r.group ≡ group) × Admits r s)
     (λ r. grind (arith, nat_tests, Decides-Admits r s)) records
 
+-- the test of all records decides whether one is an EXCLUDE record for the group
 Decides-has_exclude : (records : List Record) (group : ℕ)
     → Decides (has_exclude records group) (HasExclude records group)
 Decides-has_exclude records group =

@@ -41,7 +41,8 @@ HasNoByte-from_list_all p c fails (x ∷ xs) h =
 -- behind a text without a byte the byte is found
 pub position-append_byte : (c : ℕ) (xs ys : List ℕ) → HasNoByte c xs
     → position (λ b. eqb b c) (xs ++ c ∷ ys) ≡ Some (length xs)
-position-append_byte c xs ys none = position-append_passing (λ b. eqb b c) xs c ys none (grind (arith, nat_tests))
+position-append_byte c xs ys none =
+    position-append_passing (λ b. eqb b c) xs c ys none (grind (arith, nat_tests))
 
 -- a text is the bytes before a byte, that byte, and the bytes after it
 pub split_at_byte : (c : ℕ) (text : List ℕ) (n : ℕ) → n < length text → eqb (get_or text n 0) c ≡ true

@@ -45,8 +45,8 @@ marked_in_slots_more slots marks numbers i mark slot d marked below is within so
     subst (AreMarkedInSlots slots (slice_set marks slot mark)) (sym (take_more numbers i d below))
     (All-push (λ n. get_or (slice_set marks slot mark) (index_slot slots n) 0 ≢ 0) (take i numbers)
     (get_or numbers i d)
-    (λ k e less. slice_set-stays_marked marks slot mark (index_slot slots (get_or (take i numbers) k e)) within
-    some (marked k e less))
+    (λ k e less. slice_set-stays_marked marks slot mark (index_slot slots (get_or (take i numbers) k e))
+    within some (marked k e less))
     (λ e. some (sym (get_or-set_same marks slot mark 0 within)
     ∙ ap (λ k. get_or (slice_set marks slot mark) k 0) is ∙ e)))
 

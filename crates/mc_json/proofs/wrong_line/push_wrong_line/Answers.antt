@@ -1,12 +1,8 @@
-use Rattle.std.proofs.Common.{◌≡◌, ◌++◌, ℕ, List, ap, ◌∙◌}
+use Rattle.std.proofs.Common.{ap, ◌∙◌}
 use Rattle.serde_json.specs.Written.{has_float}
-use Rattle.serde_json.specs.Data.{Data}
-use Rattle.mc_tables.specs.Summary.{SummaryValue}
-use Rattle.mc_forward.specs.FlightsInDomain.{FlowOfDomain}
 use Rattle.mc_forward.specs.ListedTables.{facts}
-use Rattle.mc_explain.specs.ExplanationValues.{ExplanationValue, explanation_value}
-use Rattle.mc_json.specs.RowData.{line_of}
-use Rattle.mc_json.specs.WrongLine.{FoundTravelValue, found_flow_data, found_travel_value}
+use Rattle.mc_explain.specs.ExplanationValues.{explanation_value}
+use Rattle.mc_json.specs.WrongLine.{found_travel_value}
 use Rattle.mc_json.proofs.LineNoFloatLemmas.{no_float-found_flow_data}
 use Rattle.mc_json.proofs.wrong_line.push_wrong_line.Goals as goal
 
@@ -19,8 +15,5 @@ push_line-requires c = record {
 
 pub returns : goal.returns
 returns c = record {
-  line = c.in_ok-push_line.ensures.added ∙ ap (λ (x : Data). c.text.old ++ line_of x)
-      (c.in_ok-value.ensures.value ∙ ap (λ (v : FlowOfDomain). found_flow_data (facts v.domain)
-      c.args.summary.now (found_travel_value c.args.found.now) (explanation_value c.args.explanation.now))
-      c.new-view.ensures.flow);
+  line = rw (c.in_ok-value.ensures.value, c.new-view.ensures.flow) at c.in_ok-push_line.ensures.added;
 }

@@ -1,14 +1,25 @@
 use Rattle.std.proofs.Common.{◌≡◌, ◌++◌, ℕ, List, ap, ◌∙◌}
-use Rattle.serde_json.specs.Written.{has_float}
 use Rattle.serde_json.specs.Data.{Data}
+use Rattle.serde_json.specs.Written.{has_float}
 use Rattle.mc_tables.specs.Summary.{SummaryValue}
+use Rattle.mc_forward.specs.Domains.{DomainValue}
 use Rattle.mc_forward.specs.FlightsInDomain.{FlowOfDomain}
 use Rattle.mc_forward.specs.ListedTables.{facts}
 use Rattle.mc_explain.specs.ExplanationValues.{ExplanationValue, explanation_value}
 use Rattle.mc_json.specs.RowData.{line_of}
-use Rattle.mc_json.specs.WrongLine.{FoundTravelValue, found_flow_data, found_travel_value}
+use Rattle.mc_json.specs.WrongLine.{FoundTravelValue, found_flow_data, found_travel_value, wrong_line}
 use Rattle.mc_json.proofs.LineNoFloatLemmas.{no_float-found_flow_data}
 use Rattle.mc_json.proofs.wrong_line.push_wrong_line.Goals as goal
+
+-- the line by the view of a flow is that of the domain's flow
+wrong_line-of_view : (d : DomainValue) (summary : List SummaryValue) (found : FoundTravelValue)
+    (x : ExplanationValue) (view : FlowOfDomain) (value : Data) (old new : List ℕ)
+    → view ≡ record { domain = d; flow = found.flow }
+    → value ≡ found_flow_data (facts view.domain) summary found x → new ≡ old ++ line_of value
+    → new ≡ old ++ wrong_line (facts d) summary found x
+wrong_line-of_view d summary found x view value old new same is puts =
+    puts ∙ ap (λ (y : Data). old ++ line_of y) is
+    ∙ ap (λ (v : FlowOfDomain). old ++ line_of (found_flow_data (facts v.domain) summary found x)) same
 
 pub push_line-requires : goal.push_line-requires
 push_line-requires c = record {
@@ -19,8 +30,7 @@ push_line-requires c = record {
 
 pub returns : goal.returns
 returns c = record {
-  line = c.in_ok-push_line.ensures.added ∙ ap (λ (x : Data). c.text.old ++ line_of x)
-      (c.in_ok-value.ensures.value ∙ ap (λ (v : FlowOfDomain). found_flow_data (facts v.domain)
-      c.args.summary.now (found_travel_value c.args.found.now) (explanation_value c.args.explanation.now))
-      c.new-view.ensures.flow);
+  line = wrong_line-of_view c.args.domain.now c.args.summary.now (found_travel_value c.args.found.now)
+      (explanation_value c.args.explanation.now) c.new-view.result _ _ _ c.new-view.ensures.flow
+      c.in_ok-value.ensures.value c.in_ok-push_line.ensures.added;
 }

@@ -1,8 +1,8 @@
 use Rattle.std.proofs.Common.{refl}
 use Rattle.mc_json.proofs.wrong_line.wrong_value.Goals as goal
 
-pub returns-in-None : goal.returns-in-None
-returns-in-None c = record {
+pub returns-in_ok-object-in-None : goal.returns-in_ok-object-in-None
+returns-in_ok-object-in-None c = record {
   value = rw c.in-None.is
       (rw (
         c.topology-topology.ensures.topology,
@@ -11,14 +11,14 @@ returns-in-None c = record {
         c.in_ok-why.ensures,
         c.in_ok-wanted.ensures,
         ← c.requires.number,
-      ) at (c.in_ok-object-2.ensures _ (c.value-fields.ensures _ _ (c.value-2.ensures _ _
+      ) at (c.in_ok-object-in-None.ensures _ (c.value-fields.ensures _ _ (c.value-2.ensures _ _
       (c.value.ensures _ _ (c.list.ensures _ _ c.wrong_fields.ensures c.lan_names.ensures)
       c.optional_finding_value-at_flow_ttl.ensures) refl)
       c.finding_value.ensures)));
 }
 
-pub returns-in-Some : goal.returns-in-Some
-returns-in-Some c = record {
+pub returns-in_ok-object-in-Some : goal.returns-in_ok-object-in-Some
+returns-in_ok-object-in-Some c = record {
   value = rw c.in-Some.is
       (rw (
         c.topology-topology.ensures.topology,
@@ -27,8 +27,8 @@ returns-in-Some c = record {
         c.in_ok-why.ensures,
         c.in_ok-wanted.ensures,
         ← c.requires.number,
-      ) at (c.in_ok-object.ensures _
-      (c.list-2.ensures _ _ (c.value-fields.ensures _ _ (c.value-2.ensures _ _
+      ) at (c.in_ok-object-in-Some.ensures _
+      (c.list-in-Some.ensures _ _ (c.value-fields.ensures _ _ (c.value-2.ensures _ _
       (c.value.ensures _ _ (c.list.ensures _ _ c.wrong_fields.ensures c.lan_names.ensures)
       c.optional_finding_value-at_flow_ttl.ensures) refl)
       c.finding_value.ensures) c.event_values-events.ensures)));

@@ -21,13 +21,11 @@ use crate::file_slots::topology_in;
 use crate::part_result::listed_pairs;
 use crate::refused_file::{RefusedFile, judge_slot, push_if_fault};
 use crate::source_fault::SourceFault;
-use mc_files::{
-    PieceSource, Slot, cache_slot_number, first_lan_slot_number, vif_slot_number,
-};
+use mc_files::{NumberedSlot, PieceSource, Slot};
 use mc_igmp::ListReader;
 use mc_tables::{CacheReader, ListedPairs, VifReader};
 use mc_text::Memory;
-use mc_topology::{RouterNo, Topology};
+use mc_topology::{LanNo, RouterNo, Topology};
 use std::alloc::Global;
 
 /// Reads the topology. Once the source's count of failures is at its maximum, this fails without a
@@ -73,13 +71,13 @@ fn judge_tables<F: PieceSource>(
     if is_excluded(without, topology.router_name(RouterNo(router))) {
         return Ok(());
     }
-    let vif_number = vif_slot_number(RouterNo(router));
+    let vif_slot = NumberedSlot::vifs(topology, RouterNo(router));
     let vifs = VifReader::new(alloc);
-    judge_slot(alloc, files, buffer, topology, vif_number, vifs, refused)?;
+    judge_slot(alloc, files, buffer, &vif_slot, vifs, refused)?;
     let order = topology.order(RouterNo(router));
-    let cache_number = cache_slot_number(RouterNo(router));
+    let cache_slot = NumberedSlot::cache(topology, RouterNo(router));
     let cache = CacheReader::new(alloc, order, listed.clone()?);
-    judge_slot(alloc, files, buffer, topology, cache_number, cache, refused)
+    judge_slot(alloc, files, buffer, &cache_slot, cache, refused)
 }
 
 /// Checks the tables of all routers but the excluded ones.
@@ -123,10 +121,10 @@ fn judge_lans<F: PieceSource>(
     ensures judged { OnOk result (ListsRefused (F.contents files.old) (judged_lans topology.now)
         refused.old.items refused.new.items (F.failed files.old) (F.failed files.new)) }
 {
-    let first = first_lan_slot_number(topology);
     for lan in 0..topology.lans() {
+        let slot = NumberedSlot::reports(topology, LanNo(lan));
         let reader = ListReader::new(alloc);
-        judge_slot(alloc, files, buffer, topology, first + lan, reader, refused)?;
+        judge_slot(alloc, files, buffer, &slot, reader, refused)?;
     }
     Ok(())
 }

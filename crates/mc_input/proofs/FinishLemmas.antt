@@ -5,8 +5,8 @@ use Rattle.std.proofs.Common.{arith, subst}
 use Rattle.mc_topology.specs.Topology.{TopologyValue}
 use Rattle.mc_files.specs.Layout.{slots, certificate_slots}
 use Rattle.mc_files.proofs.SlotLemmas.{length-slots_after_topology}
+use Rattle.mc_files.specs.Layout.{first_lan_number}
 use Rattle.mc_input.specs.PartsOneByOne.{certificate_number}
-use Rattle.mc_input.specs.PartsReading.{first_lan_number}
 
 -- the slots before the certificate's, and that one, if there is one, are all
 pub length-slots_from_certificate_number : (certified : Bool) (t : TopologyValue)

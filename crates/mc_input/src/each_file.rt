@@ -4,16 +4,13 @@ ghost use Rattle.std.specs.Prelude.{◌≡◌, ◌<◌, List, [], IfOk, OnOk, So
 ghost use Rattle.std.specs.Result.{result_err};
 ghost use Rattle.mc_topology.specs.SectionRows.{RouterRow};
 ghost use Rattle.mc_files.specs.Files.{FileText};
-ghost use Rattle.mc_files.specs.Layout.{topology_slot};
 ghost use Rattle.mc_input.specs.ExcludedRouters.{names_of};
-ghost use Rattle.mc_input.specs.FilesReading.{part_from_file};
-ghost use Rattle.mc_input.specs.PartsReading.{read_part, topology_of};
+ghost use Rattle.mc_input.specs.FilesReading.{topology_of_files};
 ghost use Rattle.mc_input.specs.RefusedFiles.{AreExactlyRefusedFiles, AreRefusedFiles, ListsRefused};
 ghost use Rattle.mc_input.specs.RefusedFiles.{as_judged_file, failure_count, judged_files_of};
 ghost use Rattle.mc_input.specs.RefusedFiles.{judged_lans, judged_routers, judged_tables};
 ghost use Rattle.mc_input.specs.RefusedFiles.{saturating_failures, unread_count};
 ghost use Rattle.mc_input.specs.SourceFault.{GivesFromContents};
-ghost use Rattle.mc_input.specs.declared.source_fault.SourceFault.TheVariants.{Input};
 
 use crate::domain::PIECE;
 use crate::excluded::is_excluded;
@@ -37,7 +34,7 @@ fn topology_unless_u64_max<F: PieceSource>(
     ensures same { F.borrows files.new ≡ F.borrows files.old }
     ensures kept { F.contents files.new ≡ F.contents files.old }
     ensures topology { GivesFromContents (F.contents files.old) (λ topology. topology) result
-        (λ contents. read_part Input (part_from_file contents 0 topology_slot) topology_of) }
+        topology_of_files }
     ensures failures { F.failed files.new
         ≡ saturating_failures (failure_count (result_err result)) (F.failed files.old) }
 {

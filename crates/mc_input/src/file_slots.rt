@@ -1,14 +1,13 @@
 //! The files of a folder as the parts of a domain's slots. Each is judged as its turn comes.
 
-ghost use Rattle.std.specs.Prelude.{◌≡◌, ◌<◌, ◌≤◌, ℕ, List, Some, IfErr, IfSome, length, true};
+ghost use Rattle.std.specs.Prelude.{◌≡◌, ◌<◌, ◌≤◌, List, Some, IfErr, IfSome, length, true};
 ghost use Rattle.mc_text.specs.Device.{failures_after};
 ghost use Rattle.mc_files.specs.Files.{FileText};
-ghost use Rattle.mc_files.specs.Layout.{SlotNumber, numbered_slot, topology_slot};
+ghost use Rattle.mc_files.specs.Layout.{SlotNumber, numbered_slot};
 ghost use Rattle.mc_input.specs.ExcludedRouters.{files_without};
 ghost use Rattle.mc_input.specs.Feeding.{SeesHeaderOrFile};
 ghost use Rattle.mc_input.specs.SourceFault.{GivesFromContents, is_possible_for_files, is_read};
-ghost use Rattle.mc_input.specs.FilesReading.{read_file};
-ghost use Rattle.mc_input.specs.PartsReading.{topology_of as topology_reading};
+ghost use Rattle.mc_input.specs.FilesReading.{topology_of_files};
 
 use crate::excluded::header_of_excluded;
 use crate::fault::InputFault;
@@ -107,8 +106,8 @@ pub(crate) fn topology_in<F: FileSource>(
     requires reads { F.failed files.old < u64.MAX }
     ensures same { F.borrows files.new ≡ F.borrows files.old }
     ensures kept { F.contents files.new ≡ F.contents files.old }
-    ensures topology { (n : ℕ) → GivesFromContents (F.contents files.old) (λ topology. topology) result
-        (read_file n topology_slot topology_reading) }
+    ensures topology { GivesFromContents (F.contents files.old) (λ topology. topology) result
+        topology_of_files }
     ensures faults { IfErr result (λ fault. is_possible_for_files fault ≡ true) }
     ensures failures { F.failed files.new ≡ failures_after is_read result (F.failed files.old) }
 {

@@ -5,12 +5,12 @@ ghost use Rattle.std.specs.Prelude.{◌++◌, ◌∷◌, IfErr, OnOk, false, tru
 ghost use Rattle.mc_text.specs.Bundle.{PartText};
 ghost use Rattle.mc_text.specs.Device.{failures_after};
 ghost use Rattle.mc_igmp.specs.declared.record.Record.{Record};
+ghost use Rattle.mc_files.specs.Layout.{first_lan_number};
 ghost use Rattle.mc_forward.specs.Assembling.{AreAnswers, AreWanted};
 ghost use Rattle.mc_forward.specs.ListedTables.{flow_pairs};
 ghost use Rattle.mc_forward.specs.RouterTables.{AreTablesFor, kept_of_tables};
 ghost use Rattle.mc_input.specs.Kept.{AreContentsOf, AreFlowPairs, AreWantedBy};
 ghost use Rattle.mc_input.specs.PartsOneByOne.{certificate_number};
-ghost use Rattle.mc_input.specs.PartsReading.{first_lan_number};
 ghost use Rattle.mc_input.specs.SourceFault.{IsReadOrMemory, is_possible_for_files, is_read};
 ghost use Rattle.mc_input.specs.Stream.{ContentsRead, IsFaultBeforeOrOwn, IsFaultOfStream, IsReaderOf};
 ghost use Rattle.mc_input.specs.Stream.{KeepsOfFirst, RouterRead, Stream, input_of_contents};

@@ -8,19 +8,21 @@ use Rattle.mc_tables.specs.ListedRows.{IsListedPart}
 use Rattle.mc_topology.specs.SectionRows.{RouterRow}
 use Rattle.mc_topology.specs.Topology.{TopologyValue}
 use Rattle.mc_files.specs.Layout.{SlotNumber}
+use Rattle.mc_files.specs.Layout.{first_lan_number}
 use Rattle.mc_forward.specs.Domains.{TablesValue}
 use Rattle.mc_forward.specs.ListedTables.{flow_pairs}
 use Rattle.mc_forward.specs.RouterTables.{RouterTablesValue, kept_of_tables}
 use Rattle.mc_forward.proofs.IndexLemmas.{slice_get-exists}
 use Rattle.mc_forward.proofs.ListedTableLemmas.{with_router-of_listed_part}
 use Rattle.mc_input.specs.Kept.{AreFlowPairs}
-use Rattle.mc_input.specs.PartsReading.{first_lan_number, vifs_of}
+use Rattle.mc_input.specs.PartsReading.{vifs_of}
 use Rattle.mc_input.specs.Stream.{KeepsCacheText, NextParts, RouterRead, Stream, cache_and_text, part_then}
-use Rattle.mc_input.specs.Stream.{read_each_after, read_first, read_router, read_stream, router_read}
+use Rattle.mc_input.specs.Stream.{read_first, read_router, read_stream, router_read}
 use Rattle.mc_input.specs.declared.fault.InputFault.TheVariants.{Vif}
 use Rattle.mc_input.specs.declared.source_fault.SourceFault.{SourceFault}
 use Rattle.mc_input.proofs.ReadingLemmas.{drop-slice_get}
-use Rattle.mc_input.proofs.WalkLemmas.{map-tables_push, read_each-Err, read_each-end, read_each-more}
+use Rattle.mc_input.proofs.WalkLemmas.{map-tables_push, read_each_after, read_each-Err, read_each-end}
+use Rattle.mc_input.proofs.WalkLemmas.{read_each-more}
 use Rattle.mc_input.proofs.WalkLemmas.{order-at, read_each-start, read_router-Ok, read_router-cache_Err}
 use Rattle.mc_input.proofs.WalkLemmas.{read_router-vifs_Err, read_stream-Err_implied}
 use Rattle.mc_input.proofs.walk.read_tables.Goals as goal

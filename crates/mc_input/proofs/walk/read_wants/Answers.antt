@@ -6,20 +6,22 @@ use Rattle.mc_text.specs.Steps.{map_fault}
 use Rattle.mc_igmp.specs.declared.record.Record.{Record}
 use Rattle.mc_topology.specs.Topology.{TopologyValue}
 use Rattle.mc_files.specs.Layout.{SlotNumber}
+use Rattle.mc_files.specs.Layout.{first_lan_number}
 use Rattle.mc_forward.specs.Assembling.{AreWanted}
 use Rattle.mc_forward.proofs.IndexLemmas.{slice_get-exists}
 use Rattle.mc_forward.proofs.ListedTableLemmas.{pairwise-more}
 use Rattle.mc_input.specs.Kept.{AreWantedBy}
 use Rattle.mc_input.specs.PartsOneByOne.{certificate_number}
-use Rattle.mc_input.specs.PartsReading.{first_lan_number, reports_of}
-use Rattle.mc_input.specs.Stream.{IsFaultOfStream, NextParts, Stream, read_each_after, read_first}
+use Rattle.mc_input.specs.PartsReading.{reports_of}
+use Rattle.mc_input.specs.Stream.{IsFaultOfStream, NextParts, Stream, read_first}
 use Rattle.mc_input.specs.Stream.{read_lan, read_stream}
 use Rattle.mc_input.specs.declared.fault.InputFault.TheVariants.{Memory, Reports}
 use Rattle.mc_input.specs.declared.source_fault.SourceFault.{SourceFault}
 use Rattle.mc_input.specs.declared.source_fault.SourceFault.TheVariants.{Input}
 use Rattle.mc_input.proofs.FinishLemmas.{length-answers_push}
 use Rattle.mc_input.proofs.ReadingLemmas.{drop-slice_get}
-use Rattle.mc_input.proofs.WalkLemmas.{read_each-Err, read_each-end, read_each-more, read_each-start}
+use Rattle.mc_input.proofs.WalkLemmas.{read_each_after, read_each-Err, read_each-end, read_each-more}
+use Rattle.mc_input.proofs.WalkLemmas.{read_each-start}
 use Rattle.mc_input.proofs.WalkLemmas.{read_lan-Err, read_lan-Ok, read_stream-Err_implied}
 use Rattle.mc_input.proofs.walk.read_wants.Goals as goal
 

@@ -6,11 +6,11 @@ use Rattle.mc_tables.specs.SummaryReading.{summary_in}
 use Rattle.mc_tables.specs.declared.summary.summarized_cache.SummarizedCache.{SummarizedCache}
 use Rattle.mc_forward.specs.ListedTables.{Pairwise, flow_pairs}
 use Rattle.mc_forward.proofs.ListedTableLemmas.{pairwise-more}
-use Rattle.mc_input.specs.PartsReading.{summary_of_part}
 use Rattle.mc_input.specs.Stream.{cache_and_text, read_first, router_read}
 use Rattle.mc_input.specs.SummariesOfFiles.{IsSummaryOfRead}
 use Rattle.mc_input.specs.declared.fault.InputFault.TheVariants.{Cache}
 use Rattle.mc_input.proofs.CacheLemmas.{cache_and_text-from_summary, cache_and_text-summary_Err}
+use Rattle.mc_input.proofs.CacheLemmas.{summary_of_part}
 use Rattle.mc_input.proofs.SummaryLemmas.{summary_in-same_pairs}
 use Rattle.mc_input.proofs.WalkLemmas.{IsFaultOfStream-implied, KeepsOfFirst-implied, read_first-Err_implied}
 use Rattle.mc_input.proofs.cache_keeper.SummaryKeeperCacheKeeper.read_cache.Goals as goal

@@ -1,13 +1,13 @@
 -- The slots of a domain: how many they are, which has which number, and their names.
 use Rattle.std.proofs.Common.{◌≡◌, ℕ, zero, suc, ◌+◌, ◌*◌, ◌≤◌, ◌<◌, Bool, true, false, List, []}
 use Rattle.std.proofs.Common.{◌∷◌, ◌++◌, codes, length, map, Some, refl, ap, ◌∙◌, arith}
-use Rattle.std.proofs.Common.{lit≤}
+use Rattle.std.proofs.Common.{None, append-nil, append_assoc, lit≤, subst}
 use Rattle.std.specs.Prelude.{◌&&◌, flat_map, IsTrue, nat_le, option_map, slice_get}
 use Rattle.std.specs.List.{AllByRecursion, list_all}
 use Rattle.std.proofs.lemmas.Bool.{and_parts}
 use Rattle.std.proofs.lemmas.List.{length-append, length-map}
 use Rattle.mc_text.specs.Bundle.{IsPartName}
-use Rattle.mc_text.proofs.Lists.{AllByRecursion-append}
+use Rattle.mc_text.proofs.Lists.{AllByRecursion-append, slice_get-append_front}
 use Rattle.mc_topology.specs.Names.{is_name, is_name_byte}
 use Rattle.mc_topology.specs.SectionRows.{RouterRow}
 use Rattle.mc_topology.specs.Topology.{TopologyValue, IsValidTopology}
@@ -122,6 +122,22 @@ router_slot certified t n k slot is at =
     slice_get-behind_first (slots_after_topology certified t) topology_slot n k is
     ∙ at (map reports_slot t.lans ++ certificate_slots certified)
 
+-- the vifs of one of the routers
+pub slots-vif_slot : (certified : Bool) (t : TopologyValue) (n router : ℕ) (name : List ℕ)
+    → n ≡ 1 + 2 * router → option_map (λ r. r.name) (slice_get t.routers router) ≡ Some name
+    → slice_get (slots certified t) n ≡ Some (vif_slot name)
+slots-vif_slot certified t n router name is at =
+    router_slot certified t n (2 * router) (vif_slot name) (omega (arith, is))
+    (λ more. slice_get-vif_slot more t.routers router (2 * router) name refl at)
+
+-- and its cache
+pub slots-cache_slot : (certified : Bool) (t : TopologyValue) (n router : ℕ) (name : List ℕ)
+    → n ≡ 2 + 2 * router → option_map (λ r. r.name) (slice_get t.routers router) ≡ Some name
+    → slice_get (slots certified t) n ≡ Some (cache_slot name)
+slots-cache_slot certified t n router name is at =
+    router_slot certified t n (2 * router + 1) (cache_slot name) (omega (arith, is))
+    (λ more. slice_get-cache_slot more t.routers router (2 * router + 1) name refl at)
+
 -- a slot behind those of the routers
 slots-behind_routers : (certified : Bool) (t : TopologyValue) (n k : ℕ)
     → n ≡ k + 2 * length t.routers + 1
@@ -153,6 +169,19 @@ slots-certificate_slot true t n past within =
   where
     zero_first : length t.lans ≡ 0 + length t.lans
     zero_first = omega arith
+
+-- a certificate comes after all of them
+pub slots-with_certificate : (certified : Bool) (t : TopologyValue) (n : ℕ) (slot : Slot)
+    → slice_get (slots false t) n ≡ Some slot → slice_get (slots certified t) n ≡ Some slot
+slots-with_certificate false t n slot at = at
+slots-with_certificate true t n slot at =
+    let routers = flat_map router_slots t.routers in
+    let lans = map reports_slot t.lans in
+    let last = certificate_slot ∷ [] in
+    let same : (routers ++ (lans ++ [])) ++ last ≡ routers ++ (lans ++ last) =
+    append_assoc routers (lans ++ []) last ∙ ap (λ ss. routers ++ (ss ++ last)) (append-nil lans) in
+    subst (λ (ss : List Slot). slice_get (topology_slot ∷ ss) n ≡ Some slot) same
+    (slice_get-append_front (slots false t) last n slot at)
 
 -- ---- their names in a bundle
 

@@ -1,7 +1,7 @@
 -- The slots of a domain: the places of its parts in their fixed order, and the two names of each,
 -- in a bundle and in a folder (docs/FORMATS.md).
-use Rattle.std.specs.Prelude.{ℕ, Bool, true, false, List, [], ◌∷◌, ◌++◌, codes, map, flat_map}
-use Rattle.std.specs.Prelude.{Option, Some, None}
+use Rattle.std.specs.Prelude.{ℕ, ◌+◌, ◌*◌, Bool, true, false, List, [], ◌∷◌, ◌++◌, codes, map, flat_map}
+use Rattle.std.specs.Prelude.{Option, Some, None, length, slice_get}
 use Rattle.mc_topology.specs.SectionRows.{RouterRow}
 use Rattle.mc_topology.specs.Topology.{TopologyValue}
 use Rattle.mc_files.specs.declared.slot.SlotKind.{SlotKind}
@@ -57,6 +57,11 @@ reports_slot lan = record { kind = kind_word Reports; owner = Some lan }
 abbrev pub certificate_slot : Slot
 certificate_slot = record { kind = kind_word Certificate; owner = None }
 
+-- the slot of a router's table: of its vifs, or else of its cache
+abbrev pub table_slot : (vifs : Bool) → (router : List ℕ) → Slot
+table_slot true router = vif_slot router
+table_slot false router = cache_slot router
+
 -- the slots of a router's two tables
 abbrev pub router_slots : RouterRow → List Slot
 router_slots r = vif_slot r.name ∷ cache_slot r.name ∷ []
@@ -75,3 +80,18 @@ slots_after_topology certified t =
 -- all slots of a domain, in their fixed order
 abbrev pub slots : (certified : Bool) → TopologyValue → List Slot
 slots certified t = topology_slot ∷ slots_after_topology certified t
+
+-- ---- their numbers, counted from 0
+
+-- the number of the first LAN's slot: before it are the topology's and two of each router
+abbrev pub first_lan_number : TopologyValue → ℕ
+first_lan_number t = 1 + 2 * length t.routers
+
+-- a slot that the domain of a topology has without a certificate, by its number
+pub record SlotNumber : Type 0 where
+  pub topology : TopologyValue
+  pub number : ℕ
+
+-- the slot with the number, if there is one
+abbrev pub numbered_slot : SlotNumber → Option Slot
+numbered_slot s = slice_get (slots false s.topology) s.number

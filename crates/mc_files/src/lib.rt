@@ -8,6 +8,7 @@ mod fault;
 mod file_part;
 mod folder;
 pub mod laws;
+mod numbered_slot;
 mod packed_part;
 mod packing;
 mod piece_source;
@@ -18,10 +19,9 @@ mod unread;
 pub use fault::{FileFault, PackFault};
 pub use file_part::{FilePart, part_of_file};
 pub use folder::Folder;
+pub use numbered_slot::NumberedSlot;
 pub use packing::pack;
 pub use piece_source::PieceSource;
-pub use slot::{
-    Slot, cache_slot_number, first_lan_slot_number, slot_at, slot_count, vif_slot_number,
-};
+pub use slot::{Slot, slot_at, slot_count};
 pub use source::FileSource;
 pub use unread::Unread;

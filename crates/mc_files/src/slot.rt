@@ -1,13 +1,13 @@
 //! The slots of a domain: its parts in their fixed order, and the two names of each.
 
-ghost use Rattle.std.specs.Prelude.{◌≡◌, ◌<◌, ◌≤◌, ◌+◌, ◌*◌, ◌++◌, codes, flat_map, length, slice_get, Some};
-ghost use Rattle.std.specs.Prelude.{List, IfOk, IsTrue};
+ghost use Rattle.std.specs.Prelude.{◌≡◌, ◌≢◌, ◌<◌, ◌≤◌, ◌+◌, ◌*◌, ◌++◌, ℕ, Bool, codes, flat_map, length};
+ghost use Rattle.std.specs.Prelude.{slice_get, Some, None, List, IfOk, IfSome, IsTrue};
 ghost use Rattle.std.specs.Str.{bytes_eq};
 ghost use Rattle.std.specs.String.{string_bytes};
 ghost use Rattle.mc_text.specs.Bundle.{IsPartName};
 ghost use Rattle.mc_files.specs.Layout.{Slot as SlotText, cache_slot, certificate_slot, file_name};
-ghost use Rattle.mc_files.specs.Layout.{kind_word, part_name, reports_slot, router_slots, slots};
-ghost use Rattle.mc_files.specs.Layout.{topology_slot, vif_slot};
+ghost use Rattle.mc_files.specs.Layout.{first_lan_number, kind_word, part_name, reports_slot};
+ghost use Rattle.mc_files.specs.Layout.{router_slots, slots, table_slot, topology_slot, vif_slot};
 ghost use Rattle.mc_topology.specs.Names.{is_name};
 ghost use Rattle.mc_topology.specs.Topology.{IsValidTopology};
 
@@ -122,6 +122,22 @@ impl<'a> Slot<'a> {
         }
     }
 
+    /// The router whose table is in it, and whether that is the table of vifs, or else the cache; `None`
+    /// where no router's table is in it.
+    pub fn router_table(&self) -> Option<(&'a str, bool)>
+        ensures table { IfSome result (λ table. self.now ≡ table_slot table.1 table.0.now) }
+        ensures none { result ≡ None → (vifs : Bool) (router : List ℕ) → self.now ≢ table_slot vifs router }
+    {
+        let Some(owner) = self.owner else {
+            return None;
+        };
+        match self.kind {
+            SlotKind::Vifs => Some((owner, true)),
+            SlotKind::Cache => Some((owner, false)),
+            SlotKind::Topology | SlotKind::Reports | SlotKind::Certificate => None,
+        }
+    }
+
     /// Whether these are the bytes of its name in a bundle.
     pub fn is_named(&self, name: &[u8]) -> bool
         ensures { result ≡ bytes_eq name.now (part_name self.now) }
@@ -202,25 +218,9 @@ fn router_slot(topology: &Topology, number: u32) -> Slot<'_>
     Slot::cache(router)
 }
 
-/// The number of the slot of a router's vifs, counted from 0: behind the topology's, each router has two.
-pub fn vif_slot_number(router: RouterNo) -> u32
-    requires few { router < 256 }
-    ensures value { result ≡ 1 + 2 * router }
-{
-    1 + 2 * router.0
-}
-
-/// The number of the slot of a router's forwarding cache, behind that of its vifs.
-pub fn cache_slot_number(router: RouterNo) -> u32
-    requires few { router < 256 }
-    ensures value { result ≡ 2 + 2 * router }
-{
-    vif_slot_number(router) + 1
-}
-
 /// The number of the slot of the first LAN's reports, behind those of the routers.
-pub fn first_lan_slot_number(topology: &Topology) -> u32
-    ensures value { result ≡ 1 + 2 * length topology.now.routers }
+pub(crate) fn first_lan_slot_number(topology: &Topology) -> u32
+    ensures value { result ≡ first_lan_number topology.now }
     ensures rules { IsValidTopology topology.now }
 {
     1 + 2 * topology.routers()

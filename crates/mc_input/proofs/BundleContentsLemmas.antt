@@ -18,13 +18,14 @@ use Rattle.mc_topology.specs.Topology.{TopologyValue}
 use Rattle.mc_files.specs.Layout.{Slot, cache_slot, certificate_slot, certificate_slots, part_name}
 use Rattle.mc_files.specs.Layout.{reports_slot, slots, slots_after_topology, topology_slot, vif_slot}
 use Rattle.mc_files.proofs.SlotLemmas.{slots-certificate_slot, length-slots_after_topology}
+use Rattle.mc_files.specs.Layout.{first_lan_number}
 use Rattle.mc_forward.specs.Domains.{TablesValue}
 use Rattle.mc_input.specs.Input.{InputValue}
 use Rattle.mc_input.specs.InputReading.{certificate_in, check_part_names}
 use Rattle.mc_input.specs.InputReading.{part_with_slot_name}
 use Rattle.mc_input.specs.PartsOneByOne.{InputAndCertificate, certificate_number, check_names_from}
 use Rattle.mc_input.specs.PartsOneByOne.{IsFaultOf, read_all_parts, read_first_topology, read_rest}
-use Rattle.mc_input.specs.PartsReading.{all_reports, all_tables, cache_of, first_lan_number, read_input}
+use Rattle.mc_input.specs.PartsReading.{all_reports, all_tables, cache_of, read_input}
 use Rattle.mc_input.specs.PartsReading.{read_part, read_tables_and_reports, reports_of, router_tables}
 use Rattle.mc_input.specs.PartsReading.{topology_of, vifs_of}
 use Rattle.mc_input.specs.Stream.{ContentsRead, NextParts, Stream, bundle_gives, certificate_parts}

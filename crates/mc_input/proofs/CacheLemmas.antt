@@ -13,7 +13,6 @@ use Rattle.mc_tables.specs.declared.fault.TableFault.{TableFault}
 use Rattle.mc_tables.specs.declared.summary.summarized_cache.SummarizedCache.{SummarizedCache}
 use Rattle.mc_tables.proofs.ListedPartLemmas.{listed_in-is_part, listed_in-same_fault}
 use Rattle.mc_files.proofs.PartLemmas.{Ok-from_refused_as}
-use Rattle.mc_input.specs.PartsReading.{summary_of_part}
 use Rattle.mc_input.specs.Stream.{cache_and_text}
 use Rattle.mc_input.specs.declared.fault.InputFault.{InputFault}
 use Rattle.mc_input.specs.declared.fault.InputFault.TheVariants.{Cache}
@@ -23,6 +22,11 @@ use Rattle.mc_input.proofs.SummaryLemmas.{cache_rows_in-from_summary_in}
 -- the rows of these sources and groups in a part
 abbrev pub listed_part : Order → List (ℕ × ℕ) → PartText → Result CacheValue InputFault
 listed_part order pairs part = map_fault (Cache part.name) (listed_in order (Some pairs) part.bytes)
+
+-- the entries of these sources and groups that a part has, and the summary of all its rows
+abbrev pub summary_of_part : (all : Bool) → Order → List (ℕ × ℕ) → PartText
+    → Result SummarizedCache InputFault
+summary_of_part all order pairs part = map_fault (Cache part.name) (summary_in all order pairs part.bytes)
 
 -- a part that is refused by a reader of the same faults
 cache_and_text-Err : {X : Type 0} (order : Order) (part : PartText) (found : Result X TableFault)

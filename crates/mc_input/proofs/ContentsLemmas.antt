@@ -13,11 +13,12 @@ use Rattle.mc_topology.specs.SectionRows.{RouterRow}
 use Rattle.mc_topology.specs.Topology.{TopologyValue}
 use Rattle.mc_files.specs.Layout.{Slot, cache_slot, certificate_slots, reports_slot, router_slots}
 use Rattle.mc_files.specs.Layout.{slots_after_topology, vif_slot}
+use Rattle.mc_files.specs.Layout.{first_lan_number}
 use Rattle.mc_forward.specs.Domains.{TablesValue}
 use Rattle.mc_input.specs.Input.{InputValue}
 use Rattle.mc_input.specs.InputView.{input_with}
 use Rattle.mc_input.specs.PartsOneByOne.{certificate_number}
-use Rattle.mc_input.specs.PartsReading.{all_reports, all_tables, cache_of, first_lan_number, read_part}
+use Rattle.mc_input.specs.PartsReading.{all_reports, all_tables, cache_of, read_part}
 use Rattle.mc_input.specs.PartsReading.{read_tables_and_reports, reports_of, router_tables, vifs_of}
 use Rattle.mc_input.specs.Stream.{ContentsRead, NextParts, RouterRead, cache_and_text, input_of_contents}
 use Rattle.mc_input.specs.Stream.{parts_of_slots, read_contents, read_each, read_lans, read_routers}

@@ -4,6 +4,7 @@ use Rattle.std.specs.Prelude.{Option, Some, Result, Ok, Err, Contains, get_or, i
 use Rattle.std.specs.Prelude.{length, map, option_map}
 use Rattle.std.specs.Prelude.{drop, refl}
 use Rattle.std.proofs.Common.{add-one, cond, ap, arith, sym, ◌∙◌}
+use Rattle.std.specs.FinMap as map_of
 use Rattle.std.specs.List.{find, list_any, position_from}
 use Rattle.std.specs.Str.{bytes_eq}
 use Rattle.std.proofs.lemmas.Iterator.Adapters.{position_from-zero}
@@ -11,6 +12,7 @@ use Rattle.std.proofs.lemmas.Slice.Eq.{bytes_eq-Decides}
 use Rattle.mc_text.specs.Steps.{◌>>=◌, map_fault}
 use Rattle.mc_text.specs.declared.text.addr.Order.{Order}
 use denote.Ref.{Bor}
+use Rattle.mc_tables.specs.CacheTable.{table_of}
 use Rattle.mc_topology.specs.Lookup.{has_router, router_no_of}
 use Rattle.mc_topology.specs.SectionRows.{RouterRow}
 use Rattle.mc_topology.specs.Topology.{TopologyValue}
@@ -18,11 +20,13 @@ use Rattle.mc_files.specs.FilePart.{file_part, bytes_within_max_part}
 use Rattle.mc_files.specs.Files.{FileText, file_named}
 use Rattle.mc_files.specs.Layout.{Slot, cache_slot, file_name, part_name, reports_slot, topology_slot}
 use Rattle.mc_files.specs.Layout.{vif_slot}
+use Rattle.mc_files.specs.Layout.{first_lan_number}
+use Rattle.mc_forward.specs.Domains.{TablesValue}
 use Rattle.mc_input.specs.FilesReading.{input_of_files, part_from_file}
-use Rattle.mc_input.specs.ExcludedRouters.{AreRouterNames, cache_header, empty_tables}
+use Rattle.mc_input.specs.ExcludedRouters.{AreRouterNames, cache_header}
 use Rattle.mc_input.specs.ExcludedRouters.{check_router_names, input_of_files_without}
 use Rattle.mc_input.specs.ExcludedRouters.{files_with_exclusions, vif_header}
-use Rattle.mc_input.specs.PartsReading.{all_reports, read_tables_and_reports, first_lan_number}
+use Rattle.mc_input.specs.PartsReading.{all_reports, read_tables_and_reports}
 use Rattle.mc_input.specs.PartsReading.{router_tables, read_part}
 use Rattle.mc_input.specs.PartsReading.{topology_of}
 use Rattle.mc_input.specs.declared.source_fault.SourceFault.{SourceFault}
@@ -32,6 +36,10 @@ use Rattle.mc_input.specs.declared.exclusion_fault.ExclusionFault.TheVariants.{S
 use Rattle.mc_input.proofs.ReadingLemmas.{read_input-judged}
 
 -- ---- the files of excluded routers, in front of others
+
+-- the tables that are read from files with a header alone: no vif and no row
+abbrev pub empty_tables : TablesValue
+empty_tables = record { vifs = map_of.from_entries []; cache = table_of [] }
 
 -- the router's name is one of the excluded ones
 abbrev pub is_excluded_name : (names : List (List ℕ)) → List ℕ → Bool

@@ -9,6 +9,7 @@ use Rattle.mc_igmp.specs.declared.record.Record.{Record}
 use Rattle.mc_topology.specs.SectionRows.{RouterRow}
 use Rattle.mc_topology.specs.Topology.{TopologyValue}
 use Rattle.mc_files.specs.Files.{FileText}
+use Rattle.mc_files.specs.Layout.{first_lan_number}
 use Rattle.mc_theory.specs.ExcludedRouters.{ExcludesRouters}
 use Rattle.mc_forward.specs.Assembling.{IsAssembled}
 use Rattle.mc_tables.specs.VifTable.{VifValue}
@@ -19,7 +20,7 @@ use Rattle.mc_forward.proofs.TableFactLemmas.{row_at, rows_by_tables-at_router, 
 use Rattle.mc_input.specs.FilesReading.{part_from_file}
 use Rattle.mc_input.specs.ExcludedRouters.{has_name_among, is_excluded, files_with_exclusions}
 use Rattle.mc_input.specs.Meaning.{FilesMeanDomain}
-use Rattle.mc_input.specs.PartsReading.{all_reports, all_tables, first_lan_number}
+use Rattle.mc_input.specs.PartsReading.{all_reports, all_tables}
 use Rattle.mc_input.specs.declared.source_fault.SourceFault.{SourceFault}
 use Rattle.mc_input.specs.declared.source_fault.SourceFault.TheVariants.{Input}
 use Rattle.mc_input.proofs.InputCounts.{AreCounted-from_PartsDenoteInput}

@@ -5,20 +5,10 @@ use Rattle.std.proofs.Common.{arith, subst}
 use Rattle.mc_topology.specs.Topology.{TopologyValue}
 use Rattle.mc_files.specs.Layout.{slots, certificate_slots}
 use Rattle.mc_files.proofs.SlotLemmas.{length-slots_after_topology}
+use Rattle.mc_files.specs.Layout.{first_lan_number}
 use Rattle.mc_input.specs.PartsOneByOne.{certificate_number}
-use Rattle.mc_input.specs.PartsReading.{first_lan_number}
 
--- the numbers of a router's slots are below the count
-pub router_slots-within_count : (certified : Bool) (t : TopologyValue) (router : ℕ)
-    → router < length t.routers → 2 + 2 * router < length (slots certified t)
-router_slots-within_count certified t router within =
-    omega (arith, within, length-slots_after_topology certified t)
-
--- and those of a LAN's
-pub lan_slot-within_count : (certified : Bool) (t : TopologyValue) (lan : ℕ) → lan < length t.lans
-    → first_lan_number t + lan < length (slots certified t)
-lan_slot-within_count certified t lan within = omega (arith, within, length-slots_after_topology certified t)
-
+-- the slots before the certificate's, and that one, if there is one, are all
 pub length-slots_from_certificate_number : (certified : Bool) (t : TopologyValue)
     → certificate_number t + length (certificate_slots certified) ≡ length (slots certified t)
 length-slots_from_certificate_number certified t = omega (arith, length-slots_after_topology certified t)

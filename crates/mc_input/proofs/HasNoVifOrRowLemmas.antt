@@ -16,21 +16,22 @@ use Rattle.mc_topology.specs.declared.flow.Flow.{Flow}
 use Rattle.mc_igmp.specs.declared.record.Record.{Record}
 use Rattle.mc_files.specs.Files.{FileText}
 use Rattle.mc_files.specs.Layout.{Slot, topology_slot}
+use Rattle.mc_files.specs.Layout.{first_lan_number}
 use Rattle.mc_theory.specs.Nets.{Row}
 use Rattle.mc_theory.specs.Nets.Row.{NoRow}
 use Rattle.mc_forward.specs.Domains.{DomainValue, TablesValue, VifsValue, lan_of_vif, vif_of}
 use Rattle.mc_forward.proofs.TableFactLemmas.{row_at, rows_by_tables-at_router, vif_of-vifs_by_tables}
 use Rattle.mc_input.specs.FilesReading.{part_from_file}
 use Rattle.mc_input.specs.Input.{InputValue}
-use Rattle.mc_input.specs.ExcludedRouters.{HasNoVifOrRow, empty_tables, files_with_exclusions}
+use Rattle.mc_input.specs.ExcludedRouters.{HasNoVifOrRow, files_with_exclusions}
 use Rattle.mc_input.specs.Meaning.{FilesMeanDomain}
 use Rattle.mc_input.specs.PartsReading.{all_reports, all_tables, read_tables_and_reports}
-use Rattle.mc_input.specs.PartsReading.{first_lan_number, read_input}
+use Rattle.mc_input.specs.PartsReading.{read_input}
 use Rattle.mc_input.specs.PartsReading.{router_tables, read_part, topology_of}
 use Rattle.mc_input.specs.declared.source_fault.SourceFault.{SourceFault}
 use Rattle.mc_input.specs.declared.source_fault.SourceFault.TheVariants.{Input}
 use Rattle.mc_input.proofs.FilesDenoteInputLemmas.{input_of_files-Ok}
-use Rattle.mc_input.proofs.ExcludedLemmas.{is_excluded_name, is_excluded_name-from_Contains}
+use Rattle.mc_input.proofs.ExcludedLemmas.{empty_tables, is_excluded_name, is_excluded_name-from_Contains}
 use Rattle.mc_input.proofs.ExcludedLemmas.{file_named-excluded_cache, file_named-excluded_vif}
 use Rattle.mc_input.proofs.ExcludedLemmas.{router_tables-header_only}
 

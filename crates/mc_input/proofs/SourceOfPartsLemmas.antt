@@ -18,12 +18,13 @@ use Rattle.mc_topology.proofs.TopologyTexts.{parse_topology-denotes, parse_topol
 use Rattle.mc_files.specs.Layout.{Slot, part_name, topology_slot, vif_slot, cache_slot}
 use Rattle.mc_files.specs.Layout.{reports_slot, router_slots, slots}
 use Rattle.mc_files.proofs.PartLemmas.{Ok-from_refused_as}
+use Rattle.mc_files.specs.Layout.{first_lan_number}
 use Rattle.mc_forward.specs.Domains.{TablesValue}
 use Rattle.mc_input.specs.Input.{InputValue, PartsDenoteInput, PartsDenoteTables}
 use Rattle.mc_input.specs.Input.{PartsDenoteReports, DenotesTables}
 use Rattle.mc_input.specs.Input.{PartsDenoteCertificate}
 use Rattle.mc_input.specs.PartsReading.{topology_of, vifs_of, cache_of, reports_of, read_part}
-use Rattle.mc_input.specs.PartsReading.{router_tables, all_tables, all_reports, first_lan_number}
+use Rattle.mc_input.specs.PartsReading.{router_tables, all_tables, all_reports}
 use Rattle.mc_input.specs.PartsReading.{read_tables_and_reports}
 use Rattle.mc_input.specs.PartsReading.{read_input}
 use Rattle.mc_input.specs.declared.fault.InputFault.{InputFault}

@@ -17,8 +17,7 @@ use Rattle.mc_forward.specs.Domains.{TablesValue}
 use Rattle.mc_input.specs.PartsReading.{read_part, reports_of, vifs_of}
 use Rattle.mc_input.specs.SourceFault.{IsReadOrMemory}
 use Rattle.mc_input.specs.Stream.{IsFaultBeforeOrOwn, IsFaultOfStream, IsFedPart, IsReaderOf, KeepsOfFirst}
-use Rattle.mc_input.specs.Stream.{NextParts, ReadsFirst}
-use Rattle.mc_input.specs.Stream.{Stream, first_part, part_then, read_each, read_each_after, read_first}
+use Rattle.mc_input.specs.Stream.{NextParts, ReadsFirst, Stream, first_part, part_then, read_each, read_first}
 use Rattle.mc_input.specs.Stream.{ContentsRead, RouterRead, cache_and_text, read_contents, read_lan}
 use Rattle.mc_input.specs.Stream.{read_lans, read_router, read_routers, read_stream, router_read}
 use Rattle.mc_input.specs.Stream.{value_and_rest}
@@ -27,6 +26,11 @@ use Rattle.mc_input.specs.declared.fault.InputFault.TheVariants as input
 use Rattle.mc_input.specs.declared.source_fault.SourceFault.{SourceFault}
 use Rattle.mc_input.specs.declared.source_fault.SourceFault.TheVariants.{Input}
 use Rattle.mc_input.proofs.PartResultLemmas.{Err-from_part_result, Ok-from_IsPartResult}
+
+-- these values, then what is read for each of these items, and the parts after it
+abbrev pub read_each_after : {A X : Type 0} → (A → NextParts → Result (X × NextParts) SourceFault)
+    → List X → List A → NextParts → Result (List X × NextParts) SourceFault
+read_each_after read front xs parts = read_each read xs parts >>= λ found. Ok (front ++ found.0, found.1)
 
 -- ---- a fault
 

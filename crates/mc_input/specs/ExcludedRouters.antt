@@ -4,22 +4,20 @@ use Rattle.std.specs.Prelude.{◌≡◌, ℕ, ◌+◌, min, Bool, true, false, I
 use Rattle.std.specs.Prelude.{Contains, flat_map, map, option_map, Option, None, Some, Result, Ok, Err}
 use Rattle.std.specs.Prelude.{if◌then◌else◌, slice_get}
 use denote.Ref.{Bor}
-use Rattle.std.specs.FinMap as map_of
 use Rattle.std.specs.List.{AllByRecursion, list_any}
 use Rattle.std.specs.Str.{bytes_eq}
 use Rattle.mc_text.specs.Steps.{◌>>=◌, map_fault}
-use Rattle.mc_tables.specs.CacheTable.{table_of}
 use Rattle.mc_topology.specs.Lookup.{has_router}
 use Rattle.mc_topology.specs.SectionRows.{RouterRow}
 use Rattle.mc_topology.specs.Topology.{TopologyValue}
 use Rattle.mc_files.specs.Files.{FileText}
-use Rattle.mc_files.specs.Layout.{cache_slot, file_name, topology_slot, vif_slot}
+use Rattle.mc_files.specs.Layout.{cache_slot, file_name, vif_slot}
 use Rattle.mc_theory.specs.Nets.Row.{NoRow}
 use Rattle.mc_theory.specs.ExcludedRouters.{ExcludesRouters}
-use Rattle.mc_forward.specs.Domains.{DomainValue, TablesValue, net_of, placed_of, row_of, vif_of}
-use Rattle.mc_input.specs.FilesReading.{input_of_files, part_from_file}
+use Rattle.mc_forward.specs.Domains.{DomainValue, net_of, placed_of, row_of, vif_of}
+use Rattle.mc_input.specs.FilesReading.{input_of_files, part_from_file, topology_of_files}
 use Rattle.mc_input.specs.Input.{InputValue}
-use Rattle.mc_input.specs.PartsReading.{read_part, read_tables_and_reports, topology_of}
+use Rattle.mc_input.specs.PartsReading.{read_tables_and_reports}
 use Rattle.mc_input.specs.SourceFault.{IsReadOrMemory, is_possible_for_files, is_read}
 use Rattle.mc_input.specs.declared.source_fault.SourceFault.{SourceFault}
 use Rattle.mc_input.specs.declared.source_fault.SourceFault.TheVariants.{Input}
@@ -63,10 +61,6 @@ files_with_exclusions names files = flat_map header_only_files names ++ files
 abbrev pub files_without : (names : List (Bor (List ℕ))) → List FileText → List FileText
 files_without names files = files_with_exclusions (names_of names) files
 
--- the tables that are read from files with a header alone: no vif and no row
-abbrev pub empty_tables : TablesValue
-empty_tables = record { vifs = map_of.from_entries []; cache = table_of [] }
-
 -- ---- the names of excluded routers
 
 -- Each of the names is that of a router.
@@ -108,7 +102,7 @@ input_of_other_files t names files =
 -- topology, that of the names, and then that of the other files.
 abbrev pub input_of_files_without : (names : List (List ℕ)) → List FileText → Result InputValue ExclusionFault
 input_of_files_without names files =
-    map_fault Source (read_part Input (part_from_file files 0 topology_slot) topology_of)
+    map_fault Source (topology_of_files files)
     >>= λ t. check_router_names t 1 names
     >>= λ _. map_fault Source (input_of_files (files_with_exclusions names files))
 

@@ -5,10 +5,11 @@ use Rattle.mc_text.specs.Steps.{map_fault}
 use Rattle.mc_text.specs.Bundle.{PartText}
 use Rattle.mc_files.specs.FilePart.{file_part}
 use Rattle.mc_files.specs.Files.{FileText}
-use Rattle.mc_files.specs.Layout.{Slot}
+use Rattle.mc_files.specs.Layout.{Slot, topology_slot}
+use Rattle.mc_topology.specs.Topology.{TopologyValue}
 use Rattle.mc_input.specs.SourceFault.{from_file_fault}
 use Rattle.mc_input.specs.Input.{InputValue}
-use Rattle.mc_input.specs.PartsReading.{read_input, read_part}
+use Rattle.mc_input.specs.PartsReading.{read_input, read_part, topology_of}
 use Rattle.mc_input.specs.declared.fault.InputFault.{InputFault}
 use Rattle.mc_input.specs.declared.source_fault.SourceFault.{SourceFault}
 use Rattle.mc_input.specs.declared.source_fault.SourceFault.TheVariants.{Input}
@@ -17,10 +18,14 @@ use Rattle.mc_input.specs.declared.source_fault.SourceFault.TheVariants.{Input}
 abbrev pub part_from_file : List FileText → ℕ → Slot → Result PartText SourceFault
 part_from_file files n slot = map_fault from_file_fault (file_part files slot)
 
--- the result of reading the file of the slot with number n
-abbrev pub read_file : {X : Type 0} → ℕ → Slot → (PartText → Result X InputFault) → List FileText
+-- the result of reading a slot's file
+abbrev pub read_file : {X : Type 0} → Slot → (PartText → Result X InputFault) → List FileText
     → Result X SourceFault
-read_file n slot read files = read_part Input (part_from_file files n slot) read
+read_file slot read files = read_part Input (part_from_file files 0 slot) read
+
+-- the topology of the files
+abbrev pub topology_of_files : List FileText → Result TopologyValue SourceFault
+topology_of_files = read_file topology_slot topology_of
 
 -- the input of the files
 abbrev pub input_of_files : List FileText → Result InputValue SourceFault

@@ -9,11 +9,12 @@ use Rattle.mc_text.specs.RestOfBundle.{rest_of_bundle}
 use Rattle.mc_text.specs.Steps.{◌>>=◌, map_fault}
 use Rattle.mc_topology.specs.Topology.{TopologyValue}
 use Rattle.mc_files.specs.Layout.{Slot, part_name, slots, topology_slot}
+use Rattle.mc_files.specs.Layout.{first_lan_number}
 use Rattle.mc_forward.specs.Domains.{DomainValue}
 use Rattle.mc_input.specs.Input.{InputValue}
 use Rattle.mc_input.specs.InputReading.{certificate_in, input_of_parts, named}
 use Rattle.mc_input.specs.Kept.{IsDomainOf}
-use Rattle.mc_input.specs.PartsReading.{topology_of, first_lan_number}
+use Rattle.mc_input.specs.PartsReading.{topology_of}
 use Rattle.mc_input.specs.SourceFault.{IsReadOrMemory}
 use Rattle.mc_input.specs.declared.fault.InputFault.{InputFault}
 use Rattle.mc_input.specs.declared.fault.InputFault.TheVariants.{Bundle, Parts, Memory}

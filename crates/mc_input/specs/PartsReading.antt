@@ -1,7 +1,7 @@
 -- The input that the parts of a domain are read as, from a bundle or a folder, or the first fault
 -- (docs/FORMATS.md, "The parts of a domain"): of the topology, of which parts there are, and then of the
 -- parts' contents in the order of the slots.
-use Rattle.std.specs.Prelude.{Bool, ℕ, ◌+◌, ◌*◌, List, [], ◌∷◌, length, Result, Ok}
+use Rattle.std.specs.Prelude.{ℕ, ◌+◌, List, [], ◌∷◌, Result, Ok}
 use Rattle.std.specs.FinMap.{FinMap}
 use Rattle.std.specs.Ordering.{nat_cmp}
 use Rattle.mc_text.specs.Steps.{◌>>=◌, map_fault}
@@ -11,14 +11,13 @@ use Rattle.mc_tables.specs.VifTable.{VifValue}
 use Rattle.mc_tables.specs.CacheTable.{CacheValue}
 use Rattle.mc_tables.specs.VifReading.{vifs_in}
 use Rattle.mc_tables.specs.CacheReading.{cache_in}
-use Rattle.mc_tables.specs.SummaryReading.{summary_in}
-use Rattle.mc_tables.specs.declared.summary.summarized_cache.SummarizedCache.{SummarizedCache}
 use Rattle.mc_igmp.specs.declared.record.Record.{Record}
 use Rattle.mc_igmp.specs.ReadingList.{read_list}
 use Rattle.mc_topology.specs.SectionRows.{RouterRow}
 use Rattle.mc_topology.specs.Reading.{parse_topology}
 use Rattle.mc_topology.specs.Topology.{TopologyValue}
-use Rattle.mc_files.specs.Layout.{Slot, topology_slot, vif_slot, cache_slot, reports_slot}
+use Rattle.mc_files.specs.Layout.{Slot, cache_slot, first_lan_number, reports_slot, topology_slot}
+use Rattle.mc_files.specs.Layout.{vif_slot}
 use Rattle.mc_forward.specs.Domains.{TablesValue}
 use Rattle.mc_input.specs.Input.{InputValue}
 use Rattle.mc_input.specs.declared.fault.InputFault.{InputFault}
@@ -37,11 +36,6 @@ vifs_of part = map_fault (Vif part.name) (vifs_in part.bytes)
 -- the forwarding cache of a router that a part has
 abbrev pub cache_of : Order → PartText → Result CacheValue InputFault
 cache_of order part = map_fault (Cache part.name) (cache_in order part.bytes)
-
--- the entries of these sources and groups that a part has, and the summary of all its rows
-abbrev pub summary_of_part : (all : Bool) → Order → List (ℕ × ℕ) → PartText
-    → Result SummarizedCache InputFault
-summary_of_part all order pairs part = map_fault (Cache part.name) (summary_in all order pairs part.bytes)
 
 -- the records of a LAN's reports that a part has
 abbrev pub reports_of : PartText → Result (List Record) InputFault
@@ -80,10 +74,6 @@ all_reports as_ours source n (lan ∷ lans) =
     read_part as_ours (source n (reports_slot lan)) reports_of
     >>= λ records. all_reports as_ours source (n + 1) lans
     >>= λ others. Ok (records ∷ others)
-
--- the number of the first LAN's slot, which comes after the topology's and two for each router
-abbrev pub first_lan_number : TopologyValue → ℕ
-first_lan_number t = 1 + 2 * length t.routers
 
 -- the input of this topology, with the tables and the reports that the source gives
 unfoldable pub read_tables_and_reports : {F : Type 0} → (InputFault → F) → (ℕ → Slot → Result PartText F)

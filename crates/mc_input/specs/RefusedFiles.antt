@@ -12,8 +12,8 @@ use Rattle.mc_topology.specs.Topology.{TopologyValue}
 use Rattle.mc_files.specs.Files.{FileText, file_named}
 use Rattle.mc_files.specs.Layout.{Slot, cache_slot, file_name, reports_slot, topology_slot, vif_slot}
 use Rattle.mc_forward.specs.ListedTables.{Pairwise}
-use Rattle.mc_input.specs.FilesReading.{part_from_file}
-use Rattle.mc_input.specs.PartsReading.{cache_of, reports_of, read_part, topology_of, vifs_of}
+use Rattle.mc_input.specs.FilesReading.{read_file, topology_of_files}
+use Rattle.mc_input.specs.PartsReading.{cache_of, reports_of, vifs_of}
 use Rattle.mc_input.specs.SourceFault.{is_read}
 use Rattle.mc_input.specs.declared.refused_file.RefusedFile.{RefusedFile}
 use Rattle.mc_input.specs.declared.refused_file.Refusal.{Refusal}
@@ -33,7 +33,7 @@ pub record JudgedFile : Type 0 where
 -- the first fault of a slot's file
 abbrev pub file_fault : {X : Type 0} → List FileText → Slot → (PartText → Result X InputFault)
     → Option SourceFault
-file_fault files slot read = result_err (read_part Input (part_from_file files 0 slot) read)
+file_fault files slot read = result_err (read_file slot read files)
 
 -- a slot's file with its fault
 abbrev pub judged_file : {X : Type 0} → List FileText → Slot → (PartText → Result X InputFault)
@@ -72,8 +72,7 @@ judged_files_of names t files = judged_with_topology names files (Ok t)
 
 -- the files of a folder, in the order of a domain's slots
 abbrev pub judged_files : (names : List (List ℕ)) → List FileText → List JudgedFile
-judged_files names files =
-    judged_with_topology names files (read_part Input (part_from_file files 0 topology_slot) topology_of)
+judged_files names files = judged_with_topology names files (topology_of_files files)
 
 -- the files that have a fault
 abbrev pub files_with_fault : List JudgedFile → List JudgedFile

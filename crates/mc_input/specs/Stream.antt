@@ -109,11 +109,6 @@ read_each read [] parts = Ok ([], parts)
 read_each read (x ∷ xs) parts =
     read x parts >>= λ own. read_each read xs own.1 >>= λ others. Ok (own.0 ∷ others.0, others.1)
 
--- these values, then what is read for each of these items, and the parts after it
-abbrev pub read_each_after : {A X : Type 0} → (A → NextParts → Result (X × NextParts) SourceFault)
-    → List X → List A → NextParts → Result (List X × NextParts) SourceFault
-read_each_after read front xs parts = read_each read xs parts >>= λ found. Ok (front ++ found.0, found.1)
-
 -- what is read of these routers, and the parts after it
 abbrev pub read_routers : List RouterRow → NextParts → Result (List RouterRead × NextParts) SourceFault
 read_routers rs = read_each (λ r. read_router r.order) rs

@@ -18,11 +18,11 @@ use crate::bundle_part::certificate_in;
 use crate::fault::InputFault;
 use crate::list_keeper::NoLists;
 use crate::part_result::listed_pairs;
-use crate::slot_part::{check_names_to_end, open_slot};
+use crate::slot_part::{check_names_to_end, open_named};
 use crate::slots::Slots;
 use crate::source_fault::SourceFault;
 use crate::walk::{Contents, read_contents};
-use mc_files::slot_count;
+use mc_files::{NumberedSlot, slot_count};
 use mc_text::{Input, PartName, Parts, PieceReader, feed_part};
 use mc_topology::Topology;
 use std::alloc::Global;
@@ -75,18 +75,19 @@ impl<R: Input> Slots for BundleSlots<R> {
     fn feed<P: PieceReader>(
         &mut self,
         _alloc: Global,
-        topology: &Topology,
-        number: u32,
+        slot: &NumberedSlot<'_>,
         buffer: &mut [u8],
         reader: &mut P,
     ) -> Result<PartName, SourceFault> {
-        open_slot(&mut self.parts, topology, self.certified, number)?;
+        let own = slot.slot();
+        open_named(&mut self.parts, own, slot.number())?;
         feed_part(&mut self.parts, buffer, reader)?;
         Ok(self.parts.name())
     }
 
-    fn refuse(&mut self, topology: &Topology, number: u32, fault: InputFault) -> SourceFault {
-        match check_names_to_end(&mut self.parts, topology, self.certified, number) {
+    fn refuse(&mut self, slot: &NumberedSlot<'_>, fault: InputFault) -> SourceFault {
+        let next = slot.number() + 1;
+        match check_names_to_end(&mut self.parts, slot.topology(), self.certified, next) {
             Ok(()) => SourceFault::Input(fault),
             Err(before) => before,
         }

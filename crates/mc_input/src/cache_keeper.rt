@@ -5,7 +5,6 @@ ghost use Rattle.std.specs.Prelude.{true};
 ghost use Rattle.mc_text.specs.Device.{failures_after};
 ghost use Rattle.mc_tables.specs.ListedRows.{IsListedPart};
 ghost use Rattle.mc_topology.specs.declared.flow.Flow.{Flow};
-ghost use Rattle.mc_files.specs.Layout.{slots as all_slots};
 ghost use Rattle.mc_forward.specs.ListedTables.{flow_pairs};
 ghost use Rattle.mc_input.specs.Kept.{AreFlowPairs};
 ghost use Rattle.mc_input.specs.SourceFault.{is_read};
@@ -15,9 +14,9 @@ ghost use Rattle.mc_input.specs.Stream.{cache_and_text, read_first};
 use crate::slots::Slots;
 use crate::source_fault::SourceFault;
 use crate::walk::read_slot;
+use mc_files::NumberedSlot;
 use mc_tables::{CacheReader, CacheSummary, CacheTable, ListedPairs, SummaryPairs, SummaryReader};
 use mc_text::Order;
-use mc_topology::Topology;
 use std::alloc::Global;
 
 /// What reads a router's cache, and keeps something of it.
@@ -28,29 +27,28 @@ pub(crate) trait CacheKeeper {
     // for these flows it has kept something of the caches of these routers
     ghost has_kept: { Self → List Flow → List RouterRead → Type 0 };
 
-    /// Reads the cache of a router with this byte order from the part of the slot with a number, and
-    /// gives the rows of the flows.
+    /// Reads the cache of a router with this byte order from the part of its slot, and gives the rows of
+    /// the flows.
     fn read_cache<S: Slots>(
         &mut self,
         alloc: Global,
         slots: &mut S,
         buffer: &mut [u8],
-        topology: &Topology,
+        slot: &NumberedSlot<'_>,
         order: Order,
-        number: u32,
     ) -> Result<CacheTable, SourceFault>
-        requires listed { AreFlowPairs topology.now.flows (settings self.old).0 }
-        requires within { number < length (all_slots false topology.now) }
-        requires below_max { number < u32.MAX }
+        requires listed { AreFlowPairs slot.now.topology.flows (settings self.old).0 }
         requires room { 0 < length buffer.old }
         requires failures { S.failed slots.old < u64.MAX }
-        ensures cache { IfOk result (λ kept. KeepsOfFirst (S.gives slots.old topology.now number)
-            (S.gives slots.new topology.now (number + 1)) (cache_and_text order)
-            (λ read. IsListedPart (Some (flow_pairs topology.now.flows)) kept read.0
-            × KeepsCacheText (has_kept self.old topology.now.flows)
-            (has_kept self.new topology.now.flows) order read.1)) }
+        ensures cache { IfOk result (λ kept.
+            KeepsOfFirst (S.gives slots.old slot.now.topology slot.now.number)
+            (S.gives slots.new slot.now.topology (slot.now.number + 1)) (cache_and_text order)
+            (λ read. IsListedPart (Some (flow_pairs slot.now.topology.flows)) kept read.0
+            × KeepsCacheText (has_kept self.old slot.now.topology.flows)
+            (has_kept self.new slot.now.topology.flows) order read.1)) }
         ensures settings { settings self.new ≡ settings self.old }
-        ensures fault { IfErr result (IsFaultOfStream (S.gives slots.old topology.now number)
+        ensures fault { IfErr result
+            (IsFaultOfStream (S.gives slots.old slot.now.topology slot.now.number)
             (read_first (cache_and_text order))) }
         ensures faults { IfErr result (λ fault. S.is_possible fault ≡ true) }
         ensures advances { S.advances slots.old slots.new }
@@ -70,12 +68,11 @@ impl CacheKeeper for ListedPairs {
         alloc: Global,
         slots: &mut S,
         buffer: &mut [u8],
-        topology: &Topology,
+        slot: &NumberedSlot<'_>,
         order: Order,
-        number: u32,
     ) -> Result<CacheTable, SourceFault> {
         let reader = CacheReader::new(alloc, order, self.clone()?);
-        read_slot(alloc, slots, buffer, topology, number, reader)
+        read_slot(alloc, slots, buffer, slot, reader)
     }
 }
 
@@ -104,12 +101,11 @@ impl CacheKeeper for SummaryKeeper {
         alloc: Global,
         slots: &mut S,
         buffer: &mut [u8],
-        topology: &Topology,
+        slot: &NumberedSlot<'_>,
         order: Order,
-        number: u32,
     ) -> Result<CacheTable, SourceFault> {
         let reader = SummaryReader::new(alloc, order, self.listed.clone()?, self.all);
-        let read = read_slot(alloc, slots, buffer, topology, number, reader)?;
+        let read = read_slot(alloc, slots, buffer, slot, reader)?;
         self.summary.push(read.summary)?;
         Ok(read.table)
     }

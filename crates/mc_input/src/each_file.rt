@@ -4,16 +4,13 @@ ghost use Rattle.std.specs.Prelude.{◌≡◌, ◌<◌, List, [], IfOk, OnOk, So
 ghost use Rattle.std.specs.Result.{result_err};
 ghost use Rattle.mc_topology.specs.SectionRows.{RouterRow};
 ghost use Rattle.mc_files.specs.Files.{FileText};
-ghost use Rattle.mc_files.specs.Layout.{topology_slot};
 ghost use Rattle.mc_input.specs.ExcludedRouters.{names_of};
-ghost use Rattle.mc_input.specs.FilesReading.{part_from_file};
-ghost use Rattle.mc_input.specs.PartsReading.{read_part, topology_of};
+ghost use Rattle.mc_input.specs.FilesReading.{topology_of_files};
 ghost use Rattle.mc_input.specs.RefusedFiles.{AreExactlyRefusedFiles, AreRefusedFiles, ListsRefused};
 ghost use Rattle.mc_input.specs.RefusedFiles.{as_judged_file, failure_count, judged_files_of};
 ghost use Rattle.mc_input.specs.RefusedFiles.{judged_lans, judged_routers, judged_tables};
 ghost use Rattle.mc_input.specs.RefusedFiles.{saturating_failures, unread_count};
 ghost use Rattle.mc_input.specs.SourceFault.{GivesFromContents};
-ghost use Rattle.mc_input.specs.declared.source_fault.SourceFault.TheVariants.{Input};
 
 use crate::domain::PIECE;
 use crate::excluded::is_excluded;
@@ -21,13 +18,11 @@ use crate::file_slots::topology_in;
 use crate::part_result::listed_pairs;
 use crate::refused_file::{RefusedFile, judge_slot, push_if_fault};
 use crate::source_fault::SourceFault;
-use mc_files::{
-    PieceSource, Slot, cache_slot_number, first_lan_slot_number, vif_slot_number,
-};
+use mc_files::{NumberedSlot, PieceSource, Slot};
 use mc_igmp::ListReader;
 use mc_tables::{CacheReader, ListedPairs, VifReader};
 use mc_text::Memory;
-use mc_topology::{RouterNo, Topology};
+use mc_topology::{LanNo, RouterNo, Topology};
 use std::alloc::Global;
 
 /// Reads the topology. Once the source's count of failures is at its maximum, this fails without a
@@ -39,7 +34,7 @@ fn topology_unless_u64_max<F: PieceSource>(
     ensures same { F.borrows files.new ≡ F.borrows files.old }
     ensures kept { F.contents files.new ≡ F.contents files.old }
     ensures topology { GivesFromContents (F.contents files.old) (λ topology. topology) result
-        (λ contents. read_part Input (part_from_file contents 0 topology_slot) topology_of) }
+        topology_of_files }
     ensures failures { F.failed files.new
         ≡ saturating_failures (failure_count (result_err result)) (F.failed files.old) }
 {
@@ -73,13 +68,13 @@ fn judge_tables<F: PieceSource>(
     if is_excluded(without, topology.router_name(RouterNo(router))) {
         return Ok(());
     }
-    let vif_number = vif_slot_number(RouterNo(router));
+    let vif_slot = NumberedSlot::vifs(topology, RouterNo(router));
     let vifs = VifReader::new(alloc);
-    judge_slot(alloc, files, buffer, topology, vif_number, vifs, refused)?;
+    judge_slot(alloc, files, buffer, &vif_slot, vifs, refused)?;
     let order = topology.order(RouterNo(router));
-    let cache_number = cache_slot_number(RouterNo(router));
+    let cache_slot = NumberedSlot::cache(topology, RouterNo(router));
     let cache = CacheReader::new(alloc, order, listed.clone()?);
-    judge_slot(alloc, files, buffer, topology, cache_number, cache, refused)
+    judge_slot(alloc, files, buffer, &cache_slot, cache, refused)
 }
 
 /// Checks the tables of all routers but the excluded ones.
@@ -123,10 +118,10 @@ fn judge_lans<F: PieceSource>(
     ensures judged { OnOk result (ListsRefused (F.contents files.old) (judged_lans topology.now)
         refused.old.items refused.new.items (F.failed files.old) (F.failed files.new)) }
 {
-    let first = first_lan_slot_number(topology);
     for lan in 0..topology.lans() {
+        let slot = NumberedSlot::reports(topology, LanNo(lan));
         let reader = ListReader::new(alloc);
-        judge_slot(alloc, files, buffer, topology, first + lan, reader, refused)?;
+        judge_slot(alloc, files, buffer, &slot, reader, refused)?;
     }
     Ok(())
 }

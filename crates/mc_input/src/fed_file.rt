@@ -15,11 +15,7 @@ use std::alloc::Global;
 
 /// Feeds a piece of a file to a reader, unless it is longer than the `left` bytes that the file may still
 /// have. Answers how many bytes are left after it.
-fn feed_piece<P: PieceReader>(
-    reader: &mut P,
-    piece: &[u8],
-    left: usize,
-) -> Result<usize, FileFault>
+fn feed_piece<P: PieceReader>(reader: &mut P, piece: &[u8], left: usize) -> Result<usize, FileFault>
     ensures left { IfOk result (λ after. after + length piece.now ≡ left) }
     // Whatever bytes follow, the result is that of the piece and those bytes before the call.
     ensures fed { (more : List ℕ) → P.size reader.old + length (piece.now ++ more) ≤ max_part → OnOk result

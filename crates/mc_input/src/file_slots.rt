@@ -1,15 +1,13 @@
 //! The files of a folder as the parts of a domain's slots. Each is judged as its turn comes.
 
-ghost use Rattle.std.specs.Prelude.{◌≡◌, ◌<◌, ◌≤◌, ℕ, List, Some, IfErr, IfSome, false, length, slice_get};
-ghost use Rattle.std.specs.Prelude.{true};
+ghost use Rattle.std.specs.Prelude.{◌≡◌, ◌<◌, ◌≤◌, List, Some, IfErr, IfSome, length, true};
 ghost use Rattle.mc_text.specs.Device.{failures_after};
 ghost use Rattle.mc_files.specs.Files.{FileText};
-ghost use Rattle.mc_files.specs.Layout.{Slot as SlotText, slots, topology_slot};
+ghost use Rattle.mc_files.specs.Layout.{SlotNumber, numbered_slot};
 ghost use Rattle.mc_input.specs.ExcludedRouters.{files_without};
 ghost use Rattle.mc_input.specs.Feeding.{SeesHeaderOrFile};
 ghost use Rattle.mc_input.specs.SourceFault.{GivesFromContents, is_possible_for_files, is_read};
-ghost use Rattle.mc_input.specs.FilesReading.{read_file};
-ghost use Rattle.mc_input.specs.PartsReading.{topology_of as topology_reading};
+ghost use Rattle.mc_input.specs.FilesReading.{topology_of_files};
 
 use crate::excluded::header_of_excluded;
 use crate::fault::InputFault;
@@ -17,9 +15,9 @@ use crate::fed_file::feed_header_or_file;
 use crate::part_result::topology_of;
 use crate::slots::Slots;
 use crate::source_fault::SourceFault;
-use mc_files::{FileSource, PieceSource, Slot, part_of_file, slot_at};
+use mc_files::{FileSource, NumberedSlot, PieceSource, Slot, part_of_file};
 use mc_text::{PartName, PieceReader};
-use mc_topology::{RouterNo, Topology};
+use mc_topology::Topology;
 use std::alloc::Global;
 
 /// The files of a folder, of which those of routers with these names are excluded.
@@ -45,26 +43,16 @@ impl<'a, F: PieceSource> FileSlots<'a, F> {
     }
 }
 
-/// The header that is read in place of the file of the slot with a number, if its router is excluded.
-fn header_of_slot(topology: &Topology, without: &[&str], number: u32) -> Option<&'static [u8]>
-    requires within { number < length (slots false topology.now) }
-    ensures header { (files : List FileText) (slot : SlotText) →
-        slice_get (slots false topology.now) number ≡ Some slot →
-        SeesHeaderOrFile files (files_without without.now files) slot result }
+/// The header that is read in place of a slot's file, if its router is excluded.
+fn header_of_slot(slot: &Slot<'_>, without: &[&str]) -> Option<&'static [u8]>
+    ensures header { (files : List FileText) (place : SlotNumber) → numbered_slot place ≡ Some slot.now →
+        SeesHeaderOrFile files (files_without without.now files) slot.now result }
     ensures small { IfSome result (λ header. length header.now ≤ 100) }
 {
-    if number == 0 {
-        return None;
+    match slot.router_table() {
+        Some((router, vifs)) => header_of_excluded(without, router, vifs),
+        None => None,
     }
-    let table = number - 1;
-    if table >= 2 * topology.routers() {
-        return None;
-    }
-    let router = topology.router_name(RouterNo(table / 2));
-    if table % 2 == 0 {
-        return header_of_excluded(without, router, true);
-    }
-    header_of_excluded(without, router, false)
 }
 
 impl<'a, F: PieceSource> Slots for FileSlots<'a, F> {
@@ -94,21 +82,18 @@ impl<'a, F: PieceSource> Slots for FileSlots<'a, F> {
     fn feed<P: PieceReader>(
         &mut self,
         alloc: Global,
-        topology: &Topology,
-        number: u32,
+        slot: &NumberedSlot<'_>,
         buffer: &mut [u8],
         reader: &mut P,
     ) -> Result<PartName, SourceFault> {
-        let Some(slot) = slot_at(topology, false, number) else {
-            unreachable!()
-        };
-        let header = header_of_slot(topology, self.without, number);
+        let slot = slot.slot();
+        let header = header_of_slot(slot, self.without);
         let name = slot.part_name(alloc)?;
-        feed_header_or_file(alloc, &mut self.files, &slot, header, buffer, reader)?;
+        feed_header_or_file(alloc, &mut self.files, slot, header, buffer, reader)?;
         Ok(name)
     }
 
-    fn refuse(&mut self, _topology: &Topology, _number: u32, fault: InputFault) -> SourceFault {
+    fn refuse(&mut self, _slot: &NumberedSlot<'_>, fault: InputFault) -> SourceFault {
         SourceFault::Input(fault)
     }
 }
@@ -121,8 +106,8 @@ pub(crate) fn topology_in<F: FileSource>(
     requires reads { F.failed files.old < u64.MAX }
     ensures same { F.borrows files.new ≡ F.borrows files.old }
     ensures kept { F.contents files.new ≡ F.contents files.old }
-    ensures topology { (n : ℕ) → GivesFromContents (F.contents files.old) (λ topology. topology) result
-        (read_file n topology_slot topology_reading) }
+    ensures topology { GivesFromContents (F.contents files.old) (λ topology. topology) result
+        topology_of_files }
     ensures faults { IfErr result (λ fault. is_possible_for_files fault ≡ true) }
     ensures failures { F.failed files.new ≡ failures_after is_read result (F.failed files.old) }
 {

@@ -1,10 +1,10 @@
 //! A file of a folder that is judged by itself, and why it is refused.
 
 ghost use Rattle.std.specs.Prelude.{◌≡◌, ◌≢◌, ◌<◌, ◌∷◌, ◌++◌, List, [], IfOk, OnOk, Some, Result};
-ghost use Rattle.std.specs.Prelude.{false, length, map, slice_get};
+ghost use Rattle.std.specs.Prelude.{length, map};
 ghost use Rattle.mc_text.specs.Bundle.{PartText};
 ghost use Rattle.mc_files.specs.Files.{FileText};
-ghost use Rattle.mc_files.specs.Layout.{Slot as SlotText, file_name, slots};
+ghost use Rattle.mc_files.specs.Layout.{Slot as SlotText, file_name, numbered_slot};
 ghost use Rattle.mc_input.specs.RefusedFiles.{IsOwnFaultUnlessMemory, ListsRefused, as_judged_file};
 ghost use Rattle.mc_input.specs.RefusedFiles.{failure_count, fault_of_refusal, file_fault};
 ghost use Rattle.mc_input.specs.RefusedFiles.{files_with_fault, judged_file, saturating_failures};
@@ -17,9 +17,8 @@ use crate::file_slots::FileSlots;
 use crate::part_reader::PartReader;
 use crate::source_fault::SourceFault;
 use crate::walk::read_slot;
-use mc_files::{PieceSource, Slot, Unread, slot_at};
+use mc_files::{NumberedSlot, PieceSource, Slot, Unread};
 use mc_text::Memory;
-use mc_topology::Topology;
 use std::alloc::Global;
 
 /// Why a file is refused.
@@ -40,26 +39,22 @@ pub struct RefusedFile {
     pub refusal: Refusal,
 }
 
-/// The fault of the file of the slot with a number, as this reader reads it, if it has one.
+/// The fault of the file of a slot, as this reader reads it, if it has one.
 fn slot_fault<F: PieceSource, R: PartReader + Drop>(
     alloc: Global,
     files: &mut F,
     buffer: &mut [u8],
-    topology: &Topology,
-    number: u32,
+    slot: &NumberedSlot<'_>,
     reader: R,
 ) -> Option<SourceFault>
-    requires within { number < length (slots false topology.now) }
-    requires below_max { number < u32.MAX }
     requires room { 0 < length buffer.old }
     requires start { R.size reader ≡ 0 }
     ensures same { F.borrows files.new ≡ F.borrows files.old }
     ensures kept { F.contents files.new ≡ F.contents files.old }
-    ensures fault { (read : PartText → Result R.Out Fault) (slot : SlotText) (contents : List FileText) →
-        IsReaderOf (R.part_result reader) read →
-        slice_get (slots false topology.now) number ≡ Some slot →
+    ensures fault { (read : PartText → Result R.Out Fault) (own : SlotText) (contents : List FileText) →
+        IsReaderOf (R.part_result reader) read → numbered_slot slot.now ≡ Some own →
         F.contents files.old ≡ Some contents →
-        IsOwnFaultUnlessMemory result (file_fault contents slot read) }
+        IsOwnFaultUnlessMemory result (file_fault contents own read) }
     ensures failures { F.failed files.new
         ≡ saturating_failures (failure_count result) (F.failed files.old) }
 {
@@ -70,7 +65,7 @@ fn slot_fault<F: PieceSource, R: PartReader + Drop>(
         files,
         without: &[],
     };
-    let fault = read_slot(alloc, &mut slots, buffer, topology, number, reader).err();
+    let fault = read_slot(alloc, &mut slots, buffer, slot, reader).err();
     let _files = slots.into_files();
     fault
 }
@@ -108,32 +103,25 @@ pub(crate) fn push_if_fault<F: PieceSource>(
     Ok(())
 }
 
-/// Checks the file of the slot with a number.
+/// Checks the file of a slot.
 pub(crate) fn judge_slot<F: PieceSource, R: PartReader + Drop>(
     alloc: Global,
     files: &mut F,
     buffer: &mut [u8],
-    topology: &Topology,
-    number: u32,
+    slot: &NumberedSlot<'_>,
     reader: R,
     refused: &mut Vec<RefusedFile>,
 ) -> Result<(), Memory>
-    requires within { number < length (slots false topology.now) }
-    requires below_max { number < u32.MAX }
     requires room { 0 < length buffer.old }
     requires start { R.size reader ≡ 0 }
     ensures same { F.borrows files.new ≡ F.borrows files.old }
     ensures kept { F.contents files.new ≡ F.contents files.old }
-    ensures judged { (read : PartText → Result R.Out Fault) (slot : SlotText) →
-        IsReaderOf (R.part_result reader) read →
-        slice_get (slots false topology.now) number ≡ Some slot →
+    ensures judged { (read : PartText → Result R.Out Fault) (own : SlotText) →
+        IsReaderOf (R.part_result reader) read → numbered_slot slot.now ≡ Some own →
         OnOk result (ListsRefused (F.contents files.old) (λ contents.
-        judged_file contents slot read ∷ []) refused.old.items refused.new.items
+        judged_file contents own read ∷ []) refused.old.items refused.new.items
         (F.failed files.old) (F.failed files.new)) }
 {
-    let Some(slot) = slot_at(topology, false, number) else {
-        unreachable!()
-    };
-    let fault = slot_fault(alloc, files, buffer, topology, number, reader);
-    push_if_fault(alloc, files, &slot, fault, refused)
+    let fault = slot_fault(alloc, files, buffer, slot, reader);
+    push_if_fault(alloc, files, slot.slot(), fault, refused)
 }

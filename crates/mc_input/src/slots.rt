@@ -1,9 +1,8 @@
 //! What gives the parts of a domain's slots, one after another.
 
-ghost use Rattle.std.specs.Prelude.{◌≡◌, ◌<◌, ◌≤◌, ◌+◌, ℕ, Bool, false, true, Option, Some, IfErr, IfOk};
+ghost use Rattle.std.specs.Prelude.{◌≡◌, ◌<◌, ◌+◌, ℕ, Bool, true, Option, Some, IfErr, IfOk};
 ghost use Rattle.std.specs.Prelude.{cond, length};
 ghost use Rattle.mc_text.specs.Device.{failures_after};
-ghost use Rattle.mc_files.specs.Layout.{slots};
 ghost use Rattle.mc_topology.specs.Topology.{TopologyValue};
 ghost use Rattle.mc_input.specs.SourceFault.{IsReadOrMemory, is_possible_for_files, is_read};
 ghost use Rattle.mc_input.specs.Stream.{IsFaultBeforeOrOwn, IsFaultOfStream, IsFedPart, ReadsFirst};
@@ -13,8 +12,8 @@ ghost use Rattle.mc_input.specs.declared.source_fault.SourceFault.TheVariants.{I
 
 use crate::fault::InputFault;
 use crate::source_fault::SourceFault;
+use mc_files::NumberedSlot;
 use mc_text::{PartName, PieceReader};
-use mc_topology::Topology;
 use std::alloc::Global;
 
 /// A source of the parts of a domain's slots.
@@ -31,37 +30,33 @@ pub(crate) trait Slots {
     // whether it can answer this fault
     ghost is_possible: { Fault → Bool };
 
-    /// Feeds the part of the slot with a number, which has to come next, to a reader, and answers the
-    /// part's name.
+    /// Feeds the part of a slot, which has to come next, to a reader, and answers the part's name.
     fn feed<P: PieceReader>(
         &mut self,
         alloc: Global,
-        topology: &Topology,
-        number: u32,
+        slot: &NumberedSlot<'_>,
         buffer: &mut [u8],
         reader: &mut P,
     ) -> Result<PartName, SourceFault>
-        requires within { number < length (slots false topology.now) }
-        requires below_max { number < u32.MAX }
         requires room { 0 < length buffer.old }
         requires start { P.size reader.old ≡ 0 }
         requires failures { failed self.old < u64.MAX }
-        ensures part { IfOk result (λ name. ReadsFirst (gives self.old topology.now number)
-            (gives self.new topology.now (number + 1))
+        ensures part { IfOk result (λ name. ReadsFirst (gives self.old slot.now.topology slot.now.number)
+            (gives self.new slot.now.topology (slot.now.number + 1))
             (IsFedPart name (P.result_after reader.old) (P.result_after reader.new))) }
         ensures fault { IfErr result
-            (IsFaultOfStream (gives self.old topology.now number) first_part) }
+            (IsFaultOfStream (gives self.old slot.now.topology slot.now.number) first_part) }
         ensures faults { IfErr result (λ fault. is_possible fault ≡ true) }
         ensures advances { advances self.old self.new }
         ensures failures { failed self.new ≡ failures_after is_read result (failed self.old) };
 
-    /// What is answered for a content with this fault: the fault itself, or one that comes before the
-    /// faults of all contents. The next part is that of the slot with a number.
-    fn refuse(&mut self, topology: &Topology, number: u32, fault: InputFault) -> SourceFault
-        requires within { number ≤ length (slots false topology.now) }
+    /// What is answered for this fault of the content of a slot's part, which was fed last: the fault
+    /// itself, or one that comes before the faults of all contents.
+    fn refuse(&mut self, slot: &NumberedSlot<'_>, fault: InputFault) -> SourceFault
         requires possible { is_possible_for_files (Input fault) ≡ true }
         requires failures { failed self.old < u64.MAX }
-        ensures fault { (stream : Stream) → gives self.old topology.now number ≡ Some stream →
+        ensures fault { (stream : Stream) →
+            gives self.old slot.now.topology (slot.now.number + 1) ≡ Some stream →
             ¬ IsReadOrMemory result → IsFaultBeforeOrOwn stream fault result }
         ensures faults { is_possible result ≡ true }
         ensures advances { advances self.old self.new }

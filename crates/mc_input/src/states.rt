@@ -18,7 +18,7 @@ ghost use Rattle.mc_input.specs.SummariesOfFiles.{AreSummariesOf};
 use crate::file_again::read_file_again;
 use crate::source_fault::SourceFault;
 use mc_asked::{AskedWant, RouterState, WantStates};
-use mc_files::{PieceSource, cache_slot_number};
+use mc_files::{NumberedSlot, PieceSource};
 use mc_forward::{Domain, Items};
 use mc_tables::EachRowReader;
 use mc_topology::RouterNo;
@@ -60,8 +60,8 @@ fn read_states_of_router<F: PieceSource>(
     let order = topology.order(RouterNo(router));
     let start = WantStates::new(alloc, domain.vifs(RouterNo(router)), wants)?;
     let reader = EachRowReader::handing_on(alloc, order, start);
-    let number = cache_slot_number(RouterNo(router));
-    let stated = read_file_again(alloc, files, buffer, topology, without, number, reader)?;
+    let slot = NumberedSlot::cache(topology, RouterNo(router));
+    let stated = read_file_again(alloc, files, buffer, without, &slot, reader)?;
     Ok(stated.states(alloc)?)
 }
 

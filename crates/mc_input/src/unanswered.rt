@@ -26,10 +26,10 @@ use mc_asked::{
     AskedLines, AskedWant, LanWants, RouterState, SharedPair, UnadmittedSources, count_wants,
     service_lines,
 };
-use mc_files::{PieceSource, first_lan_slot_number};
+use mc_files::{NumberedSlot, PieceSource};
 use mc_forward::{Domain, Items};
 use mc_igmp::ListReader;
-use mc_topology::Topology;
+use mc_topology::{LanNo, Topology};
 use std::alloc::Global;
 use std::marker::Model;
 
@@ -127,9 +127,9 @@ fn take_list<F: PieceSource>(
     if !sources.needs_list(own) {
         return Ok(());
     }
-    let number = first_lan_slot_number(topology) + lan;
+    let slot = NumberedSlot::reports(topology, LanNo(lan));
     let reader = ListReader::new(alloc);
-    let list = read_file_again(alloc, files, buffer, topology, without, number, reader)?;
+    let list = read_file_again(alloc, files, buffer, without, &slot, reader)?;
     sources.add_list(alloc, own, &list)?;
     Ok(())
 }

@@ -5,13 +5,12 @@ ghost use Rattle.std.specs.Prelude.{◌++◌, ◌∷◌, IfErr, OnOk, false, tru
 ghost use Rattle.mc_text.specs.Bundle.{PartText};
 ghost use Rattle.mc_text.specs.Device.{failures_after};
 ghost use Rattle.mc_igmp.specs.declared.record.Record.{Record};
-ghost use Rattle.mc_files.specs.Layout.{slots as all_slots};
+ghost use Rattle.mc_files.specs.Layout.{first_lan_number};
 ghost use Rattle.mc_forward.specs.Assembling.{AreAnswers, AreWanted};
 ghost use Rattle.mc_forward.specs.ListedTables.{flow_pairs};
 ghost use Rattle.mc_forward.specs.RouterTables.{AreTablesFor, kept_of_tables};
 ghost use Rattle.mc_input.specs.Kept.{AreContentsOf, AreFlowPairs, AreWantedBy};
 ghost use Rattle.mc_input.specs.PartsOneByOne.{certificate_number};
-ghost use Rattle.mc_input.specs.PartsReading.{first_lan_number};
 ghost use Rattle.mc_input.specs.SourceFault.{IsReadOrMemory, is_possible_for_files, is_read};
 ghost use Rattle.mc_input.specs.Stream.{ContentsRead, IsFaultBeforeOrOwn, IsFaultOfStream, IsReaderOf};
 ghost use Rattle.mc_input.specs.Stream.{KeepsOfFirst, RouterRead, Stream, input_of_contents};
@@ -26,7 +25,7 @@ use crate::list_keeper::ListKeeper;
 use crate::part_reader::PartReader;
 use crate::slots::Slots;
 use crate::source_fault::SourceFault;
-use mc_files::{cache_slot_number, first_lan_slot_number, vif_slot_number};
+use mc_files::NumberedSlot;
 use mc_forward::{FlowChannels, Items, RouterTables, Tables};
 use mc_igmp::{ListReader, ReportList};
 use mc_tables::VifReader;
@@ -34,19 +33,17 @@ use mc_text::Memory;
 use mc_topology::{LanNo, RouterNo, Topology};
 use std::alloc::Global;
 
-/// The value of a part, or what is answered for its fault. The next part is that of the slot with a
-/// number.
+/// The value of a slot's part, which was fed last, or what is answered for its fault.
 fn value_or_refusal<S: Slots, K: Drop>(
     slots: &mut S,
-    topology: &Topology,
-    number: u32,
+    slot: &NumberedSlot<'_>,
     part_result: Result<K, InputFault>,
 ) -> Result<K, SourceFault>
-    requires within { number ≤ length (all_slots false topology.now) }
     requires possible { IfErr part_result (λ fault. is_possible_for_files (Input fault) ≡ true) }
     requires failures { S.failed slots.old < u64.MAX }
     ensures kept { IfOk result (λ kept. (part_result ≡ Ok kept) × (slots.new ≡ slots.old)) }
-    ensures fault { (stream : Stream) → S.gives slots.old topology.now number ≡ Some stream →
+    ensures fault { (stream : Stream) →
+        S.gives slots.old slot.now.topology (slot.now.number + 1) ≡ Some stream →
         IfErr result (λ fault. ¬ IsReadOrMemory fault →
         (own : Fault) × (part_result ≡ Err own) × IsFaultBeforeOrOwn stream own fault) }
     ensures faults { IfErr result (λ fault. S.is_possible fault ≡ true) }
@@ -56,36 +53,34 @@ fn value_or_refusal<S: Slots, K: Drop>(
     match part_result {
         Ok(kept) => Ok(kept),
         Err(InputFault::Memory) => Err(SourceFault::Input(InputFault::Memory)),
-        Err(fault) => Err(slots.refuse(topology, number, fault)),
+        Err(fault) => Err(slots.refuse(slot, fault)),
     }
 }
 
-/// What a reader reads of the part of the slot with a number.
+/// What a reader reads of the part of a slot.
 pub(crate) fn read_slot<S: Slots, R: PartReader + Drop>(
     alloc: Global,
     slots: &mut S,
     buffer: &mut [u8],
-    topology: &Topology,
-    number: u32,
+    slot: &NumberedSlot<'_>,
     reader: R,
 ) -> Result<R::Out, SourceFault>
-    requires within { number < length (all_slots false topology.now) }
-    requires below_max { number < u32.MAX }
     requires room { 0 < length buffer.old }
     requires start { R.size reader ≡ 0 }
     requires failures { S.failed slots.old < u64.MAX }
     ensures value { (read : PartText → Result R.Out Fault) → IsReaderOf (R.part_result reader) read →
-        IfOk result (λ kept. KeepsOfFirst (S.gives slots.old topology.now number)
-        (S.gives slots.new topology.now (number + 1)) read (λ value. kept ≡ value)) }
+        IfOk result (λ kept. KeepsOfFirst (S.gives slots.old slot.now.topology slot.now.number)
+        (S.gives slots.new slot.now.topology (slot.now.number + 1)) read (λ value. kept ≡ value)) }
     ensures fault { (read : PartText → Result R.Out Fault) → IsReaderOf (R.part_result reader) read →
-        IfErr result (IsFaultOfStream (S.gives slots.old topology.now number) (read_first read)) }
+        IfErr result
+        (IsFaultOfStream (S.gives slots.old slot.now.topology slot.now.number) (read_first read)) }
     ensures faults { IfErr result (λ fault. S.is_possible fault ≡ true) }
     ensures advances { S.advances slots.old slots.new }
     ensures failures { S.failed slots.new ≡ failures_after is_read result (S.failed slots.old) }
 {
     let mut reader = reader;
-    let name = slots.feed(alloc, topology, number, buffer, &mut reader)?;
-    value_or_refusal(slots, topology, number + 1, reader.finished(name))
+    let name = slots.feed(alloc, slot, buffer, &mut reader)?;
+    value_or_refusal(slots, slot, reader.finished(name))
 }
 
 /// Reads the tables of each router, of which what the flows need is kept.
@@ -117,12 +112,12 @@ fn read_tables<S: Slots, K: CacheKeeper>(
 {
     let mut tables = RouterTables::new(alloc, topology)?;
     for router in 0..topology.routers() {
-        let vif_number = vif_slot_number(RouterNo(router));
-        let cache_number = cache_slot_number(RouterNo(router));
+        let vif_slot = NumberedSlot::vifs(topology, RouterNo(router));
+        let cache_slot = NumberedSlot::cache(topology, RouterNo(router));
         let order = topology.order(RouterNo(router));
         let reader = VifReader::new(alloc);
-        let vifs = read_slot(alloc, slots, buffer, topology, vif_number, reader)?;
-        let cache = keeper.read_cache(alloc, slots, buffer, topology, order, cache_number)?;
+        let vifs = read_slot(alloc, slots, buffer, &vif_slot, reader)?;
+        let cache = keeper.read_cache(alloc, slots, buffer, &cache_slot, order)?;
         tables.add(alloc, topology, Tables { vifs, cache })?;
     }
     Ok(tables)
@@ -182,11 +177,11 @@ fn read_wants<S: Slots, L: ListKeeper>(
     ensures failures { S.failed slots.new ≡ failures_after is_read result (S.failed slots.old) }
 {
     let channels = FlowChannels::of(alloc, topology)?;
-    let first = first_lan_slot_number(topology);
     let mut wants = Vec::new(alloc);
     for lan in 0..topology.lans() {
+        let slot = NumberedSlot::reports(topology, LanNo(lan));
         let reader = ListReader::new(alloc);
-        let reports = read_slot(alloc, slots, buffer, topology, first + lan, reader)?;
+        let reports = read_slot(alloc, slots, buffer, &slot, reader)?;
         let wanted = take_reports(alloc, topology, &channels, LanNo(lan), &reports, keeper)?;
         wants.push(wanted)?;
     }

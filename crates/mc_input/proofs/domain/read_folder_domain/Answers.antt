@@ -28,7 +28,7 @@ returns-in_err-topology-clause-fault g c =
     rw (p.1 ∙ ap (λ f. Err f) p.2)
     (IfSome-from_known (IsFirstFault names (Source own)) (g.F.FileSource.contents c.args.files.now)
     (λ contents is no. input_of_files_without-topology_Err names contents own
-    (c.in_err-topology.ensures.topology 0 contents is no)))
+    (c.in_err-topology.ensures.topology contents is no)))
 
 pub returns-in_err-topology-clause-only : goal.returns-in_err-topology-clause-only
 returns-in_err-topology-clause-only g c =
@@ -49,7 +49,7 @@ returns-in_err-check_names-clause-fault g c =
     rw (p.1 ∙ ap (λ f. Err f) p.2)
     (IfSome-from_known (IsFirstFault names own) (g.F.FileSource.contents c.args.files.now) (λ contents is no.
     input_of_files_without-name_Err names contents c.in_ok-topology.topology own
-    (c.in_ok-topology.ensures.topology 0 contents is) (sym c.in_err-check_names.ensures.names)))
+    (c.in_ok-topology.ensures.topology contents is) (sym c.in_err-check_names.ensures.names)))
 
 pub returns-in_err-check_names-clause-only : goal.returns-in_err-check_names-clause-only
 returns-in_err-check_names-clause-only g c =
@@ -81,7 +81,7 @@ returns-in_err-once-clause-fault g c =
     rw (p.1 ∙ ap (λ f. Err f) p.2)
     (IfSome-from_known (IsFirstFault names (Source own)) (g.F.FileSource.contents c.args.files.now)
     (λ contents is no.
-    let topology = c.in_ok-topology.ensures.topology 0 contents is in
+    let topology = c.in_ok-topology.ensures.topology contents is in
     input_of_files_without-names_Ok names contents
     c.in_ok-topology.topology c.in_ok-check_names.field-0 topology
     (sym c.in_ok-check_names.ensures.names)
@@ -128,7 +128,7 @@ returns-clause-means g c =
     IfSome-from_known (λ files. FilesMeanDomain (files_with_exclusions names files) d)
     (g.F.FileSource.contents c.args.files.now) (λ contents is.
     FilesMeanDomain-from_other_files names contents c.in_ok-topology.topology d
-    (c.in_ok-topology.ensures.topology 0 contents is)
+    (c.in_ok-topology.ensures.topology contents is)
     (c.in_ok-once.ensures.domain contents (c.in_ok-topology.ensures.kept ∙ is)) c.in_ok-once.ensures.rules)
 
 pub returns-clause-only : goal.returns-clause-only
@@ -137,7 +137,7 @@ returns-clause-only g c = λ contents domain is means are.
     let d = c.in_ok-once.once.domain in
     FilesMeanDomain-unique (files_with_exclusions names contents) d domain
     (FilesMeanDomain-from_other_files names contents c.in_ok-topology.topology d
-    (c.in_ok-topology.ensures.topology 0 contents is)
+    (c.in_ok-topology.ensures.topology contents is)
     (c.in_ok-once.ensures.domain contents (c.in_ok-topology.ensures.kept ∙ is)) c.in_ok-once.ensures.rules)
     means
 

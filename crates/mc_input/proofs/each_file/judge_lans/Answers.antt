@@ -1,36 +1,13 @@
 use Rattle.std.proofs.Common.{◌+◌, ◌∙◌, ◌∷◌, [], ap, arith, false, map, refl, rules}
 use Rattle.mc_text.specs.Steps.{map_fault}
 use Rattle.mc_files.specs.Layout.{reports_slot}
-use Rattle.mc_files.proofs.SlotLemmas.{slots-reports_slot}
 use Rattle.mc_forward.proofs.IndexLemmas.{slice_get-exists}
 use Rattle.mc_input.specs.PartsReading.{reports_of}
 use Rattle.mc_input.specs.RefusedFiles.{as_judged_file, judged_reports}
 use Rattle.mc_input.specs.declared.fault.InputFault.TheVariants.{Reports}
-use Rattle.mc_input.proofs.FinishLemmas.{lan_slot-within_count}
 use Rattle.mc_input.proofs.RefusedLemmas.{JudgesFiles-lans_all, JudgesFiles-lans_more, JudgesFiles-none}
 use Rattle.mc_input.proofs.RefusedLemmas.{JudgesFiles-same_source}
 use Rattle.mc_input.proofs.each_file.judge_lans.Goals as goal
-
-pub loop-lan-init : goal.loop-lan-init
-loop-lan-init g c = record {
-  count = search rules;
-  room = c.requires.room;
-  same = refl;
-  kept = refl;
-  judged = JudgesFiles-none (g.F.FileSource.contents c.args.files.now)
-      (map as_judged_file c.args.refused.now.items) (g.F.FileSource.failed c.args.files.now);
-}
-
-pub judge_slot-requires-clause-within : goal.judge_slot-requires-clause-within
-judge_slot-requires-clause-within g c =
-    omega (
-      arith,
-      c.loop-lan-test.true,
-      c.loop-lan.invariant.count,
-      c.first_lan_slot_number-first.ensures.value,
-      lan_slot-within_count false c.args.topology.now c.loop-lan.lan
-          (omega (arith, c.loop-lan-test.true, c.loop-lan.invariant.count)),
-    )
 
 pub loop-lan-preserved : goal.loop-lan-preserved
 loop-lan-preserved g c =
@@ -42,8 +19,7 @@ loop-lan-preserved g c =
     let middle = g.F.FileSource.failed c.loop-lan.files in
     let after = g.F.FileSource.failed c.judge_slot.new.files in
     let lan = slice_get-exists t.lans k (omega (arith, c.loop-lan-test.true, c.loop-lan.invariant.count)) in
-    let at = slots-reports_slot false t (c.first_lan_slot_number-first.result + k) k lan.0
-    (omega (arith, c.first_lan_slot_number-first.ensures.value)) lan.1 in
+    let at = c.reports-slot.ensures.slot lan.0 lan.1 in
     record {
       count = c.loop-lan.invariant.count;
       room = search rules;
@@ -64,3 +40,13 @@ returns-clause-judged g c =
     (map as_judged_file c.args.refused.now.items) (map as_judged_file c.loop-lan.refused.items)
     (g.F.FileSource.failed c.args.files.now) (g.F.FileSource.failed c.loop-lan.files)
     (omega (arith, c.loop-lan-test.false, c.loop-lan.invariant.count)) c.loop-lan.invariant.judged
+
+pub loop-lan-init : goal.loop-lan-init
+loop-lan-init g c = record {
+  count = search rules;
+  room = c.requires.room;
+  same = refl;
+  kept = refl;
+  judged = JudgesFiles-none (g.F.FileSource.contents c.args.files.now)
+      (map as_judged_file c.args.refused.now.items) (g.F.FileSource.failed c.args.files.now);
+}

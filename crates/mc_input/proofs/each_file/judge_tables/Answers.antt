@@ -6,34 +6,16 @@ use denote.Ref.{Bor}
 use Rattle.mc_text.specs.Steps.{map_fault}
 use Rattle.mc_text.specs.declared.text.addr.Order.{Order}
 use Rattle.mc_files.specs.Layout.{cache_slot, vif_slot}
-use Rattle.mc_files.proofs.SlotLemmas.{router_slot, slice_get-cache_slot, slice_get-vif_slot}
 use Rattle.mc_input.specs.PartsReading.{cache_of, vifs_of}
 use Rattle.mc_input.specs.RefusedFiles.{JudgedFile, as_judged_file, judged_file}
 use Rattle.mc_input.specs.declared.fault.InputFault.TheVariants.{Cache, Vif}
 use Rattle.mc_input.proofs.CacheLemmas.{listed_part}
-use Rattle.mc_input.proofs.FinishLemmas.{router_slots-within_count}
 use Rattle.mc_input.proofs.RefusedLemmas.{JudgesFiles-excluded_router, JudgesFiles-router}
 use Rattle.mc_input.proofs.RefusedLemmas.{JudgesFiles-same_files}
 use Rattle.mc_input.proofs.RefusedLemmas.{JudgesFiles-same_source, judged_file-listed_part}
 use Rattle.mc_input.proofs.WalkLemmas.{name-at, order-at}
 use Rattle.mc_text.proofs.StepLemmas.{on_ok_map}
 use Rattle.mc_input.proofs.each_file.judge_tables.Goals as goal
-
-pub judge_slot-requires-clause-within : goal.judge_slot-requires-clause-within
-judge_slot-requires-clause-within g c =
-    omega (
-      arith,
-      c.vif_slot_number-vif_number.ensures.value,
-      router_slots-within_count false c.args.topology.now c.args.router c.requires.router,
-    )
-
-pub judge_slot-requires-2-clause-within : goal.judge_slot-requires-2-clause-within
-judge_slot-requires-2-clause-within g c =
-    omega (
-      arith,
-      c.cache_slot_number-cache_number.ensures.value,
-      router_slots-within_count false c.args.topology.now c.args.router c.requires.router,
-    )
 
 pub returns-then-is_excluded-clause-judged : goal.returns-then-is_excluded-clause-judged
 returns-then-is_excluded-clause-judged g c = λ r at.
@@ -46,8 +28,6 @@ returns-then-is_excluded-clause-judged g c = λ r at.
 
 pub returns-clause-judged : goal.returns-clause-judged
 returns-clause-judged g c = λ r at.
-    let t = c.args.topology.now in
-    let k = c.args.router in
     let contents = g.F.FileSource.contents c.args.files.now in
     let between_contents = g.F.FileSource.contents c.judge_slot.new.files in
     let names = map (λ (n : Bor (List ℕ)). n.now) c.args.without.now in
@@ -55,13 +35,8 @@ returns-clause-judged g c = λ r at.
     let order = order-at _ r c.order-order.result c.order-order.ensures.item at in
     let own = ap (λ (own : List ℕ). list_any (λ n. bytes_eq n own) names) (sym name)
     ∙ sym c.is_excluded.ensures ∙ c.if-is_excluded.false in
-    let named = ap (option_map (λ r. r.name)) at in
-    let vif_at = router_slot false t c.vif_slot_number-vif_number.result (2 * k) (vif_slot r.name)
-    (omega (arith, c.vif_slot_number-vif_number.ensures.value))
-    (λ more. slice_get-vif_slot more t.routers k (2 * k) r.name refl named) in
-    let cache_at = router_slot false t c.cache_slot_number-cache_number.result (2 * k + 1) (cache_slot r.name)
-    (omega (arith, c.cache_slot_number-cache_number.ensures.value))
-    (λ more. slice_get-cache_slot more t.routers k (2 * k + 1) r.name refl named) in
+    let vif_at = c.vifs-vif_slot.ensures.slot r at in
+    let cache_at = c.cache-cache_slot.ensures.slot r at in
     let before = g.F.FileSource.failed c.args.files.now in
     let middle = g.F.FileSource.failed c.judge_slot.new.files in
     let after = g.F.FileSource.failed c.judge_slot-2.new.files in

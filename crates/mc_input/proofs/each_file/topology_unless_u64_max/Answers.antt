@@ -1,4 +1,4 @@
 use Rattle.mc_input.proofs.each_file.topology_unless_u64_max.Goals as goal
 
 pub returns-clause-topology : goal.returns-clause-topology
-returns-clause-topology g c = c.topology_in.ensures.topology 0
+returns-clause-topology g c = c.topology_in.ensures.topology

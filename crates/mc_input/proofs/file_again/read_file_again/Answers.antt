@@ -7,8 +7,8 @@ use Rattle.mc_input.proofs.file_again.read_file_again.Goals as goal
 
 pub returns-clause-value : goal.returns-clause-value
 returns-clause-value g c = λ read slot contents same at is.
-    let t = c.args.topology.now in
-    let n = c.args.number in
+    let t = c.args.slot.now.topology in
+    let n = c.args.slot.now.number in
     let seen = files_without c.args.without.now in
     IsReadOfFile-of_slot (seen contents) t n slot at read _ _ c.read_slot-read.result
     (ap (option_map (λ (files : List FileText). files_give t n (seen files))) is)
@@ -16,8 +16,8 @@ returns-clause-value g c = λ read slot contents same at is.
 
 pub returns-clause-fault : goal.returns-clause-fault
 returns-clause-fault g c = λ read slot contents part value same at is made reads.
-    let t = c.args.topology.now in
-    let n = c.args.number in
+    let t = c.args.slot.now.topology in
+    let n = c.args.slot.now.number in
     let seen = files_without c.args.without.now in
     IsReadOrMemory-of_slot (seen contents) t n slot at read _ c.read_slot-read.result part value
     (ap (option_map (λ (files : List FileText). files_give t n (seen files))) is) made reads

@@ -1,26 +1,13 @@
-use Rattle.std.proofs.Common.{◌-◌, arith}
 use Rattle.mc_input.specs.ExcludedRouters.{names_of}
-use Rattle.mc_input.proofs.HeaderLemmas.{sees-cache, sees-reports, sees-topology, sees-vifs}
+use Rattle.mc_input.proofs.HeaderLemmas.{sees-other, sees-table}
 use Rattle.mc_input.proofs.file_slots.header_of_slot.Goals as goal
 
-pub returns-then-number-eq0-clause-header : goal.returns-then-number-eq0-clause-header
-returns-then-number-eq0-clause-header c = λ files slot at.
-    sees-topology c.args.topology.now c.args.number (names_of c.args.without.now) files slot at
-    c.if-number-eq0.true
+pub returns-in-Some-clause-header : goal.returns-in-Some-clause-header
+returns-in-Some-clause-header c = λ files place at.
+    sees-table (names_of c.args.without.now) files c.args.slot.now c.in-Some.vifs c.in-Some.router.now _
+    c.in-Some.ensures.table c.header_of_excluded.ensures.header
 
-pub returns-then-table-routers-clause-header : goal.returns-then-table-routers-clause-header
-returns-then-table-routers-clause-header c = λ files slot at.
-    sees-reports c.args.topology.now c.args.number (names_of c.args.without.now) files slot at
-    (omega (arith, c.if-number-eq0.false, c.if-table-routers.true, c.routers.ensures.count)) c.requires.within
-
-pub returns-then-table-eq0-clause-header : goal.returns-then-table-eq0-clause-header
-returns-then-table-eq0-clause-header c = λ files slot at.
-    sees-vifs c.args.topology.now c.args.number (names_of c.args.without.now) files slot at
-    (c.args.number - 1) c.router_name-router.result.now (omega (arith, c.if-number-eq0.false)) _
-    c.router_name-router.ensures.name c.if-table-eq0.true c.header_of_excluded.ensures.header
-
-pub returns-clause-header : goal.returns-clause-header
-returns-clause-header c = λ files slot at.
-    sees-cache c.args.topology.now c.args.number (names_of c.args.without.now) files slot at
-    (c.args.number - 1) c.router_name-router.result.now (omega (arith, c.if-number-eq0.false)) _
-    c.router_name-router.ensures.name c.if-table-eq0.false c.header_of_excluded-2.ensures.header
+pub returns-in-None-clause-header : goal.returns-in-None-clause-header
+returns-in-None-clause-header c = λ files place at.
+    sees-other (names_of c.args.without.now) files place.topology place.number c.args.slot.now at
+    (c.router_table.ensures.none c.in-None.is)

@@ -13,7 +13,7 @@ use Rattle.mc_input.proofs.file_slots.topology_in.Goals as goal
 pub returns-in_err-part-clause-topology : goal.returns-in_err-part-clause-topology
 returns-in_err-part-clause-topology g c =
     let p = err_from_is_err_and c.from_residual.result c.from_residual.ensures.1 in
-    λ n contents is. rw (p.1 ∙ ap (λ f. Err f) p.2) (read_part-file_Err contents n topology_slot
+    λ contents is. rw (p.1 ∙ ap (λ f. Err f) p.2) (read_part-file_Err contents 0 topology_slot
     c.topology.result topology_of c.in_err-part.field-0.0 c.topology.ensures
     (c.in_err-part.ensures.part contents is))
 
@@ -21,14 +21,14 @@ pub returns-in_err-topology_of-clause-topology : goal.returns-in_err-topology_of
 returns-in_err-topology_of-clause-topology g c =
     let p = err_from_is_err_and c.from_residual-in_err-topology_of.result
     c.from_residual-in_err-topology_of.ensures.1 in
-    λ n contents is. rw (p.1 ∙ ap (λ f. Err f) p.2) (read_part-content_Err contents n topology_slot
+    λ contents is. rw (p.1 ∙ ap (λ f. Err f) p.2) (read_part-content_Err contents 0 topology_slot
     c.topology.result topology_of c.in_ok-part.part (part_text c.as_part.result)
     c.in_err-topology_of.field-0.0 c.topology.ensures (c.in_ok-part.ensures.part contents is)
     c.as_part.ensures c.in_err-topology_of.ensures)
 
 pub returns-clause-topology : goal.returns-clause-topology
 returns-clause-topology g c =
-    λ n contents is. read_part-Ok contents n topology_slot c.topology.result topology_of
+    λ contents is. read_part-Ok contents 0 topology_slot c.topology.result topology_of
     c.in_ok-part.part (part_text c.as_part.result) c.in_ok-topology_of.field-0 c.topology.ensures
     (c.in_ok-part.ensures.part contents is) c.as_part.ensures c.in_ok-topology_of.ensures
 

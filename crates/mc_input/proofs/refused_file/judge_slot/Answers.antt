@@ -1,4 +1,4 @@
-use Rattle.std.proofs.Common.{◌≡◌, ◌∙◌, Some, map}
+use Rattle.std.proofs.Common.{◌≡◌, ◌∙◌, Some, map, sym}
 use Rattle.mc_files.specs.Layout.{Slot}
 use Rattle.mc_input.specs.RefusedFiles.{as_judged_file}
 use Rattle.mc_input.proofs.RefusedLemmas.{JudgesFiles-one_of_slot, OnOk-both}
@@ -15,5 +15,5 @@ returns-clause-judged g c = λ read slot same at.
     c.slot_fault-fault.result (map as_judged_file c.args.refused.now.items)
     (map as_judged_file c.push_if_fault.new.refused.items)
     (g.F.FileSource.failed c.args.files.now) (g.F.FileSource.failed c.slot_fault-fault.new.files)
-    c.in-Some.slot (one_slot (c.in-Some.ensures ∙ at)) pushed enough c.slot_fault-fault.ensures.failures
+    c.slot.result.now (one_slot (sym c.slot.ensures ∙ at)) pushed enough c.slot_fault-fault.ensures.failures
     (λ known is. c.slot_fault-fault.ensures.fault read slot known same at is))

@@ -8,8 +8,8 @@ use Rattle.mc_input.proofs.refused_file.slot_fault.Goals as goal
 
 pub returns-clause-fault : goal.returns-clause-fault
 returns-clause-fault g c = λ read slot contents same at is.
-    let t = c.args.topology.now in
-    let n = c.args.number in
+    let t = c.args.slot.now.topology in
+    let n = c.args.slot.now.number in
     subst (λ (f : Option SourceFault). IsOwnFaultUnlessMemory f (file_fault contents slot read))
     (sym c.err-fault.ensures.value)
     (IsOwnFaultUnlessMemory-of_slot contents t n slot read _ _

@@ -9,12 +9,10 @@ use Rattle.mc_tables.specs.EachRow.{each_row_if, with_rows}
 use Rattle.mc_tables.specs.VifTable.{VifValue}
 use Rattle.mc_topology.specs.SectionRows.{RouterRow}
 use Rattle.mc_topology.specs.Topology.{TopologyValue}
-use Rattle.mc_files.specs.Layout.{cache_slot, slots}
-use Rattle.mc_files.proofs.SlotLemmas.{router_slot, slice_get-cache_slot}
+use Rattle.mc_files.specs.Layout.{cache_slot}
 use Rattle.mc_asked.specs.WantStates.{WantStatesValue, states_start, states_with_row}
 use Rattle.mc_input.specs.ExcludedRouters.{files_without}
 use Rattle.mc_input.specs.declared.fault.InputFault.TheVariants.{Cache}
-use Rattle.mc_input.proofs.FinishLemmas.{router_slots-within_count}
 use Rattle.mc_input.proofs.StateLemmas.{AreStatesOfRouter-from_rows, AreStatesOfRouter-of_none}
 use Rattle.mc_input.proofs.StateLemmas.{IsSummaryOf-at}
 use Rattle.std.proofs.lemmas.Bool.{eqb-true}
@@ -23,14 +21,10 @@ use Rattle.std.specs.FinMap.{FinMap}
 use Rattle.std.specs.Ordering.{nat_cmp}
 use Rattle.mc_input.proofs.states.read_states_of_router.Goals as goal
 
--- the slot of the router's cache, of a topology that is the domain's
-cache_slot-at : (t own : TopologyValue) (k number : ℕ) (r : RouterRow) → own ≡ t → number ≡ 2 + 2 * k
-    → slice_get t.routers k ≡ Some r → slice_get (slots false own) number ≡ Some (cache_slot r.name)
-cache_slot-at t own k number r same is at =
-    let named = ap (option_map (λ (r : RouterRow). r.name)) at in
-    subst (λ (u : TopologyValue). slice_get (slots false u) number ≡ Some (cache_slot r.name)) (sym same)
-    (router_slot false t number (2 * k + 1) (cache_slot r.name) (omega (arith, is))
-    (λ more. slice_get-cache_slot more t.routers k (2 * k + 1) r.name refl named))
+-- the router's row, in a topology that is the domain's
+row-at : (t own : TopologyValue) (k : ℕ) (r : RouterRow) → own ≡ t → slice_get t.routers k ≡ Some r
+    → slice_get own.routers k ≡ Some r
+row-at t own k r same at = subst (λ (u : TopologyValue). slice_get u.routers k ≡ Some r) (sym same) at
 
 -- and its byte order
 order-of : (t own : TopologyValue) (k : ℕ) (r : RouterRow) (order : Order) → own ≡ t
@@ -43,16 +37,6 @@ order-of t own k r order same item at =
 
 one_table : {x y : FinMap nat_cmp VifValue} → Some x ≡ Some y → x ≡ y
 one_table e = cc
-
-pub read_file_again-requires-clause-within : goal.read_file_again-requires-clause-within
-read_file_again-requires-clause-within g c =
-    let number = c.cache_slot_number-number.result in
-    subst (λ (t : TopologyValue). number < length (slots false t))
-    (sym c.topology-topology.ensures.topology) (omega (
-      arith,
-      c.cache_slot_number-number.ensures.value,
-      router_slots-within_count false c.args.domain.now.topology c.args.router c.requires.router,
-    ))
 
 pub returns-then-is_empty-clause-states : goal.returns-then-is_empty-clause-states
 returns-then-is_empty-clause-states g c = λ all contents summary r vifs is summaries at vifs_at.
@@ -74,8 +58,8 @@ returns-in_err-stated-clause-fault g c = λ all contents summary is summaries.
     let reader = c.handing_on-reader.result in
     let row = slice_get-exists t.routers k c.requires.router in
     let r = row.0 in
-    let here = cache_slot-at t c.topology-topology.result.now k c.cache_slot_number-number.result r
-    c.topology-topology.ensures.topology c.cache_slot_number-number.ensures.value row.1 in
+    let here = c.cache-slot.ensures.slot r
+    (row-at t c.topology-topology.result.now k r c.topology-topology.ensures.topology row.1) in
     let order = order-of t c.topology-topology.result.now k r c.order-order.result
     c.topology-topology.ensures.topology c.order-order.ensures.item row.1 in
     let own = IsSummaryOf-at all files t summary k r summaries c.requires.router row.1 in
@@ -95,8 +79,8 @@ returns-clause-states g c = λ all contents summary r vifs is summaries at vifs_
     let files = files_without c.args.without.now contents in
     let wants = c.args.wants.now in
     let reader = c.handing_on-reader.result in
-    let here = cache_slot-at t c.topology-topology.result.now k c.cache_slot_number-number.result r
-    c.topology-topology.ensures.topology c.cache_slot_number-number.ensures.value at in
+    let here = c.cache-slot.ensures.slot r
+    (row-at t c.topology-topology.result.now k r c.topology-topology.ensures.topology at) in
     let order = order-of t c.topology-topology.result.now k r c.order-order.result
     c.topology-topology.ensures.topology c.order-order.ensures.item at in
     let own = IsSummaryOf-at all files t summary k r summaries c.requires.router at in

@@ -5,23 +5,13 @@ use Rattle.std.proofs.lemmas.Result.{err_from_is_err_and}
 use Rattle.mc_text.specs.Steps.{map_fault}
 use Rattle.mc_igmp.specs.declared.record.Record.{Record}
 use Rattle.mc_files.specs.Layout.{reports_slot}
-use Rattle.mc_files.proofs.SlotLemmas.{slots-reports_slot}
 use Rattle.mc_asked.specs.LanWants.{LanWantsValue}
 use Rattle.mc_asked.specs.UnadmittedSoFar.{AddsLan}
 use Rattle.mc_input.specs.ExcludedRouters.{files_without}
 use Rattle.mc_input.specs.PartsReading.{reports_of}
 use Rattle.mc_input.specs.declared.fault.InputFault.TheVariants.{Reports}
 use Rattle.mc_input.proofs.AskedOfFilesLemmas.{IsListOf-at, same_list-read}
-use Rattle.mc_input.proofs.FinishLemmas.{lan_slot-within_count}
 use Rattle.mc_input.proofs.unanswered.take_list.Goals as goal
-
-pub read_file_again-requires-clause-within : goal.read_file_again-requires-clause-within
-read_file_again-requires-clause-within g c =
-    omega (
-      arith,
-      c.first_lan_slot_number.ensures.value,
-      lan_slot-within_count false c.args.topology.now c.args.lan c.requires.lan,
-    )
 
 pub returns-in_err-list-clause-fault : goal.returns-in_err-list-clause-fault
 returns-in_err-list-clause-fault g c = λ lists contents is are.
@@ -30,8 +20,7 @@ returns-in_err-list-clause-fault g c = λ lists contents is are.
     let lan = c.args.lan in
     let files = files_without c.args.without.now contents in
     let own = IsListOf-at files t lists lan are c.requires.lan in
-    let here = slots-reports_slot false t (c.first_lan_slot_number.result + lan) lan own.0
-    (omega (arith, c.first_lan_slot_number.ensures.value)) own.1 in
+    let here = c.reports-slot.ensures.slot own.0 own.1 in
     rw (p.1, p.2)
     (c.in_err-list.ensures.fault reports_of (reports_slot own.0) contents own.4.part own.2
     (λ part small. ap (map_fault (Reports part.name)) (c.new-reader.ensures.reads part.bytes))
@@ -48,8 +37,7 @@ returns-clause-sources g c = λ wanted lists contents at is are.
     let lan = c.args.lan in
     let files = files_without c.args.without.now contents in
     let own = IsListOf-at files t lists lan are c.requires.lan in
-    let here = slots-reports_slot false t (c.first_lan_slot_number.result + lan) lan own.0
-    (omega (arith, c.first_lan_slot_number.ensures.value)) own.1 in
+    let here = c.reports-slot.ensures.slot own.0 own.1 in
     let read = c.in_ok-list.ensures.value reports_of (reports_slot own.0) contents
     (λ part small. ap (map_fault (Reports part.name)) (c.new-reader.ensures.reads part.bytes)) here is in
     let list = subst (λ (records : List Record). slice_get lists lan ≡ Some records)

@@ -10,13 +10,13 @@ pub returns-in_err-name-clause-fault : goal.returns-in_err-name-clause-fault
 returns-in_err-name-clause-fault g c = λ read same.
     let p = err_from_is_err_and c.from_residual.result c.from_residual.ensures.1 in
     rw (p.1, p.2) (IsFaultOfStream-implied first_part (read_first read) (read_first-first_part_Err read)
-    (g.S.Slots.gives c.args.slots.now c.args.topology.now c.args.number) c.in_err-name.field-0.0
+    (g.S.Slots.gives c.args.slots.now c.args.slot.now.topology c.args.slot.now.number) c.in_err-name.field-0.0
     c.in_err-name.ensures.fault)
 
 pub returns-clause-value : goal.returns-clause-value
 returns-clause-value g c = λ read same.
-    let t = c.args.topology.now in
-    let n = c.args.number in
+    let t = c.args.slot.now.topology in
+    let n = c.args.slot.now.number in
     let old = g.S.Slots.gives c.args.slots.now t n in
     let between = g.S.Slots.gives c.feed.new.self t (n + 1) in
     let after = g.R.PieceReader.result_after in
@@ -29,8 +29,8 @@ returns-clause-value g c = λ read same.
 
 pub returns-clause-fault : goal.returns-clause-fault
 returns-clause-fault g c = λ read same.
-    let t = c.args.topology.now in
-    let n = c.args.number in
+    let t = c.args.slot.now.topology in
+    let n = c.args.slot.now.number in
     let old = g.S.Slots.gives c.args.slots.now t n in
     let between = g.S.Slots.gives c.feed.new.self t (n + 1) in
     let after = g.R.PieceReader.result_after in

@@ -1,6 +1,7 @@
 use Rattle.std.proofs.Common.{◌≡◌, ◌<◌, ◌+◌, ◌*◌, List, Some, drop, length, map}
 use Rattle.mc_forward.specs.RouterTables.{kept_of_tables}
-use Rattle.mc_input.specs.Stream.{RouterRead, Stream, read_each_after, read_router, read_routers, read_stream}
+use Rattle.mc_input.specs.Stream.{RouterRead, Stream, read_router, read_routers, read_stream}
+use Rattle.mc_input.proofs.WalkLemmas.{read_each_after}
 use Rattle.mc_input.proofs.walk.read_tables.Given as goal
 
 abbrev pub invariant-loop-router : goal.invariant-loop-router

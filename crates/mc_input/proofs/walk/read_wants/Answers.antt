@@ -1,23 +1,27 @@
 use Rattle.std.proofs.Common.{◌≡◌, ℕ, ◌+◌, ◌∙◌, Bool, List, [], ◌∷◌, ◌++◌, Result, Some, ap, arith, drop}
-use Rattle.std.proofs.Common.{false, inr, length, refl, rules, slice_get, subst, sym}
+use Rattle.std.proofs.Common.{Option, inr, length, refl, rules, slice_get, subst, sym}
 use Rattle.std.proofs.lemmas.List.{drop_all, length-append}
 use Rattle.std.proofs.lemmas.Result.{err_from_is_err_and}
 use Rattle.mc_text.specs.Steps.{map_fault}
 use Rattle.mc_igmp.specs.declared.record.Record.{Record}
+use Rattle.mc_topology.specs.Topology.{TopologyValue}
+use Rattle.mc_files.specs.Layout.{SlotNumber}
+use Rattle.mc_files.specs.Layout.{first_lan_number}
 use Rattle.mc_forward.specs.Assembling.{AreWanted}
 use Rattle.mc_forward.proofs.IndexLemmas.{slice_get-exists}
 use Rattle.mc_forward.proofs.ListedTableLemmas.{pairwise-more}
 use Rattle.mc_input.specs.Kept.{AreWantedBy}
 use Rattle.mc_input.specs.PartsOneByOne.{certificate_number}
-use Rattle.mc_input.specs.PartsReading.{first_lan_number, reports_of}
-use Rattle.mc_input.specs.Stream.{IsFaultOfStream, NextParts, read_each_after, read_first, read_lan}
-use Rattle.mc_input.specs.Stream.{read_stream}
+use Rattle.mc_input.specs.PartsReading.{reports_of}
+use Rattle.mc_input.specs.Stream.{IsFaultOfStream, NextParts, Stream, read_first}
+use Rattle.mc_input.specs.Stream.{read_lan, read_stream}
 use Rattle.mc_input.specs.declared.fault.InputFault.TheVariants.{Memory, Reports}
 use Rattle.mc_input.specs.declared.source_fault.SourceFault.{SourceFault}
 use Rattle.mc_input.specs.declared.source_fault.SourceFault.TheVariants.{Input}
-use Rattle.mc_input.proofs.FinishLemmas.{lan_slot-within_count, length-answers_push}
+use Rattle.mc_input.proofs.FinishLemmas.{length-answers_push}
 use Rattle.mc_input.proofs.ReadingLemmas.{drop-slice_get}
-use Rattle.mc_input.proofs.WalkLemmas.{read_each-Err, read_each-end, read_each-more, read_each-start}
+use Rattle.mc_input.proofs.WalkLemmas.{read_each_after, read_each-Err, read_each-end, read_each-more}
+use Rattle.mc_input.proofs.WalkLemmas.{read_each-start}
 use Rattle.mc_input.proofs.WalkLemmas.{read_lan-Err, read_lan-Ok, read_stream-Err_implied}
 use Rattle.mc_input.proofs.walk.read_wants.Goals as goal
 
@@ -53,16 +57,22 @@ loop-lan-init g c =
     none_there : {A : Type 0} {xs : List A} {x : A} (k : ℕ) → xs ≡ [] → slice_get xs k ≡ Some x → ⊥
     none_there k empty at = cc
 
-pub read_slot-requires-clause-within : goal.read_slot-requires-clause-within
-read_slot-requires-clause-within g c =
-    omega (
-      arith,
-      c.loop-lan-test.true,
-      c.loop-lan.invariant.end,
-      c.first_lan_slot_number-first.ensures.value,
-      lan_slot-within_count false c.args.topology.now c.loop-lan.lan
-          (omega (arith, c.loop-lan-test.true, c.loop-lan.invariant.end)),
-    )
+-- what the slots give from the LAN's reports on,
+reports_at : (gives : TopologyValue → ℕ → Option Stream) (t : TopologyValue) (n : ℕ) (slot : SlotNumber)
+    (stream : Stream) → slot ≡ record { topology = t; number = n } → gives t n ≡ Some stream
+    → gives slot.topology slot.number ≡ Some stream
+reports_at gives t n slot stream is known =
+    subst (λ (s : SlotNumber). gives s.topology s.number ≡ Some stream) (sym is) known
+
+-- and from the next LAN's on
+next_at : (gives : TopologyValue → ℕ → Option Stream) (t : TopologyValue) (k : ℕ) (slot : SlotNumber)
+    (stream : Stream) → slot ≡ record { topology = t; number = first_lan_number t + k }
+    → gives slot.topology (slot.number + 1) ≡ Some stream
+    → gives t (first_lan_number t + (k + 1)) ≡ Some stream
+next_at gives t k slot stream is known =
+    let behind : first_lan_number t + k + 1 ≡ first_lan_number t + (k + 1) = omega arith in
+    subst (λ (n : ℕ). gives t n ≡ Some stream) behind
+    (subst (λ (s : SlotNumber). gives s.topology (s.number + 1) ≡ Some stream) is known)
 
 pub returns-in_err-reports-clause-fault : goal.returns-in_err-reports-clause-fault
 returns-in_err-reports-clause-fault g c =
@@ -72,11 +82,9 @@ returns-in_err-reports-clause-fault g c =
     let k = c.loop-lan.lan in
     let own = c.in_err-reports.field-0.0 in
     let lan = slice_get-exists t.lans k (omega (arith, c.loop-lan-test.true, c.loop-lan.invariant.end)) in
-    let number : c.first_lan_slot_number-first.result + k ≡ first_lan_number t + k =
-    omega (arith, c.first_lan_slot_number-first.ensures.value) in
-    let refused = subst (λ (n : ℕ). IsFaultOfStream (g.S.Slots.gives c.loop-lan.slots t n)
-    (read_first reports_of) own)
-    number (c.in_err-reports.ensures.fault reports_of
+    let refused = subst (λ (s : SlotNumber). IsFaultOfStream (g.S.Slots.gives c.loop-lan.slots s.topology
+    s.number) (read_first reports_of) own)
+    c.reports-slot.ensures.number (c.in_err-reports.ensures.fault reports_of
     (λ part small. ap (map_fault (Reports part.name)) (c.new-reader.ensures.reads part.bytes))) in
     rw (p.1, p.2) (λ stream known loud.
     let x = c.loop-lan.invariant.taken stream known in
@@ -100,10 +108,8 @@ loop-lan-preserved g c =
     let are = c.in_ok-wanted.ensures.wanted in
     let items = c.in_ok-push.ensures.items in
     let lan = slice_get-exists t.lans k (omega (arith, c.loop-lan-test.true, c.loop-lan.invariant.end)) in
-    let number : c.first_lan_slot_number-first.result + k ≡ first_lan_number t + k =
-    omega (arith, c.first_lan_slot_number-first.ensures.value) in
-    let next : c.first_lan_slot_number-first.result + k + 1 ≡ first_lan_number t + (k + 1) =
-    omega (arith, c.first_lan_slot_number-first.ensures.value) in
+    let slot = c.reports-slot.result in
+    let number = c.reports-slot.ensures.number in
     record {
       advances = g.met.S.Slots.advances_twice c.args.slots.now c.loop-lan.slots c.read_slot.new.slots
           c.loop-lan.invariant.advances c.in_ok-reports.ensures.advances;
@@ -129,10 +135,10 @@ loop-lan-preserved g c =
           let x = c.loop-lan.invariant.taken stream known in
           let y = c.in_ok-reports.ensures.value reports_of
           (λ part small. ap (map_fault (Reports part.name)) (c.new-reader.ensures.reads part.bytes)) x.0
-          (subst (λ (n : ℕ). g.S.Slots.gives c.loop-lan.slots t n ≡ Some x.0) (sym number) x.2) in (
+          (reports_at (g.S.Slots.gives c.loop-lan.slots) t (first_lan_number t + k) slot x.0 number x.2) in (
             y.0,
             x.1 ++ y.4.0 ∷ [],
-            subst (λ (n : ℕ). g.S.Slots.gives c.read_slot.new.slots t n ≡ Some y.0) next y.2,
+            next_at (g.S.Slots.gives c.read_slot.new.slots) t k slot y.0 number y.2,
             subst (λ (ws : List (List Bool)). AreWantedBy t (x.1 ++ y.4.0 ∷ []) ws) (sym items)
                 (pairwise-more (AreWanted t.flows) x.1 c.loop-lan.wants.items y.4.0 wanted
                 x.3 (subst (λ (records : List Record). AreWanted t.flows records wanted) y.4.2 are)),

@@ -1,8 +1,9 @@
 use Rattle.std.proofs.Common.{◌≡◌, ◌<◌, ℕ, ◌+◌, Bool, List, Some, drop, length, slice_get}
 use Rattle.mc_igmp.specs.declared.record.Record.{Record}
+use Rattle.mc_files.specs.Layout.{first_lan_number}
 use Rattle.mc_input.specs.Kept.{AreWantedBy}
-use Rattle.mc_input.specs.PartsReading.{first_lan_number}
-use Rattle.mc_input.specs.Stream.{Stream, read_each_after, read_lan, read_lans, read_stream}
+use Rattle.mc_input.specs.Stream.{Stream, read_lan, read_lans, read_stream}
+use Rattle.mc_input.proofs.WalkLemmas.{read_each_after}
 use Rattle.mc_input.proofs.walk.read_wants.Given as goal
 
 abbrev pub invariant-loop-lan : goal.invariant-loop-lan

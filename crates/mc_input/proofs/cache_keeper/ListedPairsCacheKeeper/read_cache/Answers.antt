@@ -15,8 +15,8 @@ use Rattle.mc_input.proofs.cache_keeper.ListedPairsCacheKeeper.read_cache.Goals 
 
 pub returns-clause-cache : goal.returns-clause-cache
 returns-clause-cache g c =
-    let t = c.args.topology.now in
-    let n = c.args.number in
+    let t = c.args.slot.now.topology in
+    let n = c.args.slot.now.number in
     let order = c.args.order in
     let pairs = flow_pairs t.flows in
     let read = listed_part order pairs in
@@ -46,7 +46,7 @@ returns-clause-cache g c =
 
 pub returns-clause-fault : goal.returns-clause-fault
 returns-clause-fault g c =
-    let t = c.args.topology.now in
+    let t = c.args.slot.now.topology in
     let order = c.args.order in
     let pairs = flow_pairs t.flows in
     let read = listed_part order pairs in
@@ -56,6 +56,6 @@ returns-clause-fault g c =
     c.requires.listed in
     IfErr-IsFaultOfStream_implied (read_first read) (read_first (cache_and_text order))
     (read_first-Err_implied read (cache_and_text order) (cache_and_text-listed_Err order pairs))
-    (g.S.Slots.gives c.args.slots.now t c.args.number) c.read_slot.result
+    (g.S.Slots.gives c.args.slots.now t c.args.slot.now.number) c.read_slot.result
     (c.read_slot.ensures.fault read (λ part small. ap (map_fault (Cache part.name))
     (cache_if-listed_in order pairs c.new-reader.result start part.bytes small)))

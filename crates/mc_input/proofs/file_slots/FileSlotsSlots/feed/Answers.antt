@@ -11,24 +11,25 @@ returns-in_err-feed_header_or_file-clause-fault g c =
     let p = err_from_is_err_and c.from_residual-in_err-feed_header_or_file.result
     c.from_residual-in_err-feed_header_or_file.ensures.1 in
     let seen = files_without c.args.self.now.without.now in
-    let at = sym c.in-Some.ensures in
-    rw (p.1, p.2) (IsFaultOfStream-of_file c.args.topology.now c.args.number c.in-Some.slot at seen
-    (g.F.FileSource.contents c.args.self.now.files) c.in_err-feed_header_or_file.field-0.0 (λ files is loud.
+    let at = c.slot-slot.ensures in
+    rw (p.1, p.2) (IsFaultOfStream-of_file c.args.slot.now.topology c.args.slot.now.number
+    c.slot-slot.result.now at seen (g.F.FileSource.contents c.args.self.now.files)
+    c.in_err-feed_header_or_file.field-0.0 (λ files is loud.
     rw (c.in_err-feed_header_or_file.ensures.fault files (seen files) is
-    (c.header_of_slot-header.ensures.header files c.in-Some.slot at) loud) refl))
+    (c.header_of_slot-header.ensures.header files c.args.slot.now at) loud) refl))
 
 pub returns-clause-part : goal.returns-clause-part
 returns-clause-part g c =
     let seen = files_without c.args.self.now.without.now in
-    let at = sym c.in-Some.ensures in
-    ReadsFirst-of_file c.args.topology.now c.args.number c.in-Some.slot at seen
+    let at = c.slot-slot.ensures in
+    ReadsFirst-of_file c.args.slot.now.topology c.args.slot.now.number c.slot-slot.result.now at seen
     (g.F.FileSource.contents c.args.self.now.files) (g.F.FileSource.contents c.feed_header_or_file.new.files)
     (IsFedPart c.in_ok-name.name (g.P.PieceReader.result_after c.args.reader.now)
     (g.P.PieceReader.result_after c.feed_header_or_file.new.reader))
     c.in_ok-feed_header_or_file.ensures.kept (λ files is.
     let x = c.in_ok-feed_header_or_file.ensures.bytes files (seen files) is
-    (c.header_of_slot-header.ensures.header files c.in-Some.slot at) in (
-      record { name = part_name c.in-Some.slot; bytes = x.0 },
+    (c.header_of_slot-header.ensures.header files c.args.slot.now at) in (
+      record { name = part_name c.slot-slot.result.now; bytes = x.0 },
       rw (x.1) refl,
       (sym c.in_ok-name.ensures, x.2, x.3),
     ))

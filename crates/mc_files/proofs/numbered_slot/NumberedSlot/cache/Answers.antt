@@ -1,0 +1,18 @@
+use Rattle.std.proofs.Common.{◌+◌, ◌*◌, ◌∙◌, Some, ap, arith, false, sym}
+use Rattle.std.specs.Prelude.{option_map}
+use Rattle.mc_files.specs.Layout.{cache_slot}
+use Rattle.mc_files.proofs.SlotLemmas.{slots-cache_slot}
+use Rattle.mc_files.proofs.numbered_slot.NumberedSlot.cache.Goals as goal
+
+pub invariant_of-result : goal.invariant_of-result
+invariant_of-result c = (
+  omega (arith, c.requires.few, c.router.view_is),
+  slots-cache_slot false c.args.topology.now (2 + 2 * c.router.inside.0) c.args.router
+      c.router_name.result.now (omega (arith, c.router.view_is)) c.router_name.ensures.name
+      ∙ ap Some (sym c.cache.ensures.value),
+)
+
+pub returns-clause-slot : goal.returns-clause-slot
+returns-clause-slot c = λ r at.
+    slots-cache_slot false c.args.topology.now (2 + 2 * c.router.inside.0) c.args.router r.name
+    (omega (arith, c.router.view_is)) (ap (option_map (λ r. r.name)) at)

@@ -424,7 +424,7 @@ class Crate:
 
     def run(self, room, words):
         """Runs the prover, and counts its processor time."""
-        jobs = min(rt.processors(), 1 + len(words) // 2 // EDITS_OF_JOB)
+        jobs = max(1, min(1 + len(words) // 2 // EDITS_OF_JOB, rt.processors(), rt.free() // MEMORY_OF_CHECK))
         own = self.made.words(["--jobs", str(jobs), "--incremental", f"{room}/out"], keeps=False)
         whole = [*rt.rtlib.guarded(), rt.rtlib.RATTLE, "check", *own, *words]
         with tempfile.TemporaryFile("w+", errors="replace") as out:

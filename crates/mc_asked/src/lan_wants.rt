@@ -141,7 +141,8 @@ fn push_unanswered(
 }
 
 /// Drops repeats of the numbers if they are more than `most`. Returns how many may be kept from then on:
-/// at least twice as many as are left, so that they are sorted seldom.
+/// at least twice as many as are left, so that they are sorted seldom. Only that the same numbers are there
+/// is proved.
 fn drop_repeats_of_many(numbers: &mut Vec<u64>, most: usize) -> usize
     ensures { (number : ℕ) → Contains numbers.new.items number ↔ Contains numbers.old.items number }
 {

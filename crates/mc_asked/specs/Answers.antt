@@ -21,7 +21,7 @@ pub record AnswersValue : Type 0 where
 
 -- the sources of the topology as pairs
 abbrev pub source_pairs : List SourceRow → List (ℕ × ℕ)
-source_pairs sources = map (λ s. (s.address, s.lan)) sources
+source_pairs sources = map (λ row. (row.address, row.lan)) sources
 
 -- Whether a flow answers a want of its group: one of a single source if that is the flow's, and one of any
 -- source if the records admit the flow's source.
@@ -32,28 +32,28 @@ is_answer records want flow =
 
 -- whether some listed flow answers the want
 abbrev pub is_answered : AnswersValue → List Record → Want → Bool
-is_answered a records want = list_any (is_answer records want) a.flows
+is_answered answers records want = list_any (is_answer records want) answers.flows
 
 -- whether the LAN itself answers the want: the topology lists its source on that LAN
 abbrev pub is_on_lan : AnswersValue → (lan : ℕ) → Want → Bool
-is_on_lan a lan want = list_any (λ s. (s.0 == want.1) && (s.1 == lan)) a.sources
+is_on_lan answers lan want = list_any (λ source. (source.0 == want.1) && (source.1 == lan)) answers.sources
 
 -- whether a range that `--ignore` takes out has the want's group
 abbrev pub is_ignored : AnswersValue → Want → Bool
-is_ignored a want = list_any (λ range. has_group range want.0) a.ignored
+is_ignored answers want = list_any (λ range. has_group range want.0) answers.ignored
 
 -- whether a listed flow has the group
 abbrev pub is_group_of_flow : AnswersValue → ℕ → Bool
-is_group_of_flow a group = list_any (λ flow. flow.1 == group) a.flows
+is_group_of_flow answers group = list_any (λ flow. flow.1 == group) answers.flows
 
 -- whether the want's group is a service's, and no listed flow has it
 abbrev pub is_of_service : AnswersValue → Want → Bool
-is_of_service a want = is_some (service_name want.0) && not (is_group_of_flow a want.0)
+is_of_service answers want = is_some (service_name want.0) && not (is_group_of_flow answers want.0)
 
 -- the class of a want of the LAN's list
 abbrev pub class_of : AnswersValue → (lan : ℕ) → List Record → Want → WantClass
-class_of a lan records want =
-    if is_answered a records want then Answered
-    else (if is_on_lan a lan want then OnLan
-    else (if is_ignored a want then Ignored
-    else (if is_of_service a want then Service else Asked)))
+class_of answers lan records want =
+    if is_answered answers records want then Answered
+    else (if is_on_lan answers lan want then OnLan
+    else (if is_ignored answers want then Ignored
+    else (if is_of_service answers want then Service else Asked)))

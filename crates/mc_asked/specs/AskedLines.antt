@@ -60,14 +60,15 @@ pub record AreAskedLines (all : Bool) (lans : List LanWantsValue) (a : AskedLine
 
 -- the wants of the class `Asked` in each list, where the lists are those of the LANs from this number on
 abbrev pub asked_from : AnswersValue → (lan : ℕ) → List (List Record) → List (List Want)
-asked_from a lan [] = []
-asked_from a lan (records ∷ lists) = asked_wants a lan records ∷ asked_from a (suc lan) lists
+asked_from answers lan [] = []
+asked_from answers lan (records ∷ lists) = asked_wants answers lan records
+    ∷ asked_from answers (suc lan) lists
 
 -- what is kept of each of these lists
 abbrev pub lan_wants_from : (all : Bool) → AnswersValue → (lan : ℕ) → List (List Record) → List LanWantsValue
-lan_wants_from all a lan [] = []
-lan_wants_from all a lan (records ∷ lists) =
-    lan_wants all a lan records ∷ lan_wants_from all a (suc lan) lists
+lan_wants_from all answers lan [] = []
+lan_wants_from all answers lan (records ∷ lists) =
+    lan_wants all answers lan records ∷ lan_wants_from all answers (suc lan) lists
 
 -- how many of a LAN's wants are none of the shown ones
 abbrev pub count_others : (shown : List Want) → List Want → ℕ

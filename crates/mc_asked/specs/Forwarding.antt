@@ -91,4 +91,5 @@ has_state state (Some own) = is_same_state state own
 
 -- the routers that are in a state, in order, by the state of each
 abbrev pub routers_in : RouterState → List RouterState → List ℕ
-routers_in state states = filter (λ r. has_state state (slice_get states r)) (below (length states))
+routers_in state states = filter (λ router. has_state state (slice_get states router))
+    (below (length states))

@@ -5,15 +5,15 @@ use Rattle.std.specs.List.{AllWithin}
 
 -- the second parts of the pairs of a group
 abbrev pub seconds_of : (group : ℕ) → List (ℕ × ℕ) → List ℕ
-seconds_of group pairs = map (λ p. p.1) (filter (λ p. p.0 == group) pairs)
+seconds_of group pairs = map (λ pair. pair.1) (filter (λ pair. pair.0 == group) pairs)
 
 -- The pairs of the group are those from place `run.0` on and before place `run.1`.
 pub record IsRunOf (group : ℕ) (pairs : List (ℕ × ℕ)) (run : ℕ × ℕ) : Type 0 where
   pub ordered : run.0 ≤ run.1
   pub within : run.1 ≤ length pairs
-  pub before : AllWithin (λ p. (p.0 == group) ≡ false) pairs 0 run.0
-  pub inside : AllWithin (λ p. (p.0 == group) ≡ true) pairs run.0 run.1
-  pub behind : AllWithin (λ p. (p.0 == group) ≡ false) pairs run.1 (length pairs)
+  pub before : AllWithin (λ pair. (pair.0 == group) ≡ false) pairs 0 run.0
+  pub inside : AllWithin (λ pair. (pair.0 == group) ≡ true) pairs run.0 run.1
+  pub behind : AllWithin (λ pair. (pair.0 == group) ≡ false) pairs run.1 (length pairs)
 
 -- the list with the elements from one place on and before another changed by f
 abbrev pub with_run : {A : Type 0} → (A → A) → (run : ℕ × ℕ) → List A → List A

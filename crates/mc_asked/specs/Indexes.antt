@@ -41,16 +41,17 @@ IsIndexOfWantedGroups flows records index =
 abbrev pub IsIndexOfPairs : List (ℕ × ℕ) → List ℕ → Type 0
 IsIndexOfPairs pairs index = (pair : ℕ × ℕ) → pair_of (pair_number pair) ≡ pair →
     Contains index (pair_number pair)
-    ↔ IsTrue (list_any (λ p. (p.0 == pair.0) && (p.1 == pair.1)) pairs)
+    ↔ IsTrue (list_any (λ other. (other.0 == pair.0) && (other.1 == pair.1)) pairs)
 
 -- The index has exactly the groups of these pairs of a source and a group.
 abbrev pub IsIndexOfGroups : List (ℕ × ℕ) → List ℕ → Type 0
 IsIndexOfGroups pairs index = (group : ℕ) →
-    Contains index group ↔ IsTrue (list_any (λ p. p.1 == group) pairs)
+    Contains index group ↔ IsTrue (list_any (λ other. other.1 == group) pairs)
 
 -- Of these wants, those of the class `Asked`, and the groups of those of the class `Service`.
-pub record IsClassified (a : AnswersValue) (lan : ℕ) (records : List Record) (wants : List Want)
-    (c : ClassifiedWants) : Type 0 where
-  pub asked : c.asked.items ≡ filter (λ want. is_asked_class (class_of a lan records want)) wants
-  pub services : c.services.items
-      ≡ map (λ want. want.0) (filter (λ want. is_service_class (class_of a lan records want)) wants)
+pub record IsClassified (answers : AnswersValue) (lan : ℕ) (records : List Record) (wants : List Want)
+    (classified : ClassifiedWants) : Type 0 where
+  pub asked : classified.asked.items ≡ filter (λ want. is_asked_class (class_of answers lan records want))
+      wants
+  pub services : classified.services.items
+      ≡ map (λ want. want.0) (filter (λ want. is_service_class (class_of answers lan records want)) wants)

@@ -28,12 +28,14 @@ is_service_class Asked = false
 
 -- the wants of a list that no flow answers, nor the LAN itself, and that are neither ignored nor a service's
 abbrev pub asked_wants : AnswersValue → (lan : ℕ) → List Record → List Want
-asked_wants a lan records = filter (λ want. is_asked_class (class_of a lan records want)) (wants_in records)
+asked_wants answers lan records = filter (λ want. is_asked_class (class_of answers lan records want))
+    (wants_in records)
 
 -- the group of each want of a list that is a service's
 abbrev pub service_groups : AnswersValue → (lan : ℕ) → List Record → List ℕ
-service_groups a lan records =
-    map (λ want. want.0) (filter (λ want. is_service_class (class_of a lan records want)) (wants_in records))
+service_groups answers lan records =
+    map (λ want. want.0) (filter (λ want. is_service_class (class_of answers lan records want))
+    (wants_in records))
 
 -- What is kept: the wants of the class `Asked`, all or the 20 lowest; how many there are; and the groups of
 -- services.
@@ -52,5 +54,5 @@ kept_wants all asked groups = record {
 
 -- what is kept of a LAN's list
 abbrev pub lan_wants : (all : Bool) → AnswersValue → (lan : ℕ) → List Record → LanWantsValue
-lan_wants all a lan records =
-    kept_wants all (asked_wants a lan records) (service_groups a lan records)
+lan_wants all answers lan records =
+    kept_wants all (asked_wants answers lan records) (service_groups answers lan records)

@@ -19,7 +19,7 @@ any_source = 0
 
 -- the wants of the group from each of these sources, of those that a host may send from
 abbrev pub included_in : (group : ℕ) → (sources : List ℕ) → List Want
-included_in group sources = map (λ s. (group, s)) (filter is_source sources)
+included_in group sources = map (λ source. (group, source)) (filter is_source sources)
 
 -- what a record of this kind asks for: an EXCLUDE record for the group from any source, an INCLUDE record for
 -- the group from each source of its list
@@ -31,7 +31,7 @@ asked_by_kind (Unknown type) group sources = []
 
 -- what a record asks for
 abbrev pub asked_by : Record → List Want
-asked_by r = asked_by_kind r.kind r.group r.sources
+asked_by group_record = asked_by_kind group_record.kind group_record.group group_record.sources
 
 -- Whether the filter that a list's records merge to asks for what one of its records does: if it is for a
 -- group that routers forward, and not for a single source of a group that an EXCLUDE record is for, since the

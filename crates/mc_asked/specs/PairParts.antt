@@ -8,7 +8,7 @@ use Rattle.mc_theory.specs.Lists.{below}
 
 -- the numbers of the parts that have a pair, in order
 abbrev pub parts_with : List (List (ℕ × ℕ)) → ℕ × ℕ → List ℕ
-parts_with parts pair = filter (λ n. is_listed (slice_get parts n) pair) (below (length parts))
+parts_with parts pair = filter (λ number. is_listed (slice_get parts number) pair) (below (length parts))
 
 -- a pair with the parts that have it
 abbrev pub with_parts : List (List (ℕ × ℕ)) → ℕ × ℕ → (ℕ × ℕ) × List ℕ

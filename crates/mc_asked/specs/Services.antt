@@ -20,4 +20,4 @@ services =
 
 -- the name of the service of a group, if it is a service's
 abbrev pub service_name : ℕ → Option (List ℕ)
-service_name group = option_map (λ s. s.1) (find (λ s. s.0 == group) services)
+service_name group = option_map (λ service. service.1) (find (λ service. service.0 == group) services)

@@ -12,14 +12,15 @@ use Rattle.mc_asked.specs.ListWants.{Want, any_source}
 
 -- the group of a record with each source of its list, if it is one of these groups
 abbrev pub listed_by : (groups : List ℕ) → Record → List (ℕ × ℕ)
-listed_by groups r = if has groups r.group then map (λ s. (r.group, s)) r.sources else []
+listed_by groups group_record = if has groups group_record.group
+    then map (λ source. (group_record.group, source)) group_record.sources else []
 
 -- Each of these groups with each source that some record lists and no record admits. Where a record for the
 -- group is an EXCLUDE record, these are all sources that the merged filter doesn't admit (RFC 3376, section
 -- 3.2).
 abbrev pub unadmitted_in : List Record → (groups : List ℕ) → List (ℕ × ℕ)
 unadmitted_in records groups =
-    filter (λ p. not (wanted records p.0 p.1)) (in_order (flat_map (listed_by groups) records))
+    filter (λ pair. not (wanted records pair.0 pair.1)) (in_order (flat_map (listed_by groups) records))
 
 -- Each pair has a mark, which is set exactly if the pair passes the test.
 abbrev pub AreMarksOf : (test : ℕ × ℕ → Bool) → (pairs : List (ℕ × ℕ)) → (marks : List Bool) → Type 0

@@ -27,28 +27,30 @@ without_sources want = record { want = want; is_begun = false; unadmitted = [] }
 
 -- the want with these sources
 abbrev pub as_asked : WantSourcesValue → Want × List ℕ
-as_asked s = (s.want, s.unadmitted)
+as_asked sources = (sources.want, sources.unadmitted)
 
 -- ---- one LAN more
 
 -- a want with one LAN more, which doesn't admit these sources of the group
 abbrev pub with_lan : (own : List ℕ) → WantSourcesValue → WantSourcesValue
-with_lan own s = record {
-  want = s.want;
+with_lan own sources = record {
+  want = sources.want;
   is_begun = true;
-  unadmitted = if s.is_begun then filter (has s.unadmitted) own else own;
+  unadmitted = if sources.is_begun then filter (has sources.unadmitted) own else own;
 }
 
 -- a want with that LAN, if the want is of any source of this group; otherwise as it is
 abbrev pub with_lan_at : (group : ℕ) → (own : List ℕ) → WantSourcesValue → WantSourcesValue
-with_lan_at group own s = if is_key (group, any_source) s.want then with_lan own s else s
+with_lan_at group own sources = if is_key (group, any_source) sources.want then with_lan own sources
+    else sources
 
 -- a want with one LAN more, if it is of any source of one of these groups. The pairs are what the LAN doesn't
 -- admit, each a group and a source.
 abbrev pub with_unadmitted_of : (groups : List ℕ) → (unadmitted : List (ℕ × ℕ)) → WantSourcesValue
     → WantSourcesValue
-with_unadmitted_of groups unadmitted s =
-    if (s.want.1 == any_source) && has groups s.want.0 then with_lan (seconds_of s.want.0 unadmitted) s else s
+with_unadmitted_of groups unadmitted sources =
+    if (sources.want.1 == any_source) && has groups sources.want.0
+    then with_lan (seconds_of sources.want.0 unadmitted) sources else sources
 
 -- whether a want of a LAN is of any source, and one of these wants
 abbrev pub is_shared_any : (wants : List Want) → Want → Bool
@@ -75,31 +77,32 @@ sources_so_far lists line = record {
 
 -- the wants that are kept of each LAN below a number
 abbrev pub wants_below : (all : Bool) → AnswersValue → List (List Record) → (lan : ℕ) → List (List Want)
-wants_below all a lists lan = take lan (wants_of_lans (lan_wants_from all a 0 lists))
+wants_below all answers lists lan = take lan (wants_of_lans (lan_wants_from all answers 0 lists))
 
 -- This is what is kept of each of these wants after the LANs below a number.
 abbrev pub AreSourcesBelow : (all : Bool) → AnswersValue → List (List Record) → (lan : ℕ) → List Want
     → List WantSourcesValue → Type 0
-AreSourcesBelow all a lists lan wants sources =
-    sources ≡ map (λ want. sources_so_far lists (with_parts (wants_below all a lists lan) want)) wants
+AreSourcesBelow all answers lists lan wants sources =
+    sources ≡ map (λ want. sources_so_far lists (with_parts (wants_below all answers lists lan) want)) wants
 
 -- ---- whatever the lists of the LANs are, and what answers wants
 
 -- this is what is kept of each of these wants before the first LAN
 abbrev pub AreBeforeFirstLan : List Want → List WantSourcesValue → Type 0
-AreBeforeFirstLan wants sources = (all : Bool) (a : AnswersValue) (lists : List (List Record)) →
-    AreSourcesBelow all a lists 0 wants sources
+AreBeforeFirstLan wants sources = (all : Bool) (answers : AnswersValue) (lists : List (List Record)) →
+    AreSourcesBelow all answers lists 0 wants sources
 
 -- where the old sources are those below this LAN, of whose list `own` is kept, the new ones are those with it
 abbrev pub AddsLan : LanWantsValue → (old new : List WantSourcesValue) → List (List Record) → (lan : ℕ)
     → Type 0
-AddsLan own old new lists lan = (all : Bool) (a : AnswersValue) (wants : List Want) →
-    slice_get (lan_wants_from all a 0 lists) lan ≡ Some own → AreSourcesBelow all a lists lan wants old →
-    AreSourcesBelow all a lists (lan + 1) wants new
+AddsLan own old new lists lan = (all : Bool) (answers : AnswersValue) (wants : List Want) →
+    slice_get (lan_wants_from all answers 0 lists) lan ≡ Some own
+    → AreSourcesBelow all answers lists lan wants old →
+    AreSourcesBelow all answers lists (lan + 1) wants new
 
 -- where the sources are those with all LANs, these are the wants of lines, each with what is unadmitted
 abbrev pub AreAskedAfterLast : List WantSourcesValue → List (Want × List ℕ) → Type 0
-AreAskedAfterLast sources asked = (all : Bool) (a : AnswersValue) (lists : List (List Record))
-    (lines : List (Want × List ℕ)) → lines ≡ asked_lines all (lan_wants_from all a 0 lists) →
-    AreSourcesBelow all a lists (length lists) (map (λ line. line.0) lines) sources →
+AreAskedAfterLast sources asked = (all : Bool) (answers : AnswersValue) (lists : List (List Record))
+    (lines : List (Want × List ℕ)) → lines ≡ asked_lines all (lan_wants_from all answers 0 lists) →
+    AreSourcesBelow all answers lists (length lists) (map (λ line. line.0) lines) sources →
     asked ≡ map (with_unadmitted lists) lines

@@ -30,19 +30,19 @@ vifs_code = fin.code coded_ℕ vif_code
 -- What a router has for a want after one resolved row more, of this source and group.
 abbrev pub state_with_row : FinMap nat_cmp VifValue → (key : ℕ × ℕ) → EntryValue → StatedWantValue
     → RouterState
-state_with_row vifs key entry w =
-    greater w.state (router_state vifs w.unadmitted w.want (row_of key entry ∷ []))
+state_with_row vifs key entry want =
+    greater want.state (router_state vifs want.unadmitted want.want (row_of key entry ∷ []))
 
 -- The want after that row.
 abbrev pub want_with_row : FinMap nat_cmp VifValue → (key : ℕ × ℕ) → EntryValue → StatedWantValue
     → StatedWantValue
-want_with_row vifs key entry w =
-    record { want = w.want; unadmitted = w.unadmitted; state = state_with_row vifs key entry w }
+want_with_row vifs key entry want =
+    record { want = want.want; unadmitted = want.unadmitted; state = state_with_row vifs key entry want }
 
 -- Each want after that row.
 abbrev pub states_with_row : WantStatesValue → ℕ × ℕ → EntryValue → WantStatesValue
-states_with_row s key entry =
-    record { vifs = s.vifs; wants = map (want_with_row s.vifs key entry) s.wants }
+states_with_row states key entry =
+    record { vifs = states.vifs; wants = map (want_with_row states.vifs key entry) states.wants }
 
 -- Whether the two keys are the same.
 abbrev pub is_key : (key other : ℕ × ℕ) → Bool
@@ -56,23 +56,31 @@ want_with_row_if_want want vifs key entry w =
 
 -- Each want after a row that counts for one want alone.
 abbrev pub states_with_row_if_want : (want : Want) → WantStatesValue → ℕ × ℕ → EntryValue → WantStatesValue
-states_with_row_if_want want s key entry =
-    record { vifs = s.vifs; wants = map (want_with_row_if_want want s.vifs key entry) s.wants }
+states_with_row_if_want want states key entry =
+    record {
+      vifs = states.vifs;
+      wants = map (want_with_row_if_want want states.vifs key entry)
+          states.wants;
+    }
 
 -- A want after a row that counts for the wants of one group alone.
 abbrev pub want_with_row_if_group : (group : ℕ) → FinMap nat_cmp VifValue → (key : ℕ × ℕ) → EntryValue
     → StatedWantValue → StatedWantValue
-want_with_row_if_group group vifs key entry w =
-    if w.want.0 == group then want_with_row vifs key entry w else w
+want_with_row_if_group group vifs key entry want =
+    if want.want.0 == group then want_with_row vifs key entry want else want
 
 -- Each want after a row that counts for the wants of one group alone.
 abbrev pub states_with_row_if_group : (group : ℕ) → WantStatesValue → ℕ × ℕ → EntryValue → WantStatesValue
-states_with_row_if_group group s key entry =
-    record { vifs = s.vifs; wants = map (want_with_row_if_group group s.vifs key entry) s.wants }
+states_with_row_if_group group states key entry =
+    record {
+      vifs = states.vifs;
+      wants = map (want_with_row_if_group group states.vifs key entry)
+          states.wants;
+    }
 
 -- A want before the first row: the router has nothing for it.
 abbrev pub unstated : Want × List ℕ → StatedWantValue
-unstated w = record { want = w.0; unadmitted = w.1; state = Nothing }
+unstated want = record { want = want.0; unadmitted = want.1; state = Nothing }
 
 -- The wants before the first row.
 abbrev pub states_start : FinMap nat_cmp VifValue → List (Want × List ℕ) → WantStatesValue
@@ -80,8 +88,8 @@ states_start vifs wants = record { vifs = vifs; wants = map unstated wants }
 
 -- A want with what these rows of a router have for it.
 abbrev pub want_by_rows : FinMap nat_cmp VifValue → List RowValue → Want × List ℕ → StatedWantValue
-want_by_rows vifs rows w =
-    record { want = w.0; unadmitted = w.1; state = router_state vifs w.1 w.0 rows }
+want_by_rows vifs rows want =
+    record { want = want.0; unadmitted = want.1; state = router_state vifs want.1 want.0 rows }
 
 -- Each want with what these rows of a router have for it.
 abbrev pub states_by_rows : FinMap nat_cmp VifValue → List (Want × List ℕ) → List RowValue → WantStatesValue

@@ -41,18 +41,21 @@ pub fn wants_are_those_of_merged_filters()
 /// the lowest are kept, and the further ones have one for each LAN and each want of its list that is in no
 /// line. The count of all is that of the lines and the further ones.
 pub fn each_unanswered_want_is_shown_or_counted()
-    ensures services { (all : Bool) (a : AnswersValue) (lan : ℕ) (records : List Record) (want : Want) →
-        In want (wants_in records) → class_of a lan records want ≡ Service →
-        In want.0 (lan_wants all a lan records).services }
-    ensures lines { (all : Bool) (a : AnswersValue) (lists : List (List Record)) →
-        asked_lines all (lan_wants_from all a 0 lists) ≡ shared_pairs all (asked_from a 0 lists) }
-    ensures further { (all : Bool) (a : AnswersValue) (lists : List (List Record)) →
-        further_wants all (lan_wants_from all a 0 lists)
-        ≡ sum_by (count_others (shown_of_parts all (asked_from a 0 lists))) (asked_from a 0 lists) }
-    ensures count { (all : Bool) (a : AnswersValue) (lists : List (List Record)) →
-        count_wants (lan_wants_from all a 0 lists)
-        ≡ count_shown (asked_lines all (lan_wants_from all a 0 lists))
-        + further_wants all (lan_wants_from all a 0 lists) }
+    ensures services { (all : Bool) (answers : AnswersValue) (lan : ℕ) (records : List Record)
+        (want : Want) →
+        In want (wants_in records) → class_of answers lan records want ≡ Service →
+        In want.0 (lan_wants all answers lan records).services }
+    ensures lines { (all : Bool) (answers : AnswersValue) (lists : List (List Record)) →
+        asked_lines all (lan_wants_from all answers 0 lists)
+        ≡ shared_pairs all (asked_from answers 0 lists) }
+    ensures further { (all : Bool) (answers : AnswersValue) (lists : List (List Record)) →
+        further_wants all (lan_wants_from all answers 0 lists)
+        ≡ sum_by (count_others (shown_of_parts all (asked_from answers 0 lists)))
+        (asked_from answers 0 lists) }
+    ensures count { (all : Bool) (answers : AnswersValue) (lists : List (List Record)) →
+        count_wants (lan_wants_from all answers 0 lists)
+        ≡ count_shown (asked_lines all (lan_wants_from all answers 0 lists))
+        + further_wants all (lan_wants_from all answers 0 lists) }
 {}
 
 /// Of a group for which the merged filter of a list is EXCLUDE, the sources that the list doesn't admit are
@@ -62,8 +65,10 @@ pub fn unadmitted_sources_are_those_that_no_filter_admits()
     ensures list { (records : List Record) (groups : List ℕ) (group : ℕ) (filter : SourceFilter) →
         IsMergedValue records group filter → filter.mode ≡ Exclude → In group groups →
         seconds_of group (unadmitted_in records groups) ≡ filter.sources }
-    ensures line { (all : Bool) (a : AnswersValue) (lists : List (List Record)) (group : ℕ) (lans : List ℕ)
-        (source : ℕ) → In ((group, any_source), lans) (asked_lines all (lan_wants_from all a 0 lists)) →
+    ensures line { (all : Bool) (answers : AnswersValue) (lists : List (List Record)) (group : ℕ)
+        (lans : List ℕ)
+        (source : ℕ) → In ((group, any_source), lans)
+        (asked_lines all (lan_wants_from all answers 0 lists)) →
         Contains (unadmitted_by lists group lans) source
         ↔ (is_admitted lists lans group source ≡ false) }
 {}

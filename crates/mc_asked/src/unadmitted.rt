@@ -65,7 +65,7 @@ fn listed_in(
 
 /// The pairs with their parts swapped.
 fn swapped(alloc: Global, pairs: &[(Addr, Addr)]) -> Result<Vec<(Addr, Addr)>, AllocError>
-    ensures { IfOk result (λ swapped. swapped.items ≡ map (λ p. (p.1, p.0)) pairs.now) }
+    ensures { IfOk result (λ swapped. swapped.items ≡ map (λ pair. (pair.1, pair.0)) pairs.now) }
 {
     let mut swapped = Vec::with_capacity(alloc, pairs.len())?;
     for pair in pairs {

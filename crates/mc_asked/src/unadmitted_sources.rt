@@ -172,7 +172,7 @@ impl UnadmittedSources {
     /// make them.
     pub fn needs_list(&self, own: &LanWants) -> bool
         ensures value { result
-            ≡ list_any (is_shared_any (map (λ s. s.want) self.now)) own.now.lowest }
+            ≡ list_any (is_shared_any (map (λ stated. stated.want) self.now)) own.now.lowest }
         ensures skipped { result ≡ false → (lists : List (List Record)) (lan : ℕ) →
             AddsLan own.now self.now self.now lists lan }
     {
@@ -187,7 +187,7 @@ impl UnadmittedSources {
     /// The groups of those of a LAN's wants that are of any source and among these.
     fn groups_from_any(&self, alloc: Global, own: &LanWants) -> Result<Vec<Addr>, AllocError>
         ensures groups { IfOk result (λ groups.
-            groups.items ≡ groups_from_any (map (λ s. s.want) self.now) own.now.lowest) }
+            groups.items ≡ groups_from_any (map (λ stated. stated.want) self.now) own.now.lowest) }
         ensures ascending { IfOk result (λ groups. IsStrictlyIncreasing groups.items) }
     {
         let mut groups = Vec::new(alloc);
@@ -272,7 +272,8 @@ impl UnadmittedSources {
     pub fn into_wants(self, alloc: Global) -> Result<Vec<AskedWant>, Memory>
         // With all LANs these are the sources that are unadmitted.
         ensures asked { IfOk result (λ wants. AreAskedAfterLast self wants.items) }
-        ensures sorted { IfOk result (λ wants. IsStrictlySortedBy key_cmp (map (λ w. w.0) wants.items)) }
+        ensures sorted { IfOk result (λ wants. IsStrictlySortedBy key_cmp
+            (map (λ words. words.0) wants.items)) }
     {
         let UnadmittedSources { sources, .. } = self;
         let mut wants = Vec::with_capacity(alloc, sources.len())?;

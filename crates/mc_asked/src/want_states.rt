@@ -121,7 +121,7 @@ impl<'v> WantStates<'v> {
         vifs: &'v VifTable,
         wants: &[AskedWant],
     ) -> Result<WantStates<'v>, Memory>
-        requires sorted { IsStrictlySortedBy key_cmp (map (λ w. w.0) wants.now) }
+        requires sorted { IsStrictlySortedBy key_cmp (map (λ words. words.0) wants.now) }
         ensures { IfOk result (λ states. states ≡ states_start vifs.now wants.now) }
     {
         let keys = keys_of(alloc, wants)?;
@@ -206,7 +206,7 @@ impl<'v> RowFold for WantStates<'v> {
 
 /// The wants themselves.
 fn keys_of(alloc: Global, wants: &[AskedWant]) -> Result<Vec<(Addr, Addr)>, Memory>
-    ensures { IfOk result (λ keys. keys.items ≡ map (λ w. w.0) wants.now) }
+    ensures { IfOk result (λ keys. keys.items ≡ map (λ words. words.0) wants.now) }
 {
     let mut keys = Vec::with_capacity(alloc, wants.len())?;
     for want in wants {

@@ -11,7 +11,7 @@ Tree = List Entry
 
 -- the tree with this number; the empty one if there is none
 abbrev pub tree_at : List Tree → ℕ → Tree
-tree_at trees n = unwrap_or (slice_get trees n) []
+tree_at trees number = unwrap_or (slice_get trees number) []
 
 -- the tree of each flow: the trees themselves, in order, or those with the numbers that the flows
 -- have
@@ -20,34 +20,34 @@ trees_by_flow trees None = trees
 trees_by_flow trees (Some numbers) = map (tree_at trees) numbers
 
 -- an entry that a text can have: its need is at least 1, and its forwarder's vif at most 31
-pub record IsWritableEntry (e : Entry) : Type 0 where
-  pub need : 1 ≤ e.need
-  pub vif : IfSome e.forwarder (λ i. i.1 ≤ 31)
+pub record IsWritableEntry (entry : Entry) : Type 0 where
+  pub need : 1 ≤ entry.need
+  pub vif : IfSome entry.forwarder (λ forwarder. forwarder.1 ≤ 31)
 
 -- a tree that a text can have: at most 1,024 entries that a text can have
-pub record IsWritableTree (es : Tree) : Type 0 where
-  pub few : length es ≤ 1024
-  pub each : All IsWritableEntry es
+pub record IsWritableTree (tree : Tree) : Type 0 where
+  pub few : length tree ≤ 1024
+  pub each : All IsWritableEntry tree
 
 -- the rank and the need of an entry are at most 255, as those of every certificate in memory are
-pub record HasByteNumbers (e : Entry) : Type 0 where
-  pub rank : e.rank ≤ 255
-  pub need : e.need ≤ 255
+pub record HasByteNumbers (entry : Entry) : Type 0 where
+  pub rank : entry.rank ≤ 255
+  pub need : entry.need ≤ 255
 
 -- the rules of every certificate in memory, by its trees and the numbers of the flows' trees: a
 -- text can have the trees, each number is that of a tree, and there are at most 4,096 flows
 pub record IsValidCertificate (trees : List Tree) (numbers : Option (List ℕ)) : Type 0 where
   pub lists : All IsWritableTree trees
-  pub named : (ns : List ℕ) → numbers ≡ Some ns → All (λ n. n < length trees) ns
+  pub named : (ns : List ℕ) → numbers ≡ Some ns → All (λ number. number < length trees) ns
   pub few_flows : length (trees_by_flow trees numbers) ≤ 4096
 
 -- the entry's LAN, and its forwarder's router, are the topology's
-pub record IsEntryOf (t : TopologyValue) (e : Entry) : Type 0 where
-  pub lan : e.lan < length t.lans
-  pub router : IfSome e.forwarder (λ i. i.0 < length t.routers)
+pub record IsEntryOf (topology : TopologyValue) (entry : Entry) : Type 0 where
+  pub lan : entry.lan < length topology.lans
+  pub router : IfSome entry.forwarder (λ forwarder. forwarder.0 < length topology.routers)
 
 -- the certificate belongs to the topology: it has as many flows, and its entries are of the
 -- topology's LANs and routers
-pub record BelongsTo (t : TopologyValue) (flows : List Tree) : Type 0 where
-  pub count : length flows ≡ length t.flows
-  pub entries : All (All (IsEntryOf t)) flows
+pub record BelongsTo (topology : TopologyValue) (flows : List Tree) : Type 0 where
+  pub count : length flows ≡ length topology.flows
+  pub entries : All (All (IsEntryOf topology)) flows

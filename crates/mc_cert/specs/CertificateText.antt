@@ -22,40 +22,41 @@ listed = listed_after []
 
 -- the keys of a forwarder with the comma before them, if there is a forwarder
 abbrev pub forwarder_text : TopologyValue → Option Interface → List ℕ
-forwarder_text t None = []
-forwarder_text t (Some i) =
-    codes ",\"router\":\"" ++ router_name t i.0 ++ codes "\",\"vif\":" ++ decimal i.1
+forwarder_text topology None = []
+forwarder_text topology (Some interface) =
+    codes ",\"router\":\"" ++ router_name topology interface.0 ++ codes "\",\"vif\":" ++ decimal interface.1
 
 -- the object of an entry
 abbrev pub entry_text : TopologyValue → Entry → List ℕ
-entry_text t e =
-    codes "{\"lan\":\"" ++ lan_name t e.lan ++ codes "\",\"need\":" ++ decimal e.need
-    ++ codes ",\"rank\":" ++ decimal e.rank
-    ++ forwarder_text t e.forwarder ++ codes "}"
+entry_text topology entry =
+    codes "{\"lan\":\"" ++ lan_name topology entry.lan ++ codes "\",\"need\":" ++ decimal entry.need
+    ++ codes ",\"rank\":" ++ decimal entry.rank
+    ++ forwarder_text topology entry.forwarder ++ codes "}"
 
 -- the list of a tree's entries
 abbrev pub tree_text : TopologyValue → Tree → List ℕ
-tree_text t es = codes "[" ++ listed (map (entry_text t) es) ++ codes "]"
+tree_text topology tree = codes "[" ++ listed (map (entry_text topology) tree) ++ codes "]"
 
 -- the object of a flow of the topology, and the number of its tree
 abbrev pub flow_text : Flow → ℕ → List ℕ
-flow_text f tree_no =
-    codes "{\"group\":\"" ++ dotted f.group ++ codes "\",\"source\":\"" ++ dotted f.source
+flow_text flow tree_no =
+    codes "{\"group\":\"" ++ dotted flow.group ++ codes "\",\"source\":\"" ++ dotted flow.source
     ++ codes "\",\"tree\":" ++ decimal tree_no
     ++ codes "}"
 
 -- the objects of flows, with the numbers of their trees
 abbrev pub flow_texts : List Flow → List ℕ → List (List ℕ)
-flow_texts flows tree_numbers = map (λ p. flow_text p.0 p.1) (zip flows tree_numbers)
+flow_texts flows tree_numbers = map (λ flow. flow_text flow.0 flow.1) (zip flows tree_numbers)
 
 -- the text of these trees and of the topology's flows, which have these numbers of their trees
 abbrev pub version_two_text : TopologyValue → List ℕ → List Tree → List ℕ
-version_two_text t tree_numbers trees =
-    codes "{\"flows\":[" ++ listed (flow_texts t.flows tree_numbers) ++ codes "],\"trees\":["
-    ++ listed (map (tree_text t) trees)
+version_two_text topology tree_numbers trees =
+    codes "{\"flows\":[" ++ listed (flow_texts topology.flows tree_numbers) ++ codes "],\"trees\":["
+    ++ listed (map (tree_text topology) trees)
     ++ codes "],\"version\":2}"
 
 -- the text of a certificate, which has each distinct tree once, in the order of first use
 abbrev pub certificate_json : TopologyValue → List Tree → List ℕ
-certificate_json t flows = version_two_text t (map (tree_number_of (distinct_trees flows)) flows)
+certificate_json topology flows = version_two_text topology
+    (map (tree_number_of (distinct_trees flows)) flows)
     (distinct_trees flows)

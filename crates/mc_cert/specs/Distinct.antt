@@ -9,13 +9,13 @@ use Rattle.mc_cert.specs.Certificate.{Tree}
 
 -- whether two interfaces are equal
 abbrev pub same_interface : Interface → Interface → Bool
-same_interface i j = i.0 == j.0 && i.1 == j.1
+same_interface interface j = interface.0 == j.0 && interface.1 == j.1
 
 -- whether two entries are equal
 abbrev pub same_entry : Entry → Entry → Bool
-same_entry a b =
-    a.lan == b.lan && (a.rank == b.rank && (a.need == b.need
-    && option_eq same_interface a.forwarder b.forwarder))
+same_entry entry b =
+    entry.lan == b.lan && (entry.rank == b.rank && (entry.need == b.need
+    && option_eq same_interface entry.forwarder b.forwarder))
 
 -- whether two trees are equal, entry by entry in order
 abbrev pub same_tree : Tree → Tree → Bool
@@ -23,11 +23,11 @@ same_tree = pointwise same_entry
 
 -- the number of a tree among trees, counted from 0, if it is one of them
 abbrev pub find_tree : List Tree → Tree → Option ℕ
-find_tree trees es = position (same_tree es) trees
+find_tree trees tree = position (same_tree tree) trees
 
 -- the trees, and after them one more if it is none of them
 abbrev pub with_tree : List Tree → Tree → List Tree
-with_tree trees es = if is_some (find_tree trees es) then trees else trees ++ es ∷ []
+with_tree trees tree = if is_some (find_tree trees tree) then trees else trees ++ tree ∷ []
 
 -- the distinct ones of the flows' trees, in the order of first use
 abbrev pub distinct_trees : List Tree → List Tree
@@ -35,4 +35,4 @@ distinct_trees = fold with_tree []
 
 -- the number of a tree among these trees; 0 if it is none of them
 abbrev pub tree_number_of : List Tree → Tree → ℕ
-tree_number_of trees es = unwrap_or (find_tree trees es) 0
+tree_number_of trees tree = unwrap_or (find_tree trees tree) 0

@@ -33,12 +33,12 @@ parse_bounded_json text = if nat_le (length text) max_text then parse_json text 
 
 -- the members of the object that a value has to be (else BadKind)
 abbrev pub members_of : Data → Result Members CertFaultKind
-members_of d = ok_or (as_object d) BadKind
+members_of value = ok_or (as_object value) BadKind
 
 -- the version of this number, which has to be a whole one, and 1 or 2 (else BadVersion)
 abbrev pub version_of : Option ℕ → Result Version CertFaultKind
 version_of None = Err BadVersion
-version_of (Some n) = if n == 1 then Ok One else if n == 2 then Ok Two else Err BadVersion
+version_of (Some number) = if number == 1 then Ok One else if number == 2 then Ok Two else Err BadVersion
 
 -- the keys of a certificate of this version
 abbrev pub top_keys : Version → List (List ℕ)
@@ -49,21 +49,21 @@ top_keys Two = codes "flows" ∷ codes "trees" ∷ codes "version" ∷ []
 -- (BadKind), and to be 1 or 2 (BadVersion), and then there may be no other keys than that version's
 -- (UnknownKey).
 unfoldable pub version_in : Members → Result Version CertFaultKind
-version_in ms = do
-  number ← number_at (codes "version") ms
+version_in members = do
+  number ← number_at (codes "version") members
   version ← version_of (as_u64 number)
-  if has_only (top_keys version) ms then Ok version else Err UnknownKey
+  if has_only (top_keys version) members then Ok version else Err UnknownKey
 
 -- the tree of each flow, of a certificate of this version
 unfoldable pub flows_of_version : Version → TopologyValue → Members → Result (List Tree) CertFault
-flows_of_version One t ms = flows_in t ms
-flows_of_version Two t ms = shared_flows_in t ms
+flows_of_version One topology members = flows_in topology members
+flows_of_version Two topology members = shared_flows_in topology members
 
 -- the certificate of a text: first the text as a whole, whose faults are at `top`, and then its
 -- flows
 unfoldable pub parse_certificate : TopologyValue → List ℕ → Result (List Tree) CertFault
-parse_certificate t text = do
+parse_certificate topology text = do
   value ← locate_fault Top (parse_bounded_json text)
   members ← locate_fault Top (members_of value)
   version ← locate_fault Top (version_in members)
-  flows_of_version version t members
+  flows_of_version version topology members

@@ -16,12 +16,12 @@ trees_of distinct numbers = map (tree_at distinct) numbers
 abbrev pub IsTreeNumberMap : {K : Type 0} → (Entry → Entry → Ordering) → (K → Tree) → BTreeMap K ℕ
     → List Tree → Type 0
 IsTreeNumberMap {K} order tree numbers distinct = (key : K)
-    → get_by (λ k. slice_cmp order (tree key) (tree k)) numbers ≡ find_tree distinct (tree key)
+    → get_by (λ other. slice_cmp order (tree key) (tree other)) numbers ≡ find_tree distinct (tree key)
 
 -- the trees are the distinct ones of the flows' trees, in the order of first use, and each flow has
 -- the number of its own; there are at most 4,096 flows
 pub record AreSharedTrees (trees : List Tree) (numbers : List ℕ) : Type 0 where
   pub distinct : trees ≡ distinct_trees (trees_of trees numbers)
-  pub named : All (λ n. find_tree trees (tree_at trees n) ≡ Some n) numbers
+  pub named : All (λ number. find_tree trees (tree_at trees number) ≡ Some number) numbers
   pub lists : All IsWritableTree trees
   pub few : length numbers ≤ 4096

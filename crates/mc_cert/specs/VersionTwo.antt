@@ -20,23 +20,23 @@ use Rattle.mc_cert.specs.VersionOne.{are_texts_of_flow, flow_at, flow_rows}
 -- The rows of the trees. The key `trees` has to be there (else MissingKey), to be a list (BadKind),
 -- and to have at most 4,096 rows (TooMany).
 unfoldable pub tree_rows : Members → Result (List Data) CertFaultKind
-tree_rows ms = list_at (codes "trees") ms >>= at_most 4096
+tree_rows members = list_at (codes "trees") members >>= at_most 4096
 
 -- the rows of a tree's entries: the tree has to be a list (else BadKind) of at most 1,024 (TooMany)
 unfoldable pub tree_entry_rows : Data → Result (List Data) CertFaultKind
-tree_entry_rows d = list_of d >>= at_most 1024
+tree_entry_rows value = list_of value >>= at_most 1024
 
 -- the tree with this number, counted from 0; first come its own faults, and then those of its
 -- entries
 unfoldable pub tree_of : TopologyValue → ℕ → Data → Result Tree CertFault
-tree_of t n d = do
-  rows ← locate_fault (at.Tree (n + 1)) (tree_entry_rows d)
-  entries_in_rows t (at.Tree (n + 1)) rows
+tree_of topology number value = do
+  rows ← locate_fault (at.Tree (number + 1)) (tree_entry_rows value)
+  entries_in_rows topology (at.Tree (number + 1)) rows
 
 -- the number, which has to be whole, and below the count (else BadNumber)
 abbrev pub below_count : ℕ → Option ℕ → Result ℕ CertFaultKind
 below_count count None = Err BadNumber
-below_count count (Some n) = if nat_lt n count then Ok n else Err BadNumber
+below_count count (Some number) = if nat_lt number count then Ok number else Err BadNumber
 
 -- the keys of a flow's object
 abbrev pub shared_flow_keys : List (List ℕ)
@@ -48,26 +48,26 @@ shared_flow_keys = codes "group" ∷ codes "source" ∷ codes "tree" ∷ []
 -- whole one below the number of trees (BadNumber), and the group and the source have to be those of
 -- the topology's flow (WrongFlows).
 unfoldable pub tree_no_of : Flow → ℕ → Data → Result ℕ CertFaultKind
-tree_no_of f trees d = do
-  members ← object_of shared_flow_keys d
+tree_no_of flow trees value = do
+  members ← object_of shared_flow_keys value
   group ← text_at (codes "group") members
   source ← text_at (codes "source") members
   number ← number_at (codes "tree") members
   tree ← below_count trees (as_u64 number)
-  if are_texts_of_flow f group source then Ok tree else Err WrongFlows
+  if are_texts_of_flow flow group source then Ok tree else Err WrongFlows
 
 -- the number of the tree of the flow with this number, counted from 0
 unfoldable pub shared_flow_of : TopologyValue → ℕ → ℕ → Data → Result ℕ CertFault
-shared_flow_of t trees n d = do
-  flow ← locate_fault (at.Flow (n + 1)) (flow_at t n)
-  locate_fault (at.Flow (n + 1)) (tree_no_of flow trees d)
+shared_flow_of topology trees number value = do
+  flow ← locate_fault (at.Flow (number + 1)) (flow_at topology number)
+  locate_fault (at.Flow (number + 1)) (tree_no_of flow trees value)
 
 -- the tree of each flow, in order, or the first fault: first those of the two lists, then those of
 -- the trees, and then those of the flows
 unfoldable pub shared_flows_in : TopologyValue → Members → Result (List Tree) CertFault
-shared_flows_in t ms = do
-  rows ← locate_fault at.Top (flow_rows t ms)
-  listed ← locate_fault at.Top (tree_rows ms)
-  trees ← each_row (tree_of t) [] listed
-  numbers ← each_row (shared_flow_of t (length trees)) [] rows
+shared_flows_in topology members = do
+  rows ← locate_fault at.Top (flow_rows topology members)
+  listed ← locate_fault at.Top (tree_rows members)
+  trees ← each_row (tree_of topology) [] listed
+  numbers ← each_row (shared_flow_of topology (length trees)) [] rows
   Ok (map (tree_at trees) numbers)

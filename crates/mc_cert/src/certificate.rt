@@ -86,8 +86,8 @@ impl Certificate {
     /// 4,096 trees of at most 1,024 entries, each with a `need` of at least 1 and a vif of at most 31.
     pub fn from_flows(flows: Vec<Vec<Reached>>) -> Certificate
         requires few { length flows.items ≤ 4096 }
-        requires lists { All IsWritableTree (map (λ t. t.items) flows.items) }
-        ensures flows { result ≡ map (λ t. t.items) flows.items }
+        requires lists { All IsWritableTree (map (λ tree. tree.items) flows.items) }
+        ensures flows { result ≡ map (λ tree. tree.items) flows.items }
     {
         Certificate {
             trees: flows,
@@ -100,9 +100,10 @@ impl Certificate {
     /// at most 31.
     pub fn from_trees(trees: Vec<Vec<Reached>>, tree_of_flow: Vec<u32>) -> Certificate
         requires few { length tree_of_flow.items ≤ 4096 }
-        requires lists { All IsWritableTree (map (λ t. t.items) trees.items) }
-        requires named { All (λ n. n < length trees.items) tree_of_flow.items }
-        ensures flows { result ≡ map (tree_at (map (λ t. t.items) trees.items)) tree_of_flow.items }
+        requires lists { All IsWritableTree (map (λ tree. tree.items) trees.items) }
+        requires named { All (λ number. number < length trees.items) tree_of_flow.items }
+        ensures flows { result ≡ map (tree_at (map (λ tree. tree.items) trees.items))
+            tree_of_flow.items }
     {
         Certificate {
             trees,
@@ -148,9 +149,9 @@ impl Certificate {
     pub fn flow<'a>(&'a self, flow: u32, topology: &Topology) -> FlowCert<'a>
         requires listed { flow < length self.now }
         requires belongs { length self.now ≡ length topology.now.flows }
-        ensures source { option_map (λ f. f.source) (slice_get topology.now.flows flow) ≡
+        ensures source { option_map (λ flow. flow.source) (slice_get topology.now.flows flow) ≡
             Some result.source }
-        ensures group { option_map (λ f. f.group) (slice_get topology.now.flows flow) ≡
+        ensures group { option_map (λ flow. flow.group) (slice_get topology.now.flows flow) ≡
             Some result.group }
         ensures reached { slice_get self.now flow ≡ Some result.reached.now }
         ensures list { IsWritableTree result.reached.now }

@@ -37,8 +37,8 @@ impl<T: Drop> From<AllocFailed<T>> for NotCompact {
 
 /// Reads a LAN, by its name up to the next quotation mark; the rest begins with that.
 fn read_lan<'a>(topology: &Topology, text: &'a [u8]) -> Option<(LanNo, &'a [u8])>
-    ensures text { IfSome result (λ r. text.now ≡ lan_name topology.now r.0 ++ r.1.now) }
-    ensures listed { IfSome result (λ r. r.0 < length topology.now.lans) }
+    ensures text { IfSome result (λ parsed. text.now ≡ lan_name topology.now parsed.0 ++ parsed.1.now) }
+    ensures listed { IfSome result (λ parsed. parsed.0 < length topology.now.lans) }
 {
     let (name, rest) = read_until_quote(text)?;
     let lan = topology.lan_no(name)?;
@@ -47,8 +47,9 @@ fn read_lan<'a>(topology: &Topology, text: &'a [u8]) -> Option<(LanNo, &'a [u8])
 
 /// Reads a router, by its name up to the next quotation mark; the rest begins with that.
 fn read_router<'a>(topology: &Topology, text: &'a [u8]) -> Option<(RouterNo, &'a [u8])>
-    ensures text { IfSome result (λ r. text.now ≡ router_name topology.now r.0 ++ r.1.now) }
-    ensures listed { IfSome result (λ r. r.0 < length topology.now.routers) }
+    ensures text { IfSome result (λ parsed. text.now ≡ router_name topology.now parsed.0
+        ++ parsed.1.now) }
+    ensures listed { IfSome result (λ parsed. parsed.0 < length topology.now.routers) }
 {
     let (name, rest) = read_until_quote(text)?;
     let router = topology.router_no(name)?;
@@ -69,9 +70,10 @@ fn after_address<'a>(text: &'a [u8], address: Addr) -> Option<&'a [u8]>
 
 /// Reads a need and a rank with their keys, and gives the rest of the text.
 fn read_numbers(text: &[u8]) -> Option<(u8, u8, &[u8])>
-    ensures text { IfSome result (λ r. text.now ≡
-        (codes "\",\"need\":" ++ decimal r.0 ++ codes ",\"rank\":" ++ decimal r.1) ++ r.2.now) }
-    ensures need { IfSome result (λ r. 1 ≤ r.0) }
+    ensures text { IfSome result (λ parsed. text.now ≡
+        (codes "\",\"need\":" ++ decimal parsed.0 ++ codes ",\"rank\":" ++ decimal parsed.1)
+        ++ parsed.2.now) }
+    ensures need { IfSome result (λ parsed. 1 ≤ parsed.0) }
 {
     let rest = after_prefix(text, b"\",\"need\":")?;
     let (need, rest) = read_number(rest)?;
@@ -88,10 +90,11 @@ fn read_forwarder<'a>(
     topology: &Topology,
     text: &'a [u8],
 ) -> Option<(Option<(RouterNo, u8)>, &'a [u8])>
-    ensures text { IfSome result (λ r. text.now ≡ forwarder_text topology.now r.0 ++ r.1.now) }
-    ensures listed { IfSome result (λ r.
-        IfSome r.0 (λ i. i.0 < length topology.now.routers)) }
-    ensures vif { IfSome result (λ r. IfSome r.0 (λ i. i.1 ≤ 31)) }
+    ensures text { IfSome result (λ parsed. text.now ≡ forwarder_text topology.now parsed.0
+        ++ parsed.1.now) }
+    ensures listed { IfSome result (λ parsed.
+        IfSome parsed.0 (λ interface. interface.0 < length topology.now.routers)) }
+    ensures vif { IfSome result (λ parsed. IfSome parsed.0 (λ interface. interface.1 ≤ 31)) }
 {
     let Some(named) = after_prefix(text, b",\"router\":\"") else {
         return Some((None, text));
@@ -109,8 +112,9 @@ fn read_forwarder<'a>(
 
 /// Reads an entry, and gives the rest of the text.
 fn read_entry<'a>(topology: &Topology, text: &'a [u8]) -> Option<(Reached, &'a [u8])>
-    ensures text { IfSome result (λ r. text.now ≡ entry_text topology.now r.0 ++ r.1.now) }
-    ensures writable { IfSome result (λ r. IsWritableEntryFor topology.now r.0) }
+    ensures text { IfSome result (λ parsed. text.now ≡ entry_text topology.now parsed.0
+        ++ parsed.1.now) }
+    ensures writable { IfSome result (λ parsed. IsWritableEntryFor topology.now parsed.0) }
 {
     let rest = after_prefix(text, b"{\"lan\":\"")?;
     let Some((lan, rest)) = read_lan(topology, rest) else {
@@ -136,9 +140,9 @@ fn read_tree<'a>(
     topology: &Topology,
     text: &'a [u8],
 ) -> Result<(Vec<Reached>, &'a [u8]), NotCompact>
-    ensures text { IfOk result (λ r.
-        text.now ≡ tree_text topology.now r.0.items ++ r.1.now) }
-    ensures writable { IfOk result (λ r. IsWritableTreeFor topology.now r.0.items) }
+    ensures text { IfOk result (λ parsed.
+        text.now ≡ tree_text topology.now parsed.0.items ++ parsed.1.now) }
+    ensures writable { IfOk result (λ parsed. IsWritableTreeFor topology.now parsed.0.items) }
 {
     let Some(mut rest) = after_prefix(text, b"[") else {
         return Err(NotCompact);
@@ -171,11 +175,12 @@ fn read_trees<'a>(
     topology: &Topology,
     text: &'a [u8],
 ) -> Result<(Vec<Vec<Reached>>, &'a [u8]), NotCompact>
-    ensures text { IfOk result (λ r. text.now ≡
-        listed (map (tree_text topology.now) (map (λ t. t.items) r.0.items)) ++ r.1.now) }
-    ensures writable { IfOk result (λ r.
-        All (IsWritableTreeFor topology.now) (map (λ t. t.items) r.0.items)) }
-    ensures few { IfOk result (λ r. vec_len r.0 ≤ 4096) }
+    ensures text { IfOk result (λ parsed. text.now ≡
+        listed (map (tree_text topology.now) (map (λ tree. tree.items) parsed.0.items))
+        ++ parsed.1.now) }
+    ensures writable { IfOk result (λ parsed.
+        All (IsWritableTreeFor topology.now) (map (λ tree. tree.items) parsed.0.items)) }
+    ensures few { IfOk result (λ parsed. vec_len parsed.0 ≤ 4096) }
 {
     let mut rest = text;
     let mut trees = Vec::new(alloc);
@@ -199,7 +204,7 @@ fn read_trees<'a>(
 
 /// Reads this flow and the number of its tree, and gives the number and the rest of the text.
 fn read_flow<'a>(flow: &Flow, text: &'a [u8]) -> Option<(u32, &'a [u8])>
-    ensures { IfSome result (λ r. text.now ≡ flow_text flow.now r.0 ++ r.1.now) }
+    ensures { IfSome result (λ parsed. text.now ≡ flow_text flow.now parsed.0 ++ parsed.1.now) }
 {
     let rest = after_prefix(text, b"{\"group\":\"")?;
     let rest = after_address(rest, flow.group)?;
@@ -218,9 +223,9 @@ fn read_flows<'a>(
     topology: &Topology,
     text: &'a [u8],
 ) -> Result<(Vec<u32>, &'a [u8]), NotCompact>
-    ensures text { IfOk result (λ r. text.now ≡
-        listed (flow_texts topology.now.flows r.0.items) ++ r.1.now) }
-    ensures count { IfOk result (λ r. vec_len r.0 ≡ length topology.now.flows) }
+    ensures text { IfOk result (λ parsed. text.now ≡
+        listed (flow_texts topology.now.flows parsed.0.items) ++ parsed.1.now) }
+    ensures count { IfOk result (λ parsed. vec_len parsed.0 ≡ length topology.now.flows) }
 {
     let mut rest = text;
     let mut tree_numbers = Vec::new(alloc);
@@ -241,7 +246,7 @@ fn read_flows<'a>(
 
 /// Whether each number is below the count.
 pub(crate) fn are_below(numbers: &[u32], count: usize) -> bool
-    ensures { result ≡ true → All (λ n. n < count) numbers.now }
+    ensures { result ≡ true → All (λ number. number < count) numbers.now }
 {
     numbers.iter().all(|number| (*number as usize) < count)
 }

@@ -46,7 +46,7 @@ impl DistinctTrees {
 
     /// The trees, in the order of their numbers.
     pub fn trees(&self) -> &[Rc<Vec<Reached>>]
-        ensures { map (λ t. t.value.items) result.now ≡ self.now }
+        ensures { map (λ tree. tree.value.items) result.now ≡ self.now }
     {
         &self.trees
     }
@@ -59,7 +59,7 @@ impl DistinctTrees {
     pub fn number_of(&mut self, tree: Vec<Reached>) -> Result<u32, AllocError>
         requires bounded { length self.old < 4096 }
         ensures trees { OnOk result (self.new ≡ with_tree self.old tree.items) }
-        ensures number { IfOk result (λ n. find_tree self.new tree.items ≡ Some n) }
+        ensures number { IfOk result (λ number. find_tree self.new tree.items ≡ Some number) }
         ensures unchanged { OnErr result (self.new ≡ self.old) }
     {
         let tree = Rc::new(self.alloc, tree)?;

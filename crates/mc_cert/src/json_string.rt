@@ -68,7 +68,8 @@ fn hex_digit(byte: u8) -> Option<u8>
 
 /// Reads the last two digits of an escape by four, whose first two are zeros.
 fn read_code(text: &[u8]) -> Option<(u8, &[u8])>
-    ensures { IfSome result (λ r. DenotesByte (92 ∷ 117 ∷ 48 ∷ 48 ∷ text.now) r.0 r.1.now) }
+    ensures { IfSome result (λ parsed. DenotesByte (92 ∷ 117 ∷ 48 ∷ 48 ∷ text.now) parsed.0
+        parsed.1.now) }
 {
     let (first, rest) = text.split_first()?;
     let (second, rest) = rest.split_first()?;
@@ -82,7 +83,7 @@ fn read_code(text: &[u8]) -> Option<(u8, &[u8])>
 
 /// Reads a byte or an escape of a string, and gives the rest of the text.
 fn read_byte(text: &[u8]) -> Option<(u8, &[u8])>
-    ensures { IfSome result (λ r. DenotesByte text.now r.0 r.1.now) }
+    ensures { IfSome result (λ parsed. DenotesByte text.now parsed.0 parsed.1.now) }
 {
     if let Some(rest) = after_prefix(text, b"\\u00") {
         return read_code(rest);
@@ -102,8 +103,8 @@ fn read_byte(text: &[u8]) -> Option<(u8, &[u8])>
 /// Reads a string with escapes, and gives the rest of the text.
 #[cold]
 fn read_escaped(alloc: Global, text: &[u8]) -> Result<(Vec<u8>, &[u8]), NotRead>
-    ensures content { IfOk result (λ r. content plain text.now ≡ Some r.0.items) }
-    ensures rest { IfOk result (λ r. lex in_string text.now ≡ lex between r.1.now) }
+    ensures content { IfOk result (λ parsed. content plain text.now ≡ Some parsed.0.items) }
+    ensures rest { IfOk result (λ parsed. lex in_string text.now ≡ lex between parsed.1.now) }
 {
     let mut bytes = Vec::new(alloc);
     let mut rest = text;
@@ -119,8 +120,8 @@ fn read_escaped(alloc: Global, text: &[u8]) -> Result<(Vec<u8>, &[u8]), NotRead>
 
 /// Reads a string, and gives the rest of the text.
 pub(crate) fn read_string(alloc: Global, text: &[u8]) -> Result<(JsonText<'_>, &[u8]), NotRead>
-    ensures content { IfOk result (λ r. content plain text.now ≡ Some (text_bytes r.0)) }
-    ensures rest { IfOk result (λ r. lex in_string text.now ≡ lex between r.1.now) }
+    ensures content { IfOk result (λ parsed. content plain text.now ≡ Some (text_bytes parsed.0)) }
+    ensures rest { IfOk result (λ parsed. lex in_string text.now ≡ lex between parsed.1.now) }
 {
     let mut end = 0;
     while end < text.len() && is_plain(text[end]) {

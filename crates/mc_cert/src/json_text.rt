@@ -26,7 +26,7 @@ fn push_forwarder(
     topology: &Topology,
     forwarder: Option<(RouterNo, u8)>,
 ) -> Result<(), AllocError>
-    requires within { IfSome forwarder (λ i. i.0 < length topology.now.routers) }
+    requires within { IfSome forwarder (λ interface. interface.0 < length topology.now.routers) }
     ensures added { OnOk result (string_bytes text.new ≡
         string_bytes text.old ++ forwarder_text topology.now forwarder) }
 {
@@ -101,10 +101,10 @@ pub(crate) fn push_trees(
     topology: &Topology,
     trees: &[Rc<Vec<Reached>>],
 ) -> Result<(), AllocError>
-    requires valid { All (All (IsEntryOf topology.now)) (map (λ t. t.value.items) trees.now) }
+    requires valid { All (All (IsEntryOf topology.now)) (map (λ tree. tree.value.items) trees.now) }
     ensures text { OnOk result (string_bytes text.new ≡ string_bytes text.old
-        ++ listed (map (tree_text topology.now) (map (λ t. t.value.items) trees.now))) }
-    ensures bytes { OnOk result (All (All HasByteNumbers) (map (λ t. t.value.items) trees.now)) }
+        ++ listed (map (tree_text topology.now) (map (λ tree. tree.value.items) trees.now))) }
+    ensures bytes { OnOk result (All (All HasByteNumbers) (map (λ tree. tree.value.items) trees.now)) }
 {
     let mut separator = "";
     for tree in trees {

@@ -12,28 +12,30 @@ ghost use Rattle.mc_cert.specs.Writable.{IsWritableFor};
 /// Reading gives a certificate exactly where the text denotes it, so a text denotes one certificate of a
 /// topology at most.
 pub fn read_gives_the_denoted_certificate()
-    ensures read { (t : TopologyValue) (text : List ℕ) (flows : List Tree) →
-        ((parse_certificate t text ≡ Ok flows) ↔ DenotesCertificate t text flows) }
-    ensures unique { (t : TopologyValue) (text : List ℕ) (c d : List Tree) →
-        DenotesCertificate t text c → DenotesCertificate t text d → c ≡ d }
+    ensures read { (topology : TopologyValue) (text : List ℕ) (flows : List Tree) →
+        ((parse_certificate topology text ≡ Ok flows) ↔ DenotesCertificate topology text flows) }
+    ensures unique { (topology : TopologyValue) (text : List ℕ) (certificate other : List Tree) →
+        DenotesCertificate topology text certificate → DenotesCertificate topology text other
+        → certificate ≡ other }
 {}
 
 /// What a text denotes belongs to the topology.
 pub fn denoted_certificate_belongs_to_topology()
-    ensures { (t : TopologyValue) (text : List ℕ) (flows : List Tree) →
-        DenotesCertificate t text flows → BelongsTo t flows }
+    ensures { (topology : TopologyValue) (text : List ℕ) (flows : List Tree) →
+        DenotesCertificate topology text flows → BelongsTo topology flows }
 {}
 
 /// The text of a certificate that can be written for a valid topology denotes it, where it isn't longer
 /// than a text may be. Each topology in memory is valid, by the clauses `rules` of its methods.
 pub fn certificate_text_denotes_certificate()
-    ensures { (t : TopologyValue) (flows : List Tree) → IsValidTopology t → IsWritableFor t flows →
-        length (certificate_json t flows) ≤ max_text →
-        DenotesCertificate t (certificate_json t flows) flows }
+    ensures { (topology : TopologyValue) (flows : List Tree) → IsValidTopology topology
+        → IsWritableFor topology flows →
+        length (certificate_json topology flows) ≤ max_text →
+        DenotesCertificate topology (certificate_json topology flows) flows }
 {}
 
 /// A line feed at the end of a text changes nothing, where the text with it isn't longer than it may be.
 pub fn trailing_line_feed_changes_nothing()
-    ensures { (t : TopologyValue) (text : List ℕ) → length text < max_text →
-        parse_certificate t (text ++ 10 ∷ []) ≡ parse_certificate t text }
+    ensures { (topology : TopologyValue) (text : List ℕ) → length text < max_text →
+        parse_certificate topology (text ++ 10 ∷ []) ≡ parse_certificate topology text }
 {}

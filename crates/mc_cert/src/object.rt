@@ -16,7 +16,7 @@ use serde_json::{Map, Number, Value};
 /// Whether each key of the object is one of the known ones.
 fn has_known_keys(object: &Map<String, Value>, known: &[&str]) -> bool
     ensures { result ≡
-        list_all (λ key. list_any (λ k. bytes_eq k.now (string_bytes key)) known.now)
+        list_all (λ key. list_any (λ known_key. bytes_eq known_key.now (string_bytes key)) known.now)
         (keys object.now) }
 {
     object.keys().all(|key| known.contains(&key.as_str()))
@@ -24,7 +24,8 @@ fn has_known_keys(object: &Map<String, Value>, known: &[&str]) -> bool
 
 /// Whether the object has no other keys than the known ones.
 pub(crate) fn has_only(object: &Map<String, Value>, known: &[&str]) -> bool
-    ensures { result ≡ has_only (map (λ k. k.now) known.now) (members_view object.now.entries) }
+    ensures { result ≡ has_only (map (λ known_key. known_key.now) known.now)
+        (members_view object.now.entries) }
 {
     has_known_keys(object, known)
 }
@@ -66,7 +67,7 @@ pub(crate) fn object_of<'a>(
     known: &[&str],
 ) -> Result<&'a Map<String, Value>, CertFaultKind>
     ensures { ResultsAgree (λ object. members_view object.now.entries) result
-        (object_of (map (λ k. k.now) known.now) (view value.now)) }
+        (object_of (map (λ known_key. known_key.now) known.now) (view value.now)) }
 {
     match value.as_object() {
         None => Err(CertFaultKind::BadKind),
@@ -130,7 +131,8 @@ pub(crate) fn list_at<'a>(
 
 /// The number as a whole number from `low` to `high`.
 pub(crate) fn in_range(low: u8, high: u8, number: &Number) -> Result<u8, CertFaultKind>
-    ensures { ResultsAgree (λ n. n) result (in_range low high (as_u64 (number_view number.now))) }
+    ensures { ResultsAgree (λ number. number) result
+        (in_range low high (as_u64 (number_view number.now))) }
 {
     match number.as_u64() {
         Some(n) if low as u64 <= n && n <= high as u64 => Ok(n as u8),
@@ -146,7 +148,7 @@ pub(crate) fn whole_at(
     low: u8,
     high: u8,
 ) -> Result<u8, CertFaultKind>
-    ensures { ResultsAgree (λ n. n) result
+    ensures { ResultsAgree (λ number. number) result
         (whole_at key.now low high (members_view object.now.entries)) }
 {
     let number = number_at(object, key)?;

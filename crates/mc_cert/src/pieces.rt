@@ -13,8 +13,8 @@ pub(crate) fn after_prefix<'a>(text: &'a [u8], front: &[u8]) -> Option<&'a [u8]>
 
 /// Reads a decimal digit, and gives the rest of the text.
 fn read_digit(text: &[u8]) -> Option<(u32, &[u8])>
-    ensures text { IfSome result (λ r. text.now ≡ (48 + r.0) ∷ r.1.now) }
-    ensures small { IfSome result (λ r. r.0 < 10) }
+    ensures text { IfSome result (λ parsed. text.now ≡ (48 + parsed.0) ∷ parsed.1.now) }
+    ensures small { IfSome result (λ parsed. parsed.0 < 10) }
 {
     let (first, rest) = text.split_first()?;
     match *first {
@@ -39,8 +39,8 @@ fn with_next_digit(number: u32, text: &[u8]) -> (u32, &[u8])
 
 /// Reads a decimal number of at most four digits without a leading zero, and gives the rest of the text.
 pub(crate) fn read_number(text: &[u8]) -> Option<(u32, &[u8])>
-    ensures text { IfSome result (λ r. text.now ≡ decimal r.0 ++ r.1.now) }
-    ensures small { IfSome result (λ r. r.0 < 10000) }
+    ensures text { IfSome result (λ parsed. text.now ≡ decimal parsed.0 ++ parsed.1.now) }
+    ensures small { IfSome result (λ parsed. parsed.0 < 10000) }
 {
     let (first, rest) = read_digit(text)?;
     if first == 0 {
@@ -53,7 +53,7 @@ pub(crate) fn read_number(text: &[u8]) -> Option<(u32, &[u8])>
 
 /// The text up to the next quotation mark, and the rest, which begins with that.
 pub(crate) fn read_until_quote(text: &[u8]) -> Option<(&str, &[u8])>
-    ensures { IfSome result (λ r. text.now ≡ r.0.now ++ r.1.now) }
+    ensures { IfSome result (λ parsed. text.now ≡ parsed.0.now ++ parsed.1.now) }
 {
     let end = find_byte(b'"', text)?;
     let (name, rest) = text.split_at(end);

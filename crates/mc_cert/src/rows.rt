@@ -38,7 +38,7 @@ pub(crate) fn each_row<R: RowReader>(
     rows: &R,
     values: &[Value],
 ) -> Result<Vec<R::Item>, CertFault>
-    requires within { (n : ℕ) → n < length values.now → R.is_row_number rows.now n }
+    requires within { (number : ℕ) → number < length values.now → R.is_row_number rows.now number }
     ensures rows { Gives (λ items. map R.item_view items.items) result
         (each_row (R.row_value rows.now) [] (map view values.now)) }
     ensures count { IfOk result (λ items. vec_len items ≡ length values.now) }

@@ -247,7 +247,7 @@ impl<'a> TokenReader<'a> {
     /// Reads a whole number of at most four digits.
     pub(crate) fn number(&mut self) -> Result<u32, NotRead>
         ensures number { IfOk result (λ n. self.old ≡ number (decimal n) ∷ self.new) }
-        ensures small { IfOk result (λ n. n < 10000) }
+        ensures small { IfOk result (λ number. number < 10000) }
     {
         if !self.place.may_begin() {
             return Err(NotRead);

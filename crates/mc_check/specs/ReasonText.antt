@@ -12,21 +12,22 @@ use Rattle.mc_check.specs.declared.verdict.Verdict.TheVariants.{Yes, No}
 -- a reason: its kind, and the LAN, or the router and the vif, that it is about, such as `Missed hall` or
 -- `Wildcard r1 2`
 abbrev pub reason_text : TopologyValue → Reason → List ℕ
-reason_text t (TwoEntries lan) = codes "TwoEntries " ++ lan_name t lan
-reason_text t BadSource = codes "BadSource"
-reason_text t (Wildcard router vif) =
-    codes "Wildcard " ++ router_name t router ++ codes " " ++ decimal vif
-reason_text t (Stray router vif) =
-    codes "Stray " ++ router_name t router ++ codes " " ++ decimal vif
-reason_text t (Extra router vif lan) =
-    codes "Extra " ++ router_name t router ++ codes " " ++ decimal vif ++ codes " " ++ lan_name t lan
-reason_text t (WrongRank lan) = codes "WrongRank " ++ lan_name t lan
-reason_text t (WrongNeed lan) = codes "WrongNeed " ++ lan_name t lan
-reason_text t (Unfed lan) = codes "Unfed " ++ lan_name t lan
-reason_text t (Missed lan) = codes "Missed " ++ lan_name t lan
-reason_text t (Low lan) = codes "Low " ++ lan_name t lan
+reason_text topology (TwoEntries lan) = codes "TwoEntries " ++ lan_name topology lan
+reason_text topology BadSource = codes "BadSource"
+reason_text topology (Wildcard router vif) =
+    codes "Wildcard " ++ router_name topology router ++ codes " " ++ decimal vif
+reason_text topology (Stray router vif) =
+    codes "Stray " ++ router_name topology router ++ codes " " ++ decimal vif
+reason_text topology (Extra router vif lan) =
+    codes "Extra " ++ router_name topology router ++ codes " " ++ decimal vif ++ codes " "
+    ++ lan_name topology lan
+reason_text topology (WrongRank lan) = codes "WrongRank " ++ lan_name topology lan
+reason_text topology (WrongNeed lan) = codes "WrongNeed " ++ lan_name topology lan
+reason_text topology (Unfed lan) = codes "Unfed " ++ lan_name topology lan
+reason_text topology (Missed lan) = codes "Missed " ++ lan_name topology lan
+reason_text topology (Low lan) = codes "Low " ++ lan_name topology lan
 
 -- a verdict, which ends its flow's line: `yes copies 3`, or `no ` and the reason
 abbrev pub verdict_text : TopologyValue → Verdict → List ℕ
-verdict_text t (Yes copies) = codes "yes copies " ++ decimal copies
-verdict_text t (No reason) = codes "no " ++ reason_text t reason
+verdict_text topology (Yes copies) = codes "yes copies " ++ decimal copies
+verdict_text topology (No reason) = codes "no " ++ reason_text topology reason

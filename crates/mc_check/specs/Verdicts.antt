@@ -38,50 +38,52 @@ verdict_by (Some reason) copy_count = No reason
 
 -- The verdict is yes exactly where the list is accepted: where it certifies the flow.
 abbrev pub YesIffAccepted : Net → List Entry → Verdict → Type 0
-YesIffAccepted n es v = IsTrue (is_yes v) ↔ IsAccepted n es
+YesIffAccepted net entries verdict = IsTrue (is_yes verdict) ↔ IsAccepted net entries
 
 -- A yes has the number of the list's entries.
 abbrev pub YesCountsEntries : Net → List Entry → Verdict → Type 0
-YesCountsEntries n es v = IfYes v (λ copy_count. copy_count ≡ length es)
+YesCountsEntries net entries verdict = IfYes verdict (λ copy_count. copy_count ≡ length entries)
 
 -- A no has the first reason against the list. LANs are numbered below `count`.
 abbrev pub NoGivesFirstReason : ℕ → Net → List Entry → Verdict → Type 0
-NoGivesFirstReason count n es v =
-    IfNo v (λ reason. first_reason n count es ≡ Some (reason_value reason))
+NoGivesFirstReason count net entries verdict =
+    IfNo verdict (λ reason. first_reason net count entries ≡ Some (reason_value reason))
 
 -- ---- what a yes promises of the flow, in whatever order copies are handled or lost
 
 -- After a yes every run of a packet with a TTL from 1 to 255, complete or not, is safe.
 abbrev pub YesIsSafe : Net → List Entry → Verdict → Type 0
-YesIsSafe n es v = IfYes v (λ copy_count. EveryRun n 1 (IsSafe n es))
+YesIsSafe net entries verdict = IfYes verdict (λ copy_count. EveryRun net 1 (IsSafe net entries))
 
 -- After a yes every complete run without loss reaches exactly the named LANs whose need the packet's TTL
 -- meets.
 abbrev pub YesDelivers : Net → List Entry → Verdict → Type 0
-YesDelivers n es v = IfYes v (λ copy_count. EveryRun n 1 (IsDeliveredWhole es))
+YesDelivers net entries verdict = IfYes verdict (λ copy_count. EveryRun net 1 (IsDeliveredWhole entries))
 
 -- After a yes the flow is right.
 abbrev pub YesIsRight : Net → List Entry → Verdict → Type 0
-YesIsRight n es v = IfYes v (λ copy_count. IsRight n)
+YesIsRight net entries verdict = IfYes verdict (λ copy_count. IsRight net)
 
 -- After a yes the headline holds for the flow, with no more copies than the verdict says.
 abbrev pub YesKeepsHeadline : Net → List Entry → Verdict → Type 0
-YesKeepsHeadline n es v = IfYes v (λ copy_count. HeadlineHolds n copy_count)
+YesKeepsHeadline net entries verdict = IfYes verdict (λ copy_count. HeadlineHolds net copy_count)
 
 -- All of this holds of the verdict.
-pub record IsCorrectVerdict (count : ℕ) (n : Net) (es : List Entry) (v : Verdict) : Type 0 where
-  pub accepted : YesIffAccepted n es v
-  pub copy_count : YesCountsEntries n es v
-  pub reason : NoGivesFirstReason count n es v
-  pub safe : YesIsSafe n es v
-  pub delivered : YesDelivers n es v
-  pub right : YesIsRight n es v
-  pub headline : YesKeepsHeadline n es v
+pub record IsCorrectVerdict (count : ℕ) (net : Net) (entries : List Entry)
+    (verdict : Verdict) : Type 0 where
+  pub accepted : YesIffAccepted net entries verdict
+  pub copy_count : YesCountsEntries net entries verdict
+  pub reason : NoGivesFirstReason count net entries verdict
+  pub safe : YesIsSafe net entries verdict
+  pub delivered : YesDelivers net entries verdict
+  pub right : YesIsRight net entries verdict
+  pub headline : YesKeepsHeadline net entries verdict
 
 -- ---- the verdicts of all flows
 
 -- P holds of each flow's net, list of entries and verdict.
 abbrev pub HoldsForEachFlow : DomainValue → List (List Entry) → List Verdict
     → (Net → List Entry → Verdict → Type 0) → Type 0
-HoldsForEachFlow d lists verdicts P = (flow : ℕ) (es : List Entry) (v : Verdict)
-    → slice_get lists flow ≡ Some es → slice_get verdicts flow ≡ Some v → P (net_of d flow) es v
+HoldsForEachFlow domain lists verdicts P = (flow : ℕ) (entries : List Entry) (verdict : Verdict)
+    → slice_get lists flow ≡ Some entries → slice_get verdicts flow ≡ Some verdict
+    → P (net_of domain flow) entries verdict

@@ -46,7 +46,7 @@ fn first_reason_of(
     entries: &[Reached],
 ) -> Result<Option<Reason>, Memory>
     requires flow { flow < length domain.now.topology.flows }
-    requires lans { All (λ e. e.lan < length domain.now.topology.lans) entries.now }
+    requires lans { All (λ entry. entry.lan < length domain.now.topology.lans) entries.now }
     ensures ok { IfOk result (λ reason. optional_reason_value reason ≡
         first_reason (net_of domain.now flow) (length domain.now.topology.lans) entries.now) }
 {
@@ -79,7 +79,7 @@ fn verdict_on(
     entries: &[Reached],
 ) -> Result<Verdict, Memory>
     requires flow { flow < length domain.now.topology.flows }
-    requires lans { All (λ e. e.lan < length domain.now.topology.lans) entries.now }
+    requires lans { All (λ entry. entry.lan < length domain.now.topology.lans) entries.now }
     ensures ok { IfOk result
         (IsCorrectVerdict (length domain.now.topology.lans) (net_of domain.now flow) entries.now) }
 {
@@ -101,7 +101,7 @@ pub fn check_flow(
     entries: &[Reached],
 ) -> Result<Verdict, Memory>
     requires flow { flow < length domain.now.topology.flows }
-    requires lans { All (λ e. e.lan < length domain.now.topology.lans) entries.now }
+    requires lans { All (λ entry. entry.lan < length domain.now.topology.lans) entries.now }
     // The verdict is yes exactly if the list is accepted.
     ensures accepted { IfOk result (YesIffAccepted (net_of domain.now flow) entries.now) }
     // A yes has the number of the list's entries.
@@ -134,31 +134,31 @@ pub fn check_all(
     certificate: &Certificate,
 ) -> Result<Vec<Verdict>, Memory>
     requires flows { length certificate.now ≡ length domain.now.topology.flows }
-    requires lans { All (All (λ e. e.lan < length domain.now.topology.lans)) certificate.now }
+    requires lans { All (All (λ entry. entry.lan < length domain.now.topology.lans)) certificate.now }
     // There is one verdict for each flow.
-    ensures count { IfOk result (λ vs. length vs.items ≡ length certificate.now) }
+    ensures count { IfOk result (λ verdicts. length verdicts.items ≡ length certificate.now) }
     // Each verdict is what `check_flow` returns: yes exactly if the list is accepted.
-    ensures accepted { IfOk result (λ vs.
-        HoldsForEachFlow domain.now certificate.now vs.items YesIffAccepted) }
+    ensures accepted { IfOk result (λ verdicts.
+        HoldsForEachFlow domain.now certificate.now verdicts.items YesIffAccepted) }
     // A yes has the number of the list's entries.
-    ensures copies { IfOk result (λ vs.
-        HoldsForEachFlow domain.now certificate.now vs.items YesCountsEntries) }
+    ensures copies { IfOk result (λ verdicts.
+        HoldsForEachFlow domain.now certificate.now verdicts.items YesCountsEntries) }
     // A no has the first reason.
-    ensures reason { IfOk result (λ vs. HoldsForEachFlow domain.now certificate.now vs.items
+    ensures reason { IfOk result (λ verdicts. HoldsForEachFlow domain.now certificate.now verdicts.items
         (NoGivesFirstReason (length domain.now.topology.lans))) }
     // After a yes, every run of every packet is safe, in any order and whatever is lost.
-    ensures safe { IfOk result (λ vs.
-        HoldsForEachFlow domain.now certificate.now vs.items YesIsSafe) }
+    ensures safe { IfOk result (λ verdicts.
+        HoldsForEachFlow domain.now certificate.now verdicts.items YesIsSafe) }
     // After a yes, each complete run without loss reaches exactly the named LANs whose need the TTL
     // meets.
-    ensures delivered { IfOk result (λ vs.
-        HoldsForEachFlow domain.now certificate.now vs.items YesDelivers) }
+    ensures delivered { IfOk result (λ verdicts.
+        HoldsForEachFlow domain.now certificate.now verdicts.items YesDelivers) }
     // After a yes, the flow is right.
-    ensures right { IfOk result (λ vs.
-        HoldsForEachFlow domain.now certificate.now vs.items YesIsRight) }
+    ensures right { IfOk result (λ verdicts.
+        HoldsForEachFlow domain.now certificate.now verdicts.items YesIsRight) }
     // After a yes, the headline holds for the flow.
-    ensures headline { IfOk result (λ vs.
-        HoldsForEachFlow domain.now certificate.now vs.items YesKeepsHeadline) }
+    ensures headline { IfOk result (λ verdicts.
+        HoldsForEachFlow domain.now certificate.now verdicts.items YesKeepsHeadline) }
 {
     let topology = domain.topology();
     let mut verdicts = Vec::with_capacity(alloc, certificate.flows() as usize)?;

@@ -33,10 +33,10 @@ impl<'c> Model for EntriesByLan<'c> {
 
 /// Stores the first entry of each LAN. Returns the first LAN that is named twice, as a reason.
 pub(crate) fn put_first_entries(firsts: &mut PerLan<Reached>, entries: &[Reached]) -> Option<Reason>
-    requires empty { HoldsFirstOfEachKey (λ e. e.lan) firsts.old [] }
-    requires lans { All (λ e. e.lan < length firsts.old) entries.now }
+    requires empty { HoldsFirstOfEachKey (λ entry. entry.lan) firsts.old [] }
+    requires lans { All (λ entry. entry.lan < length firsts.old) entries.now }
     ensures twice { optional_reason_value result ≡ first_twice [] entries.now }
-    ensures firsts { IfNone result (HoldsFirstOfEachKey (λ e. e.lan) firsts.new entries.now) }
+    ensures firsts { IfNone result (HoldsFirstOfEachKey (λ entry. entry.lan) firsts.new entries.now) }
 {
     for entry in entries {
         if !firsts.put_first(entry.lan, *entry) {
@@ -49,7 +49,7 @@ pub(crate) fn put_first_entries(firsts: &mut PerLan<Reached>, entries: &[Reached
 impl<'c> EntriesByLan<'c> {
     /// The entries, with the first entry of each LAN as it was stored.
     pub(crate) fn new(entries: &'c [Reached], firsts: PerLan<Reached>) -> EntriesByLan<'c>
-        requires firsts { HoldsFirstOfEachKey (λ e. e.lan) firsts entries.now }
+        requires firsts { HoldsFirstOfEachKey (λ entry. entry.lan) firsts entries.now }
         ensures value { result ≡ entries.now }
     {
         EntriesByLan { entries, firsts }

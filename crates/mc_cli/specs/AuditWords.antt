@@ -20,7 +20,7 @@ use Rattle.mc_cli.specs.declared.draft.NextWord.TheVariants.{Options, Router, Ra
 
 -- ranges are ordered by address, and then by length
 abbrev pub range_cmp : ℕ × ℕ → ℕ × ℕ → Ordering
-range_cmp x y = ordering_then (nat_cmp x.0 y.0) (nat_cmp x.1 y.1)
+range_cmp pair y = ordering_then (nat_cmp pair.0 y.0) (nat_cmp pair.1 y.1)
 
 -- whether the word is one of these
 abbrev pub is_among : List ℕ → List (List ℕ) → Bool
@@ -71,13 +71,13 @@ unless_given given options = then_some (not given) options
 
 -- the options with the one that this word names; none if it names no option, or one that was given before
 abbrev pub with_option : List ℕ → AuditOptions → Option AuditOptions
-with_option word o =
-    if bytes_eq word travel_word then unless_given o.travels (record o { travels = true })
-    else (if bytes_eq word faults_word then unless_given o.faults (record o { faults = true })
+with_option word options =
+    if bytes_eq word travel_word then unless_given options.travels (record options { travels = true })
+    else (if bytes_eq word faults_word then unless_given options.faults (record options { faults = true })
     else (if bytes_eq word unlisted_word
-    then unless_given o.unlisted (record o { unlisted = true })
-    else (if bytes_eq word strict_word then unless_given o.strict (record o { strict = true })
-    else (if bytes_eq word json_word then unless_given o.json (record o { json = true })
+    then unless_given options.unlisted (record options { unlisted = true })
+    else (if bytes_eq word strict_word then unless_given options.strict (record options { strict = true })
+    else (if bytes_eq word json_word then unless_given options.json (record options { json = true })
     else None))))
 
 -- what is given with this folder, of which there may be one

@@ -26,23 +26,23 @@ addresses_text addresses =
 
 -- these words and the names of the routers, or the other words if there are no routers
 abbrev pub routers_or : TopologyValue → List ℕ → (words : List ℕ) → (otherwise : List ℕ) → List ℕ
-routers_or t [] words otherwise = otherwise
-routers_or t (router ∷ routers) words otherwise = words ++ routers_text t (router ∷ routers)
+routers_or topology [] words otherwise = otherwise
+routers_or topology (router ∷ routers) words otherwise = words ++ routers_text topology (router ∷ routers)
 
 -- who forwards what is wanted, or why nobody is known to: the routers with an entry that goes out to a LAN,
 -- or else those with an entry that goes out to none, or else those with a (*,G) or (*,*) entry alone. What
 -- excluded routers have isn't known.
 abbrev pub forwarding_text : TopologyValue → (are_excluded : Bool) → RoutersForWant → List ℕ
-forwarding_text t are_excluded routers =
-    routers_or t routers.forwards (codes "forwarded by")
-    (routers_or t routers.none_out (codes "no outgoing LAN interface in")
-    (routers_or t routers.every_source (codes "no entry for it but (*,G) or (*,*) in")
+forwarding_text topology are_excluded routers =
+    routers_or topology routers.forwards (codes "forwarded by")
+    (routers_or topology routers.none_out (codes "no outgoing LAN interface in")
+    (routers_or topology routers.every_source (codes "no entry for it but (*,G) or (*,*) in")
     (if are_excluded then codes "no router with known tables forwards it"
     else codes "no router forwards it")))
 
 -- the sources of the flows that have the group; each flow is given as its source and its group
 abbrev pub listed_sources : (flows : List (ℕ × ℕ)) → (group : ℕ) → List ℕ
-listed_sources flows group = map (λ f. f.0) (filter (λ f. f.1 == group) flows)
+listed_sources flows group = map (λ pair. pair.0) (filter (λ pair. pair.1 == group) flows)
 
 -- the listed sources of the want's group; nothing if there are none
 abbrev pub listed_text : List ℕ → List ℕ
@@ -66,25 +66,28 @@ what_in forwarding listed want = forwarding ++ (listed_text listed ++ ssm_text w
 
 -- the line of a want: its source and group, its LANs, and what is written after them
 abbrev pub asked_line_text : TopologyValue → Want × List ℕ → (what : List ℕ) → List ℕ
-asked_line_text t line what =
+asked_line_text topology line what =
     codes "asked " ++ (address_text line.0.1 ++ (codes " " ++ (dotted line.0.0
-    ++ (codes " lans " ++ (decimal (length line.1) ++ (codes ":" ++ (lans_text t line.1
+    ++ (codes " lans " ++ (decimal (length line.1) ++ (codes ":" ++ (lans_text topology line.1
     ++ (codes ": " ++ (what ++ codes "\n")))))))))
 
 -- what is written after the LANs of a line that the audit has made
 abbrev pub what_text : TopologyValue → AskedLine → List ℕ
-what_text t line = what_in (forwarding_text t line.are_excluded (routers_value line.routers.now))
+what_text topology line = what_in (forwarding_text topology line.are_excluded
+    (routers_value line.routers.now))
     line.listed.now line.want.now
 
 -- a line that the audit has made
 abbrev pub asked_text_of : TopologyValue → AskedLine → List ℕ
-asked_text_of t line = asked_line_text t (line.want.now, line.lans.now) (what_text t line)
+asked_text_of topology line = asked_line_text topology (line.want.now, line.lans.now)
+    (what_text topology line)
 
 -- the line of a want and its LANs, by the listed flows and by what each router has for the want
 abbrev pub asked_text : TopologyValue → (are_excluded : Bool) → (flows : List (ℕ × ℕ)) → List RouterState
     → Want × List ℕ → List ℕ
-asked_text t are_excluded flows states line = asked_line_text t line
-    (what_in (forwarding_text t are_excluded (routers_by_state states)) (listed_sources flows line.0.0)
+asked_text topology are_excluded flows states line = asked_line_text topology line
+    (what_in (forwarding_text topology are_excluded (routers_by_state states))
+    (listed_sources flows line.0.0)
     line.0)
 
 -- ---- the other lines

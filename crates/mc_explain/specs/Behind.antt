@@ -21,25 +21,27 @@ use Rattle.mc_explain.specs.declared.causes.behind.Behind.{Behind}
 
 -- ---- a second copy
 
--- Why the carried copies show the finding of copy c, the first double one (the first that has an earlier one
--- on its LAN), as for the finding of a travel, but without a remedy: the senders of the LAN's first copy and
--- of c, or the path by which c came from the LAN itself, from its beginning.
+-- Why the carried copies show the finding of this copy, the first double one (the first that has an earlier
+-- one on its LAN), as for the finding of a travel, but without a remedy: the senders of the LAN's first copy and
+-- of the copy, or the path by which it came from the LAN itself, from its beginning.
 abbrev pub double_causes : Net → List Copy → Copy → FindingValue → List Cause
-double_causes n cs c (Duplicate lan) =
-    sender_causes c.lan (sender_on cs c.lan) ++ sender_causes c.lan c.sender
-double_causes n cs c (Loop lan) = reverse (map circle_cause (hops_of_copy_until n cs c.lan c))
-double_causes n cs c _ = []
+double_causes net copies copy (Duplicate lan) =
+    sender_causes copy.lan (sender_on copies copy.lan) ++ sender_causes copy.lan copy.sender
+double_causes net copies copy (Loop lan) = reverse
+    (map circle_cause (hops_of_copy_until net copies copy.lan copy))
+double_causes net copies copy _ = []
 
 -- why the carried copies show a second copy, if there is a first double one
 abbrev pub second_causes : Net → List Copy → Option Copy → List Cause
-second_causes n cs None = []
-second_causes n cs (Some c) = double_causes n cs c (finding_of_double n cs c)
+second_causes net copies None = []
+second_causes net copies (Some copy) = double_causes net copies copy (finding_of_double net copies copy)
 
 -- The TTL from which on packets show the second copy. None is given where the flow's own TTL is 255, the
 -- greatest.
 abbrev pub second_shown_from : Net → List Copy → Option Copy → Option ℕ
-second_shown_from n cs None = None
-second_shown_from n cs (Some c) = if n.ttl == 255 then None else Some (need_of_two_copies n cs c.lan)
+second_shown_from net copies None = None
+second_shown_from net copies (Some copy) = if net.ttl == 255 then None
+    else Some (need_of_two_copies net copies copy.lan)
 
 -- ---- what leads out of the domain
 
@@ -50,36 +52,39 @@ is_open Open = true
 is_open NoRow = false
 
 -- whether the stray at interface i was sent by an entry, and is not the finding's own
-abbrev pub is_other_leak : Net → (own i : Interface) → Bool
-is_other_leak n own i = not (is_open (n.row i.0)) && not (is_sender (Some own) i)
+abbrev pub is_other_leak : Net → (own interface : Interface) → Bool
+is_other_leak net own interface = not (is_open (net.row interface.0))
+    && not (is_sender (Some own) interface)
 
--- these routers and then router r, unless it is one of them
+-- these routers and then this one, unless it is one of them
 abbrev pub with_router_once : List ℕ → ℕ → List ℕ
-with_router_once routers r = if list_any (λ q. q == r) routers then routers else (routers ++ r ∷ [])
+with_router_once routers router = if list_any (λ other. other == router) routers then routers
+    else (routers ++ router ∷ [])
 
 -- these routers and then the stray's, if its row isn't followed
 abbrev pub with_open_router : Net → List ℕ → Interface → List ℕ
-with_open_router n routers i = if is_open (n.row i.0) then with_router_once routers i.0 else routers
+with_open_router net routers interface = if is_open (net.row interface.0)
+    then with_router_once routers interface.0 else routers
 
 -- the routers whose rows aren't followed, of those at which copies left, each once
 abbrev pub open_routers : Net → List Interface → List ℕ
-open_routers n strays = fold (with_open_router n) [] strays
+open_routers net strays = fold (with_open_router net) [] strays
 
 -- ---- what is missed
 
 -- whether a LAN wants the flow and carried none of these copies
 abbrev pub is_missed : Net → List Copy → (lan : ℕ) → Bool
-is_missed n cs lan = n.wants lan && is_none (first_copy_on cs lan)
+is_missed net copies lan = net.wants lan && is_none (first_copy_on copies lan)
 
 -- the LANs that want the flow and carried none of these copies
 abbrev pub missed_lans : TopologyValue → Net → List Copy → List ℕ
-missed_lans t n cs = filter (is_missed n cs) (below (length t.lans))
+missed_lans topology net copies = filter (is_missed net copies) (below (length topology.lans))
 
 -- The LANs that are called missed: none where a router's row isn't followed, or a router is excluded (the
 -- domain isn't whole), since that router may send them a copy.
 abbrev pub missed_unless_open : (whole : Bool) → (open_routers lans : List ℕ) → List ℕ
 missed_unless_open true [] lans = lans
-missed_unless_open true (r ∷ rs) lans = []
+missed_unless_open true (router ∷ routers) lans = []
 missed_unless_open false open_routers lans = []
 
 -- ---- the whole answer
@@ -87,23 +92,25 @@ missed_unless_open false open_routers lans = []
 -- the list, but nothing where a LAN carried two copies: then nothing else is shown
 abbrev pub unless_second : {A : Type 0} → Option Copy → List A → List A
 unless_second None xs = xs
-unless_second (Some c) xs = []
+unless_second (Some copy) xs = []
 
--- This is what flight g shows, with which the run past the stray ends: `whole` is true where no router is
+-- This is what the flight shows with which the run past the stray ends: `whole` is true where no router is
 -- excluded, `own` is the interface of the stray, and `double` is the first double copy, if there is one.
-pub record IsBehindIn (whole : Bool) (t : TopologyValue) (n : Net) (own : Interface) (g : Flight)
-    (double : Option Copy) (b : Behind) : Type 0 where
-  pub finding : optional_finding_value b.finding ≡ option_map (finding_of_double n g.carried) double
-  pub causes : b.causes.items ≡ second_causes n g.carried double
-  pub shown : b.shown_from ≡ second_shown_from n g.carried double
-  pub strays : b.strays.items ≡ unless_second double (filter (is_other_leak n own) g.strays)
-  pub not_followed : b.open_routers.items ≡ unless_second double (open_routers n g.strays)
-  pub missed : b.missed.items ≡ unless_second double
-      (missed_unless_open whole (open_routers n g.strays) (missed_lans t n g.carried))
+pub record IsBehindIn (whole : Bool) (topology : TopologyValue) (net : Net) (own : Interface)
+    (flight : Flight) (double : Option Copy) (behind : Behind) : Type 0 where
+  pub finding : optional_finding_value behind.finding
+      ≡ option_map (finding_of_double net flight.carried) double
+  pub causes : behind.causes.items ≡ second_causes net flight.carried double
+  pub shown : behind.shown_from ≡ second_shown_from net flight.carried double
+  pub strays : behind.strays.items ≡ unless_second double (filter (is_other_leak net own) flight.strays)
+  pub not_followed : behind.open_routers.items ≡ unless_second double (open_routers net flight.strays)
+  pub missed : behind.missed.items ≡ unless_second double
+      (missed_unless_open whole (open_routers net flight.strays) (missed_lans topology net flight.carried))
 
 -- This is what is behind the stray at interface `own` of a packet of the flow with TTL 255.
-pub record IsBehind (whole : Bool) (d : DomainValue) (flow : ℕ) (own : Interface) (b : Behind) : Type 0 where
+pub record IsBehind (whole : Bool) (domain : DomainValue) (flow : ℕ) (own : Interface)
+    (behind : Behind) : Type 0 where
   pub flight : Flight
-  pub run : EndsPastStrays (net_of d flow) (start (net_of d flow) 255) flight
-  pub shows : IsBehindIn whole d.topology (net_of d flow) own flight
-      (first_double [] flight.carried) b
+  pub run : EndsPastStrays (net_of domain flow) (start (net_of domain flow) 255) flight
+  pub shows : IsBehindIn whole domain.topology (net_of domain flow) own flight
+      (first_double [] flight.carried) behind

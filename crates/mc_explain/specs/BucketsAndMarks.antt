@@ -9,30 +9,31 @@ use Rattle.std.specs.List.{list_any}
 
 -- ---- a list for each number
 
--- The list at each place b holds f of the keys whose number is b, in their order.
+-- The list at each place holds f of the keys whose number is the place's, in their order.
 abbrev pub AreBuckets : {A : Type 0} → (ℕ → A) → (ℕ → ℕ) → List (List A) → List ℕ → Type 0
 AreBuckets f number lists ks =
     (b : ℕ) → b < length lists → slice_index_or lists b []
-    ≡ map f (filter (λ k. number k == b) ks)
+    ≡ map f (filter (λ key. number key == b) ks)
 
 -- The list of each LAN holds the interfaces that are on it, of those with these numbers, in their order.
 abbrev pub AreInterfacesByLan : DomainFacts → List (List ListedInterface) → (numbers : List ℕ) → Type 0
-AreInterfacesByLan d lists numbers =
-    AreBuckets (listed_interface_at d) (λ k. (interface_at d.topology k).lan) lists numbers
+AreInterfacesByLan domain lists numbers =
+    AreBuckets (listed_interface_at domain) (λ key. (interface_at domain.topology key).lan) lists numbers
 
 -- ---- adjacent interfaces of one router
 
 -- how many interfaces at the front of the list are the router's
 abbrev pub leading_of_router : ℕ → List ListedInterface → ℕ
 leading_of_router router [] = zero
-leading_of_router router (i ∷ is) = if i.router == router then suc (leading_of_router router is) else zero
+leading_of_router router (interface ∷ interfaces) = if interface.router == router
+    then suc (leading_of_router router interfaces) else zero
 
 -- ---- marks by numbers
 
 -- The mark at each place is set exactly if the place's number passes the test.
 abbrev pub AreMarksOf : (ℕ → Bool) → List Bool → Type 0
-AreMarksOf p marks = (n : ℕ) → n < length marks → slice_index_or marks n false ≡ p n
+AreMarksOf p marks = (number : ℕ) → number < length marks → slice_index_or marks number false ≡ p number
 
 -- Of the marks exactly those at these numbers are set.
 abbrev pub AreMarksOfListed : List ℕ → List Bool → Type 0
-AreMarksOfListed numbers marks = AreMarksOf (λ n. list_any (λ m. m == n) numbers) marks
+AreMarksOfListed numbers marks = AreMarksOf (λ number. list_any (λ listed. listed == number) numbers) marks

@@ -12,17 +12,17 @@ use Rattle.mc_explain.specs.RowText.{entry_text}
 -- summaries are in the topology's order of routers.
 abbrev pub every_source_of : List SummaryValue → (group router : ℕ) → Option (ℕ × EntryValue)
 every_source_of summary group router =
-    option_and_then (λ n. every_source_row n group) (slice_get summary router)
+    option_and_then (λ rows. every_source_row rows group) (slice_get summary router)
 
 -- such an entry, as `entry (*,239.1.2.3) from eth0 to eth1 eth2:5 in cache-r1` or `entry (*,*) ..`; nothing
 -- if the router has none
 abbrev pub every_source_row_text : DomainFacts → (router : ℕ) → Option (ℕ × EntryValue) → List ℕ
-every_source_row_text d router None = []
-every_source_row_text d router (Some row) =
-    entry_text d router 0 row.0 row.1.iif (oif_pairs row.1.oifs)
+every_source_row_text domain router None = []
+every_source_row_text domain router (Some row) =
+    entry_text domain router 0 row.0 row.1.iif (oif_pairs row.1.oifs)
 
 -- the entry that a router has for every source of this group, by the summaries of all routers; nothing if it
 -- has none
 abbrev pub every_source_text : DomainFacts → List SummaryValue → (group router : ℕ) → List ℕ
-every_source_text d summary group router =
-    every_source_row_text d router (every_source_of summary group router)
+every_source_text domain summary group router =
+    every_source_row_text domain router (every_source_of summary group router)

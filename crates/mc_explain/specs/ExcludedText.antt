@@ -9,17 +9,17 @@ use Rattle.mc_explain.specs.UnlistedLines.{AreLines}
 
 -- the routers that are marked as excluded, in order
 abbrev pub excluded_routers : TopologyValue → List Bool → List ℕ
-excluded_routers t marks = filter (is_excluded marks) (below (length t.routers))
+excluded_routers topology marks = filter (is_excluded marks) (below (length topology.routers))
 
 -- ---- a line for each
 
 -- the line of an excluded router
 abbrev pub excluded_line : TopologyValue → (router : ℕ) → List ℕ
-excluded_line t router = codes "excluded " ++ (router_name t router ++ codes "\n")
+excluded_line topology router = codes "excluded " ++ (router_name topology router ++ codes "\n")
 
 -- the lines of all excluded routers
 abbrev pub excluded_lines : TopologyValue → List Bool → List ℕ
-excluded_lines t marks = flat_map (excluded_line t) (excluded_routers t marks)
+excluded_lines topology marks = flat_map (excluded_line topology) (excluded_routers topology marks)
 
 -- The line begins with `excluded `.
 abbrev pub IsExcludedLine : List ℕ → Type 0
@@ -33,11 +33,11 @@ AreExcludedLines = AreLines IsExcludedLine
 
 -- why the verdict is no: these routers are excluded; nothing if there are none
 abbrev pub verdict_reason : TopologyValue → (routers : List ℕ) → List ℕ
-verdict_reason t [] = []
-verdict_reason t (r ∷ rs) =
-    codes "  excluded:" ++ (routers_text t (r ∷ rs)
+verdict_reason topology [] = []
+verdict_reason topology (router ∷ routers) =
+    codes "  excluded:" ++ (routers_text topology (router ∷ routers)
     ++ codes ": the verdict is no; a yes requires all routers\n")
 
 -- why the verdict is no, by a mark for each router; nothing if none is excluded
 abbrev pub excluded_text : TopologyValue → List Bool → List ℕ
-excluded_text t marks = verdict_reason t (excluded_routers t marks)
+excluded_text topology marks = verdict_reason topology (excluded_routers topology marks)

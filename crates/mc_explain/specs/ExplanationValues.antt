@@ -21,10 +21,10 @@ pub record ExplanationValue : Type 0 where
 
 -- an explanation as a value
 abbrev pub explanation_value : Explanation → ExplanationValue
-explanation_value x = record {
-  printed = x.causes.now;
-  search = x.search.now;
-  also = x.also.now;
-  behind = x.behind.now;
-  certainty = x.certainty;
+explanation_value explanation = record {
+  printed = explanation.causes.now;
+  search = explanation.search.now;
+  also = explanation.also.now;
+  behind = explanation.behind.now;
+  certainty = explanation.certainty;
 }

@@ -6,7 +6,7 @@ use Rattle.mc_theory.specs.Lists.{In}
 
 -- the text has no line feed
 abbrev pub HasNoLineFeed : List ℕ → Type 0
-HasNoLineFeed text = IsTrue (list_all (λ b. not (b == 10)) text)
+HasNoLineFeed text = IsTrue (list_all (λ byte. not (byte == 10)) text)
 
 -- a line, with two spaces before it and a line feed after it
 abbrev pub indented : List ℕ → List ℕ

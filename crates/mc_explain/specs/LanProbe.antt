@@ -9,21 +9,21 @@ use Rattle.mc_explain.specs.declared.searches.visited_lans.VisitedLans.{VisitedL
 
 -- the search that these values are of
 abbrev pub search_in : LanProbe → Search
-search_in l = record {
-  domain = facts l.view.now.domain;
-  flow = l.view.now.flow;
-  summary = l.summary.now;
-  excluded = l.excluded.now;
-  first_copy_on = item_on_lan l.first_copies.now.by_lan;
+search_in probe = record {
+  domain = facts probe.view.now.domain;
+  flow = probe.view.now.flow;
+  summary = probe.summary.now;
+  excluded = probe.excluded.now;
+  first_copy_on = item_on_lan probe.first_copies.now.by_lan;
 }
 
 -- The interfaces that are kept are those that the topology has on each LAN.
-pub record IsLanProbe (l : LanProbe) : Type 0 where
-  pub interfaces : l.interfaces.now ≡ interfaces_on_lans (facts l.view.now.domain)
+pub record IsLanProbe (probe : LanProbe) : Type 0 where
+  pub interfaces : probe.interfaces.now ≡ interfaces_on_lans (facts probe.view.now.domain)
 
 -- ---- the LANs that a search has visited
 
 -- Of so many LANs exactly the visited ones are marked.
-pub record IsVisitedLans (lans : ℕ) (m : VisitedLans) : Type 0 where
-  pub count : length m.marks ≡ lans
-  pub marked : HoldsFirstOfEachKey (λ lan. lan) m.marks m.lans.items
+pub record IsVisitedLans (lans : ℕ) (visited : VisitedLans) : Type 0 where
+  pub count : length visited.marks ≡ lans
+  pub marked : HoldsFirstOfEachKey (λ lan. lan) visited.marks visited.lans.items

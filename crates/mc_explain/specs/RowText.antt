@@ -43,7 +43,7 @@ device_text_of vif (Some v) =
 
 -- the device of a router's vif, such as `eth1`
 abbrev pub device_text : DomainFacts → (router vif : ℕ) → List ℕ
-device_text d router vif = device_text_of vif (d.vifs router vif)
+device_text domain router vif = device_text_of vif (domain.vifs router vif)
 
 -- ---- rows
 
@@ -56,14 +56,14 @@ of_entry_or otherwise make NoRow = otherwise
 
 -- an outgoing vif of an entry, with its threshold if that isn't 1
 abbrev pub oif_text : DomainFacts → (router : ℕ) → ℕ × ℕ → List ℕ
-oif_text d router p =
-    codes " " ++ (device_text d router p.0
-    ++ (if p.1 == 1 then [] else codes ":" ++ decimal p.1))
+oif_text domain router pair =
+    codes " " ++ (device_text domain router pair.0
+    ++ (if pair.1 == 1 then [] else codes ":" ++ decimal pair.1))
 
 -- the outgoing vifs of an entry, or that there are none
 abbrev pub oifs_text : DomainFacts → (router : ℕ) → List (ℕ × ℕ) → List ℕ
-oifs_text d router [] = codes " none"
-oifs_text d router (p ∷ ps) = flat_map (oif_text d router) (p ∷ ps)
+oifs_text domain router [] = codes " none"
+oifs_text domain router (pair ∷ pairs) = flat_map (oif_text domain router) (pair ∷ pairs)
 
 -- an entry's source or group; `*`, every one, for 0.0.0.0
 abbrev pub address_text : ℕ → List ℕ
@@ -71,20 +71,21 @@ address_text address = if address == 0 then codes "*" else dotted address
 
 -- an entry, such as `entry (10.0.0.5,239.1.2.3) from eth0 to eth1 eth2:5 in cache-r1`
 abbrev pub entry_text : DomainFacts → (router source group incoming : ℕ) → List (ℕ × ℕ) → List ℕ
-entry_text d router source group incoming pairs =
+entry_text domain router source group incoming pairs =
     codes "entry (" ++ (address_text source ++ (codes "," ++ (address_text group
-    ++ (codes ") from " ++ (device_text d router incoming
-    ++ (codes " to" ++ (oifs_text d router pairs
-    ++ (codes " in cache-" ++ router_name d.topology router))))))))
+    ++ (codes ") from " ++ (device_text domain router incoming
+    ++ (codes " to" ++ (oifs_text domain router pairs
+    ++ (codes " in cache-" ++ router_name domain.topology router))))))))
 
 -- the (S,G) entry that is a router's row for a flow; nothing for another row
 abbrev pub row_text : DomainFacts → Flow → (router : ℕ) → Row → List ℕ
-row_text d f router row = of_entry_or [] (entry_text d router f.source f.group) row
+row_text domain flow router row = of_entry_or [] (entry_text domain router flow.source flow.group) row
 
 -- the (S,G) entry that is a router's row for the flow with this number; nothing for another row
 abbrev pub flow_row_text : DomainFacts → (flow router : ℕ) → List ℕ
-flow_row_text d flow router = row_text d (flow_at d.topology flow) router ((d.nets flow).row router)
+flow_row_text domain flow router = row_text domain (flow_at domain.topology flow) router
+    ((domain.nets flow).row router)
 
 -- the device of a row's incoming vif; nothing for a row without one
 abbrev pub incoming_text : DomainFacts → (router : ℕ) → Row → List ℕ
-incoming_text d router row = of_entry_or [] (λ incoming pairs. device_text d router incoming) row
+incoming_text domain router row = of_entry_or [] (λ incoming pairs. device_text domain router incoming) row

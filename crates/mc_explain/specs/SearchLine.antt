@@ -42,8 +42,8 @@ pub record Search : Type 0 where
 -- the search of a domain's flow, by these summaries, marks of excluded routers, and carried copies
 abbrev pub search_of : DomainValue → (flow : ℕ) → List SummaryValue → (excluded : List Bool) → List Copy
     → Search
-search_of d flow summary excluded copies = record {
-  domain = facts d;
+search_of domain flow summary excluded copies = record {
+  domain = facts domain;
   flow = flow;
   summary = summary;
   excluded = excluded;
@@ -51,13 +51,13 @@ search_of d flow summary excluded copies = record {
 }
 
 -- The search reads the tables of a domain that keeps the rules of every domain.
-pub record IsSearchIn (d : DomainValue) (s : Search) : Type 0 where
+pub record IsSearchIn (d : DomainValue) (search : Search) : Type 0 where
   pub domain : IsDomain d
-  pub same : s.domain ≡ facts d
+  pub same : search.domain ≡ facts d
 
 -- the net of the flow
 abbrev pub net : Search → Net
-net s = s.domain.nets s.flow
+net search = search.domain.nets search.flow
 
 -- whether a router is marked as excluded, so that its tables are not known
 abbrev pub is_excluded : List Bool → (router : ℕ) → Bool
@@ -65,25 +65,25 @@ is_excluded marks router = slice_index_or marks router false
 
 -- whether a LAN carried a copy of the packet
 abbrev pub carried : Search → (lan : ℕ) → Bool
-carried s lan = is_some (s.first_copy_on lan)
+carried search lan = is_some (search.first_copy_on lan)
 
 -- the flow's source and group
 abbrev pub source_and_group : Search → ℕ × ℕ
-source_and_group s = flow_key (flow_at s.domain.topology s.flow)
+source_and_group search = flow_key (flow_at search.domain.topology search.flow)
 
 -- whether a summary has an unresolved entry for a source and a group
 abbrev pub unresolved_by : Option SummaryValue → ℕ × ℕ → Bool
-unresolved_by None k = false
-unresolved_by (Some summary) k = set.contains summary.unresolved k
+unresolved_by None pair = false
+unresolved_by (Some summary) pair = set.contains summary.unresolved pair
 
 -- whether a router has an unresolved entry for the flow
 abbrev pub is_unresolved : Search → (router : ℕ) → Bool
-is_unresolved s router = unresolved_by (slice_get s.summary router) (source_and_group s)
+is_unresolved search router = unresolved_by (slice_get search.summary router) (source_and_group search)
 
 -- the entry that a router has for every source, of the flow's group or else of every group, with the group
 -- that it has
 abbrev pub row_for_every_source : Search → (router : ℕ) → Option (ℕ × EntryValue)
-row_for_every_source s router = every_source_of s.summary (source_and_group s).1 router
+row_for_every_source search router = every_source_of search.summary (source_and_group search).1 router
 
 -- ---- what a router's row for the flow comes to
 
@@ -99,34 +99,35 @@ stopped_or_waiting (Some copy) lan router vif from threshold = Stopped lan route
 
 -- the line of a vif on the LAN, of a router whose row takes from another LAN
 abbrev pub vif_line : Search → (lan router from : ℕ) → List (ℕ × ℕ) → (vif : ℕ) → SearchLine
-vif_line s lan router from pairs vif =
+vif_line search lan router from pairs vif =
     if sends_by vif pairs
-    then stopped_or_waiting (s.first_copy_on from) lan router vif from (threshold_of vif pairs)
-    else DoesNotSend lan router vif from (carried s from)
+    then stopped_or_waiting (search.first_copy_on from) lan router vif from (threshold_of vif pairs)
+    else DoesNotSend lan router vif from (carried search from)
 
 -- the line of an interface's vif, if it has one and that is placed on the LAN
 abbrev pub vif_lines : Search → (lan router from : ℕ) → List (ℕ × ℕ) → Option ℕ → List SearchLine
-vif_lines s lan router from pairs None = []
-vif_lines s lan router from pairs (Some vif) =
-    if is_lan ((net s).placed router vif) lan
-    then vif_line s lan router from pairs vif ∷ []
+vif_lines search lan router from pairs None = []
+vif_lines search lan router from pairs (Some vif) =
+    if is_lan ((net search).placed router vif) lan
+    then vif_line search lan router from pairs vif ∷ []
     else []
 
 -- the lines of an exact row, by the LAN that it takes from: no LAN; this LAN itself, of which there are none;
 -- or another one, of which there is one for each vif on this LAN
 abbrev pub incoming_lines : Search → (lan router : ℕ) → List (ℕ × ℕ) → List ListedInterface
     → Option ℕ → List SearchLine
-incoming_lines s lan router pairs is None = FromUnplaced lan router ∷ []
-incoming_lines s lan router pairs is (Some from) =
-    if from == lan then [] else flat_map (λ i. vif_lines s lan router from pairs i.vif) is
+incoming_lines search lan router pairs interfaces None = FromUnplaced lan router ∷ []
+incoming_lines search lan router pairs interfaces (Some from) =
+    if from == lan then [] else flat_map (λ interface. vif_lines search lan router from pairs
+    interface.vif) interfaces
 
 -- the lines of a router's row
 abbrev pub row_lines : Search → (lan router : ℕ) → List ListedInterface → Row → List SearchLine
-row_lines s lan router is (Exact incoming pairs) =
-    incoming_lines s lan router pairs is ((net s).placed router incoming)
-row_lines s lan router is Open = EverySource lan router ∷ []
-row_lines s lan router is no_row =
-    (if is_unresolved s router then Unresolved lan router else NoRow lan router) ∷ []
+row_lines search lan router interfaces (Exact incoming pairs) =
+    incoming_lines search lan router pairs interfaces ((net search).placed router incoming)
+row_lines search lan router interfaces Open = EverySource lan router ∷ []
+row_lines search lan router interfaces no_row =
+    (if is_unresolved search router then Unresolved lan router else NoRow lan router) ∷ []
 
 -- ---- what a router's interfaces come to
 
@@ -138,10 +139,10 @@ is_virtual (Some vif) = vif.tunnel || vif.register
 -- the line of an interface that the topology has on the LAN, if its router has no vif of its device, or has
 -- one that is a tunnel or a register vif
 abbrev pub device_lines : Search → (lan : ℕ) → ListedInterface → Option ℕ → List SearchLine
-device_lines s lan i None = NoVif lan i.router i.interface ∷ []
-device_lines s lan i (Some vif) =
-    if is_virtual (s.domain.vifs i.router vif)
-    then NotMulticast lan i.router i.interface ∷ []
+device_lines search lan interface None = NoVif lan interface.router interface.interface ∷ []
+device_lines search lan interface (Some vif) =
+    if is_virtual (search.domain.vifs interface.router vif)
+    then NotMulticast lan interface.router interface.interface ∷ []
     else []
 
 -- ---- the routers of a LAN
@@ -150,41 +151,46 @@ device_lines s lan i (Some vif) =
 -- that is its router's, and otherwise in a group of its own
 abbrev pub add_to_group : ListedInterface → List (ℕ × List ListedInterface)
     → List (ℕ × List ListedInterface)
-add_to_group i [] = (i.router, i ∷ []) ∷ []
-add_to_group i (g ∷ gs) = if g.0 == i.router then (i.router, i ∷ g.1) ∷ gs else (i.router, i ∷ []) ∷ g ∷ gs
+add_to_group interface [] = (interface.router, interface ∷ []) ∷ []
+add_to_group interface (listed ∷ routers) = if listed.0 == interface.router
+    then (interface.router, interface ∷ listed.1) ∷ routers
+    else (interface.router, interface ∷ []) ∷ listed ∷ routers
 
 -- the interfaces in groups, each of adjacent ones of one router
 abbrev pub group_by_router : List ListedInterface → List (ℕ × List ListedInterface)
 group_by_router [] = []
-group_by_router (i ∷ is) = add_to_group i (group_by_router is)
+group_by_router (interface ∷ interfaces) = add_to_group interface (group_by_router interfaces)
 
 -- the router of a group of interfaces
 abbrev pub router_of_group : ℕ × List ListedInterface → ℕ
-router_of_group g = g.0
+router_of_group listed = listed.0
 
 -- the routers that have an interface on a LAN, each with these interfaces
 abbrev pub routers_on : Search → (lan : ℕ) → List (ℕ × List ListedInterface)
-routers_on s lan = group_by_router (interfaces_on_lan s.domain lan)
+routers_on search lan = group_by_router (interfaces_on_lan search.domain lan)
 
 -- the lines of a router whose tables are known: those of its row, and those of its interfaces
 abbrev pub table_lines : Search → (lan : ℕ) → ℕ × List ListedInterface → List SearchLine
-table_lines s lan g =
-    row_lines s lan g.0 g.1 ((net s).row g.0) ++ flat_map (λ i. device_lines s lan i i.vif) g.1
+table_lines search lan listed =
+    row_lines search lan listed.0 listed.1 ((net search).row listed.0)
+    ++ flat_map (λ interface. device_lines search lan interface interface.vif) listed.1
 
 -- the lines of a router; of an excluded one only that it is excluded
 abbrev pub router_lines : Search → (lan : ℕ) → ℕ × List ListedInterface → List SearchLine
-router_lines s lan g =
-    if is_excluded s.excluded g.0 then Excluded lan g.0 ∷ [] else table_lines s lan g
+router_lines search lan listed =
+    if is_excluded search.excluded listed.0 then Excluded lan listed.0 ∷ []
+    else table_lines search lan listed
 
 -- whether a router isn't excluded and its row takes from the LAN
 abbrev pub is_expecting : Search → (lan router : ℕ) → Bool
-is_expecting s lan router =
-    not (is_excluded s.excluded router)
-    && is_lan (taken_from (net s) router ((net s).row router)) lan
+is_expecting search lan router =
+    not (is_excluded search.excluded router)
+    && is_lan (taken_from (net search) router ((net search).row router)) lan
 
 -- that a router expects copies from the LAN, if it does
 abbrev pub expected_lines : Search → (lan : ℕ) → ℕ × List ListedInterface → List SearchLine
-expected_lines s lan g = if is_expecting s lan g.0 then ExpectedFromHere lan g.0 ∷ [] else []
+expected_lines search lan listed = if is_expecting search lan listed.0
+    then ExpectedFromHere lan listed.0 ∷ [] else []
 
 -- whether these pairs of a row send by a vif, if the interface has one
 abbrev pub sends_by_known_vif : Option ℕ → List (ℕ × ℕ) → Bool
@@ -193,76 +199,81 @@ sends_by_known_vif (Some vif) pairs = sends_by vif pairs
 
 -- whether a router's row sends by a vif whose device the topology has on the LAN
 abbrev pub sends_here : Search → ℕ × List ListedInterface → Bool
-sends_here s g = list_any (λ i. sends_by_known_vif i.vif (row_pairs ((net s).row g.0))) g.1
+sends_here search listed = list_any (λ interface. sends_by_known_vif interface.vif
+    (row_pairs ((net search).row listed.0)))
+    listed.1
 
 -- whether a router may send onto the LAN: its row does, or isn't known
 abbrev pub may_send_here : Search → ℕ × List ListedInterface → Bool
-may_send_here s g = is_excluded s.excluded g.0 || sends_here s g
+may_send_here search listed = is_excluded search.excluded listed.0 || sends_here search listed
 
 -- the last line of a LAN, after the lines of its routers: there are no routers, or none that may send onto it
 abbrev pub closing_lines : Search → (lan : ℕ) → List (ℕ × List ListedInterface) → List SearchLine
     → List SearchLine
-closing_lines s lan gs [] = NoRouter lan ∷ []
-closing_lines s lan gs (line ∷ lines) =
-    if list_any (may_send_here s) gs then [] else NoSender lan ∷ []
+closing_lines search lan routers [] = NoRouter lan ∷ []
+closing_lines search lan routers (line ∷ lines) =
+    if list_any (may_send_here search) routers then [] else NoSender lan ∷ []
 
 -- the lines of a LAN's routers, and then those about routers that expect copies from the LAN
 abbrev pub lines_of_routers : Search → (lan : ℕ) → List (ℕ × List ListedInterface) → List SearchLine
-lines_of_routers s lan gs = flat_map (router_lines s lan) gs ++ flat_map (expected_lines s lan) gs
+lines_of_routers search lan routers = flat_map (router_lines search lan) routers
+    ++ flat_map (expected_lines search lan) routers
 
 -- all lines of a LAN
 abbrev pub lines_of_lan : Search → (lan : ℕ) → List SearchLine
-lines_of_lan s lan =
-    lines_of_routers s lan (routers_on s lan)
-    ++ closing_lines s lan (routers_on s lan) (lines_of_routers s lan (routers_on s lan))
+lines_of_lan search lan =
+    lines_of_routers search lan (routers_on search lan)
+    ++ closing_lines search lan (routers_on search lan)
+    (lines_of_routers search lan (routers_on search lan))
 
 -- ---- the LANs that are searched
 
 -- a LAN, if it carried no copy
 abbrev pub if_missed : Search → Option ℕ → Option ℕ
-if_missed s None = None
-if_missed s (Some lan) = if carried s lan then None else Some lan
+if_missed search None = None
+if_missed search (Some lan) = if carried search lan then None else Some lan
 
 -- the LAN from which a router's entry for every source takes
 abbrev pub every_source_from : Search → (router : ℕ) → Option (ℕ × EntryValue) → Option ℕ
-every_source_from s router None = None
-every_source_from s router (Some row) = (net s).placed router row.1.iif
+every_source_from search router None = None
+every_source_from search router (Some row) = (net search).placed router row.1.iif
 
 -- the LAN that a line leads to: one that its router waits for, or that its entry for every source takes from,
 -- if that LAN carried no copy
 abbrev pub next_lan : Search → SearchLine → Option ℕ
-next_lan s (WaitsFor lan router vif from) = Some from
-next_lan s (EverySource lan router) =
-    if_missed s (every_source_from s router (row_for_every_source s router))
-next_lan s _ = None
+next_lan search (WaitsFor lan router vif from) = Some from
+next_lan search (EverySource lan router) =
+    if_missed search (every_source_from search router (row_for_every_source search router))
+next_lan search _ = None
 
 -- the LANs that the lines of a LAN lead to
 abbrev pub next_lans : Search → (lan : ℕ) → List ℕ
-next_lans s lan = filter_map (next_lan s) (lines_of_lan s lan)
+next_lans search lan = filter_map (next_lan search) (lines_of_lan search lan)
 
 -- the visited LANs, and then those of the others that aren't among them, each once
 abbrev pub append_new : List ℕ → List ℕ → List ℕ
 append_new visited_lans [] = visited_lans
 append_new visited_lans (lan ∷ lans) =
-    append_new (if list_any (λ m. m == lan) visited_lans then visited_lans else visited_lans ++ lan ∷ []) lans
+    append_new (if list_any (λ visited. visited == lan) visited_lans then visited_lans
+    else visited_lans ++ lan ∷ []) lans
 
 -- the visited LANs after one of them is searched
 abbrev pub visited_after : Search → List ℕ → Option ℕ → List ℕ
-visited_after s visited_lans None = visited_lans
-visited_after s visited_lans (Some lan) = append_new visited_lans (next_lans s lan)
+visited_after search visited_lans None = visited_lans
+visited_after search visited_lans (Some lan) = append_new visited_lans (next_lans search lan)
 
 -- the visited LANs, in order, after as many of them are searched as there are steps
 abbrev pub visited_lans : Search → (missed : ℕ) → (steps : ℕ) → List ℕ
-visited_lans s missed zero = missed ∷ []
-visited_lans s missed (suc k) =
-    visited_after s (visited_lans s missed k) (slice_get (visited_lans s missed k) k)
+visited_lans search missed zero = missed ∷ []
+visited_lans search missed (suc k) =
+    visited_after search (visited_lans search missed k) (slice_get (visited_lans search missed k) k)
 
 -- ---- the search
 
 -- all LANs of a search: after as many steps as there are LANs no more are visited
 abbrev pub lans_of_search : Search → (missed : ℕ) → List ℕ
-lans_of_search s missed = visited_lans s missed (length s.domain.topology.lans)
+lans_of_search search missed = visited_lans search missed (length search.domain.topology.lans)
 
 -- all lines of a search
 abbrev pub search_lines : Search → (missed : ℕ) → List SearchLine
-search_lines s missed = flat_map (lines_of_lan s) (lans_of_search s missed)
+search_lines search missed = flat_map (lines_of_lan search) (lans_of_search search missed)

@@ -28,15 +28,16 @@ is_of_handling handling (Sent copies strays) = is_sent_on handling
 -- whether a router has an event of this handling
 abbrev pub has_event : Handling → List Event → (router : ℕ) → Bool
 has_event handling events router =
-    list_any (λ e. (e.router == router) && is_of_handling handling e.outcome) events
+    list_any (λ event. (event.router == router) && is_of_handling handling event.outcome) events
 
 -- the routers that have an interface on one of these LANs, LAN by LAN, each once
 abbrev pub routers_of_lans : Search → List ℕ → List ℕ
-routers_of_lans s lans = append_new [] (flat_map (λ lan. map router_of_group (routers_on s lan)) lans)
+routers_of_lans search lans = append_new [] (flat_map (λ lan. map router_of_group (routers_on search lan))
+    lans)
 
 -- the routers of the LANs of a search
 abbrev pub routers_of_search : Search → (missed : ℕ) → List ℕ
-routers_of_search s missed = routers_of_lans s (lans_of_search s missed)
+routers_of_search search missed = routers_of_lans search (lans_of_search search missed)
 
 -- those of the routers that sent copies on
 abbrev pub sent_on : List Event → List ℕ → List ℕ
@@ -45,7 +46,7 @@ sent_on events routers = filter (has_event SentOn events) routers
 -- those of the others that a copy came to and that took none
 abbrev pub took_none : List Event → List ℕ → List ℕ
 took_none events routers =
-    filter (λ r. has_event TookNone events r && not (has_event SentOn events r)) routers
+    filter (λ router. has_event TookNone events router && not (has_event SentOn events router)) routers
 
 -- ---- excluded routers
 
@@ -62,8 +63,8 @@ name_excluded_router lines = list_any is_of_excluded lines
 
 -- The result of the search for a LAN that a packet missed, in whose travel there were these events: the
 -- lines, and how far the packet came.
-pub record IsLanSearch (s : Search) (events : List Event) (missed : ℕ) (found : LanSearch)
-    : Type 0 where
-  pub lines : found.lines.items ≡ search_lines s missed
-  pub sent_on : found.reach.sent_on.items ≡ sent_on events (routers_of_search s missed)
-  pub took_none : found.reach.took_none.items ≡ took_none events (routers_of_search s missed)
+pub record IsLanSearch (search : Search) (events : List Event) (missed : ℕ)
+    (found : LanSearch) : Type 0 where
+  pub lines : found.lines.items ≡ search_lines search missed
+  pub sent_on : found.reach.sent_on.items ≡ sent_on events (routers_of_search search missed)
+  pub took_none : found.reach.took_none.items ≡ took_none events (routers_of_search search missed)

@@ -15,45 +15,45 @@ use Rattle.mc_theory.specs.ShownFrom.{IsShownFrom}
 -- The TTL is the one from which on packets show the finding; there is none for a clean travel and for a
 -- missed LAN.
 abbrev pub IsShownFromIfAny : Net → List Copy → Finding → Option ℕ → Type 0
-IsShownFromIfAny n cs x None = IsSecondCopyOrStray x → ⊥
-IsShownFromIfAny n cs x (Some k) = IsShownFrom n cs x k
+IsShownFromIfAny net copies finding None = IsSecondCopyOrStray finding → ⊥
+IsShownFromIfAny net copies finding (Some k) = IsShownFrom net copies finding k
 
 -- ---- how the number is worked out
 
 -- the hops by which a copy came, if there is a copy
 abbrev pub hops_of_copy_if_any : Net → List Copy → Option Copy → List Hop
-hops_of_copy_if_any n cs None = []
-hops_of_copy_if_any n cs (Some c) = hops_of_copy n cs c
+hops_of_copy_if_any net copies None = []
+hops_of_copy_if_any net copies (Some copy) = hops_of_copy net copies copy
 
 -- the hops by which a LAN's first copy came
 abbrev pub hops_to_lan : Net → List Copy → (lan : ℕ) → List Hop
-hops_to_lan n cs lan = hops_of_copy_if_any n cs (first_copy_on cs lan)
+hops_to_lan net copies lan = hops_of_copy_if_any net copies (first_copy_on copies lan)
 
 -- the hops by which the LAN's first copy came, if there is a LAN
 abbrev pub hops_from_lan_if_any : Net → List Copy → Option ℕ → List Hop
-hops_from_lan_if_any n cs None = []
-hops_from_lan_if_any n cs (Some lan) = hops_to_lan n cs lan
+hops_from_lan_if_any net copies None = []
+hops_from_lan_if_any net copies (Some lan) = hops_to_lan net copies lan
 
 -- the greater of the needs of the LAN's first copy and of the first double copy
 abbrev pub need_of_two_copies : Net → List Copy → (lan : ℕ) → ℕ
-need_of_two_copies n cs lan =
-    max (need (hops_to_lan n cs lan)) (need (hops_of_copy_if_any n cs (first_double [] cs)))
+need_of_two_copies net copies lan =
+    max (need (hops_to_lan net copies lan)) (need (hops_of_copy_if_any net copies (first_double [] copies)))
 
 -- the need of a path and of a threshold at its end
 abbrev pub need_behind : List Hop → (threshold : ℕ) → ℕ
-need_behind hs threshold = max (need hs) (length hs + threshold + 1)
+need_behind hops threshold = max (need hops) (length hops + threshold + 1)
 
 -- the need of a stray: of the copy that the row sent by the vif, or that came in by the vif and found an open
 -- row
 abbrev pub need_of_stray : Net → List Copy → Row → (router vif : ℕ) → ℕ
-need_of_stray n cs (Exact incoming pairs) router vif =
-    need_behind (hops_from_lan_if_any n cs (n.placed router incoming)) (threshold_of vif pairs)
-need_of_stray n cs Open router vif = need (hops_from_lan_if_any n cs (n.placed router vif))
-need_of_stray n cs NoRow router vif = 1
+need_of_stray net copies (Exact incoming pairs) router vif =
+    need_behind (hops_from_lan_if_any net copies (net.placed router incoming)) (threshold_of vif pairs)
+need_of_stray net copies Open router vif = need (hops_from_lan_if_any net copies (net.placed router vif))
+need_of_stray net copies NoRow router vif = 1
 
 -- the need of a finding that rests on a second copy or on a stray
 abbrev pub need_of_finding : Net → List Copy → Finding → Option ℕ
-need_of_finding n cs (Duplicate lan) = Some (need_of_two_copies n cs lan)
-need_of_finding n cs (Loop lan) = Some (need_of_two_copies n cs lan)
-need_of_finding n cs (Stray router vif) = Some (need_of_stray n cs (n.row router) router vif)
-need_of_finding n cs _ = None
+need_of_finding net copies (Duplicate lan) = Some (need_of_two_copies net copies lan)
+need_of_finding net copies (Loop lan) = Some (need_of_two_copies net copies lan)
+need_of_finding net copies (Stray router vif) = Some (need_of_stray net copies (net.row router) router vif)
+need_of_finding net copies _ = None

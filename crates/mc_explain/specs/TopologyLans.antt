@@ -12,17 +12,19 @@ use Rattle.mc_explain.specs.declared.searches.listed_interface.ListedInterface.{
 
 -- the topology's interface with this number, from 0
 abbrev pub interface_at : TopologyValue → ℕ → InterfaceRow
-interface_at t k =
-    unwrap_or (slice_get t.interfaces k) (record { router = 0; device = []; lan = 0 })
+interface_at topology k =
+    unwrap_or (slice_get topology.interfaces k) (record { router = 0; device = []; lan = 0 })
 
 -- the router's interfaces, of those with these numbers
 abbrev pub interfaces_of_router : TopologyValue → List ℕ → (router : ℕ) → List ℕ
-interfaces_of_router t ks router = filter (λ k. (interface_at t k).router == router) ks
+interfaces_of_router topology ks router = filter
+    (λ number. (interface_at topology number).router == router) ks
 
 -- the numbers of all interfaces, by router and then in the topology's order
 abbrev pub interfaces_by_router : TopologyValue → List ℕ
-interfaces_by_router t =
-    flat_map (interfaces_of_router t (below (length t.interfaces))) (below (length t.routers))
+interfaces_by_router topology =
+    flat_map (interfaces_of_router topology (below (length topology.interfaces)))
+    (below (length topology.routers))
 
 -- ---- vifs
 
@@ -33,28 +35,28 @@ vif_has_device device (Some vif) = bytes_eq vif.device device
 
 -- a router's vif of a device, if it has one
 abbrev pub vif_of_device : DomainFacts → (router : ℕ) → List ℕ → Option ℕ
-vif_of_device d router device = find (λ vif. vif_has_device device (d.vifs router vif)) (below 32)
+vif_of_device domain router device = find (λ vif. vif_has_device device (domain.vifs router vif)) (below 32)
 
 -- an interface by its router, its number, and the router's vif of its device
 abbrev pub listed_interface_of : DomainFacts → ℕ → InterfaceRow → ListedInterface
-listed_interface_of d k i = record {
-  router = i.router;
+listed_interface_of domain k row = record {
+  router = row.router;
   interface = k;
-  vif = vif_of_device d i.router i.device;
+  vif = vif_of_device domain row.router row.device;
 }
 
 -- the interface with this number, with its router and the router's vif of its device
 abbrev pub listed_interface_at : DomainFacts → ℕ → ListedInterface
-listed_interface_at d k = listed_interface_of d k (interface_at d.topology k)
+listed_interface_at domain k = listed_interface_of domain k (interface_at domain.topology k)
 
 -- ---- LANs
 
 -- the interfaces on a LAN, by router and then in the topology's order
 abbrev pub interfaces_on_lan : DomainFacts → (lan : ℕ) → List ListedInterface
-interfaces_on_lan d lan =
-    map (listed_interface_at d) (filter (λ k. (interface_at d.topology k).lan == lan)
-    (interfaces_by_router d.topology))
+interfaces_on_lan domain lan =
+    map (listed_interface_at domain) (filter (λ number. (interface_at domain.topology number).lan == lan)
+    (interfaces_by_router domain.topology))
 
 -- the interfaces on each LAN
 abbrev pub interfaces_on_lans : DomainFacts → List (List ListedInterface)
-interfaces_on_lans d = map (interfaces_on_lan d) (below (length d.topology.lans))
+interfaces_on_lans domain = map (interfaces_on_lan domain) (below (length domain.topology.lans))

@@ -12,12 +12,12 @@ with_routers_below summary number pair = (pair, routers_below summary number pai
 
 -- a pair, with all routers whose summaries have it
 abbrev pub with_routers : TopologyValue → List SummaryValue → ℕ × ℕ → (ℕ × ℕ) × List ℕ
-with_routers t summary pair = (pair, routers_with t summary pair)
+with_routers topology summary pair = (pair, routers_with topology summary pair)
 
 -- The shown pairs, each with all its routers, and the number of further rows. The bound is why 64 bits can
 -- hold that number for at most 2 ^ 32 routers.
-pub record AreUnlistedPairs (all : Bool) (t : TopologyValue) (summary : List SummaryValue) (u : UnlistedPairs)
-    : Type 0 where
-  pub shown : u.shown.items ≡ map (with_routers t summary) (shown_unlisted_pairs all summary)
-  pub further : u.further ≡ further_rows all t summary
-  pub bounded : u.further ≤ length summary * 4294967295
+pub record AreUnlistedPairs (all : Bool) (topology : TopologyValue) (summary : List SummaryValue)
+    (pairs : UnlistedPairs) : Type 0 where
+  pub shown : pairs.shown.items ≡ map (with_routers topology summary) (shown_unlisted_pairs all summary)
+  pub further : pairs.further ≡ further_rows all topology summary
+  pub bounded : pairs.further ≤ length summary * 4294967295

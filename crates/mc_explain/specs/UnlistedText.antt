@@ -36,7 +36,7 @@ routers_below summary number pair =
 
 -- all routers whose summaries have the pair, in order
 abbrev pub routers_with : TopologyValue → List SummaryValue → ℕ × ℕ → List ℕ
-routers_with t summary pair = routers_below summary (length t.routers) pair
+routers_with topology summary pair = routers_below summary (length topology.routers) pair
 
 -- the pairs of a cache's resolved rows that aren't listed
 abbrev pub unlisted_pairs : (listed : List (ℕ × ℕ)) → List RowValue → List (ℕ × ℕ)
@@ -54,16 +54,18 @@ has_unlisted_row listed pair (Some rows) =
 
 -- all routers whose caches have a resolved row of the pair, which isn't listed, in order
 abbrev pub routers_with_row : TopologyValue → (listed : List (ℕ × ℕ)) → List (List RowValue) → ℕ × ℕ → List ℕ
-routers_with_row t listed caches pair =
-    filter (λ router. has_unlisted_row listed pair (slice_get caches router)) (below (length t.routers))
+routers_with_row topology listed caches pair =
+    filter (λ router. has_unlisted_row listed pair (slice_get caches router))
+    (below (length topology.routers))
 
 -- Each shown pair of these caches is shown with all routers whose caches have a row of it, though a summary
 -- may have only the 20 lowest pairs of its cache.
 abbrev pub ShownPairsHaveAllRouters : (all : Bool) → TopologyValue → (listed : List (ℕ × ℕ))
     → List (List RowValue) → Type 0
-ShownPairsHaveAllRouters all t listed caches =
+ShownPairsHaveAllRouters all topology listed caches =
     (pair : ℕ × ℕ) → In pair (shown_unlisted_pairs all (summaries_of all listed caches)) →
-    routers_with t (summaries_of all listed caches) pair ≡ routers_with_row t listed caches pair
+    routers_with topology (summaries_of all listed caches) pair
+    ≡ routers_with_row topology listed caches pair
 
 -- ---- the line of a pair
 
@@ -79,14 +81,15 @@ byte_order_text group =
 
 -- the line of a pair and these routers, with the question about the byte order if need be
 abbrev pub unlisted_pair_text : TopologyValue → ℕ × ℕ → (routers : List ℕ) → List ℕ
-unlisted_pair_text t pair routers =
+unlisted_pair_text topology pair routers =
     codes "unlisted " ++ (dotted pair.1 ++ (codes " " ++ (dotted pair.0
     ++ (codes " routers " ++ (decimal (length routers)
-    ++ (codes ":" ++ (routers_text t routers ++ (codes "\n" ++ byte_order_text pair.0))))))))
+    ++ (codes ":" ++ (routers_text topology routers ++ (codes "\n" ++ byte_order_text pair.0))))))))
 
 -- the line of a pair and all routers whose summaries have it, with that question if need be
 abbrev pub unlisted_pair_lines : TopologyValue → List SummaryValue → ℕ × ℕ → List ℕ
-unlisted_pair_lines t summary pair = unlisted_pair_text t pair (routers_with t summary pair)
+unlisted_pair_lines topology summary pair = unlisted_pair_text topology pair
+    (routers_with topology summary pair)
 
 -- ---- how many more rows there are
 
@@ -96,12 +99,13 @@ count_unlisted_rows summary = sum_by (λ own. own.unlisted) summary
 
 -- how many of these rows are of the pairs: one for each router that has a pair
 abbrev pub count_rows_of_pairs : TopologyValue → List SummaryValue → List (ℕ × ℕ) → ℕ
-count_rows_of_pairs t summary pairs = sum_by (λ pair. length (routers_with t summary pair)) pairs
+count_rows_of_pairs topology summary pairs = sum_by (λ pair. length (routers_with topology summary pair))
+    pairs
 
 -- how many of these rows are not of the shown pairs
 abbrev pub further_rows : (all : Bool) → TopologyValue → List SummaryValue → ℕ
-further_rows all t summary =
-    count_unlisted_rows summary - count_rows_of_pairs t summary (shown_unlisted_pairs all summary)
+further_rows all topology summary =
+    count_unlisted_rows summary - count_rows_of_pairs topology summary (shown_unlisted_pairs all summary)
 
 -- how many further rows there are; nothing for none
 abbrev pub further_text : ℕ → List ℕ
@@ -112,6 +116,6 @@ further_text more =
 
 -- all lines about unlisted rows
 abbrev pub unlisted_text : (all : Bool) → TopologyValue → List SummaryValue → List ℕ
-unlisted_text all t summary =
-    flat_map (unlisted_pair_lines t summary) (shown_unlisted_pairs all summary)
-    ++ further_text (further_rows all t summary)
+unlisted_text all topology summary =
+    flat_map (unlisted_pair_lines topology summary) (shown_unlisted_pairs all summary)
+    ++ further_text (further_rows all topology summary)

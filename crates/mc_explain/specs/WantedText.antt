@@ -15,14 +15,14 @@ use Rattle.mc_explain.specs.ShownNames.{lans_text}
 
 -- the LANs that want a flow, in the topology's order
 abbrev pub lans_wanting : DomainFacts → (flow : ℕ) → List ℕ
-lans_wanting d flow = filter (d.nets flow).wants (below (length d.topology.lans))
+lans_wanting domain flow = filter (domain.nets flow).wants (below (length domain.topology.lans))
 
 -- the line of the LANs that want a flow
 abbrev pub wanted_text : TopologyValue → (lans : List ℕ) → List ℕ
-wanted_text t [] = codes "  wanted 0: no report asks for it\n"
-wanted_text t (lan ∷ lans) =
+wanted_text topology [] = codes "  wanted 0: no report asks for it\n"
+wanted_text topology (lan ∷ lans) =
     codes "  wanted " ++ (decimal (length (lan ∷ lans))
-    ++ (codes ":" ++ (lans_text t (lan ∷ lans) ++ codes "\n")))
+    ++ (codes ":" ++ (lans_text topology (lan ∷ lans) ++ codes "\n")))
 
 -- ---- the LANs that were missed besides
 
@@ -33,21 +33,21 @@ AreMarksOfCopies marks copies =
 
 -- whether a LAN other than `missed` wants the flow and carried none of these copies
 abbrev pub is_also_missed : DomainFacts → (flow : ℕ) → List Copy → (missed lan : ℕ) → Bool
-is_also_missed d flow copies missed lan =
-    ((d.nets flow).wants lan && not (is_some (first_copy_on copies lan))) && not (lan == missed)
+is_also_missed domain flow copies missed lan =
+    ((domain.nets flow).wants lan && not (is_some (first_copy_on copies lan))) && not (lan == missed)
 
 -- the LANs that a packet with these copies also missed, in the topology's order
 abbrev pub also_missed : DomainFacts → (flow : ℕ) → List Copy → (missed : ℕ) → List ℕ
-also_missed d flow copies missed =
-    filter (is_also_missed d flow copies missed) (below (length d.topology.lans))
+also_missed domain flow copies missed =
+    filter (is_also_missed domain flow copies missed) (below (length domain.topology.lans))
 
 -- the LANs that the packet also missed, by what is found of it; none where the finding isn't a missed LAN
 abbrev pub missed_besides : DomainFacts → (flow : ℕ) → List Copy → Finding → List ℕ
-missed_besides d flow copies (Missed lan) = also_missed d flow copies lan
-missed_besides d flow copies _ = []
+missed_besides domain flow copies (Missed lan) = also_missed domain flow copies lan
+missed_besides domain flow copies _ = []
 
 -- the line of the LANs that were also missed; nothing if there are none
 abbrev pub also_missed_text : TopologyValue → (lans : List ℕ) → List ℕ
-also_missed_text t [] = []
-also_missed_text t (lan ∷ lans) =
-    codes "  also missed:" ++ (lans_text t (lan ∷ lans) ++ codes "\n")
+also_missed_text topology [] = []
+also_missed_text topology (lan ∷ lans) =
+    codes "  also missed:" ++ (lans_text topology (lan ∷ lans) ++ codes "\n")

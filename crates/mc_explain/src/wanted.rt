@@ -39,7 +39,7 @@ pub fn lans_wanting(alloc: Global, view: &FlowView<'_>) -> Result<Vec<LanNo>, Al
 
 /// Marks the LANs that these copies are on.
 fn mark_lans(marks: &mut [bool], copies: &[CarriedCopy])
-    requires within { All (λ c. c.lan < length marks.old) copies.now }
+    requires within { All (λ copy. copy.lan < length marks.old) copies.now }
     ensures count { length marks.new ≡ length marks.old }
     ensures marks { (lan : ℕ) → slice_index_or marks.new lan false
         ≡ (slice_index_or marks.old lan false || is_some (first_copy_on copies.now lan)) }

@@ -64,7 +64,7 @@ table_slot false router = cache_slot router
 
 -- the slots of a router's two tables
 abbrev pub router_slots : RouterRow → List Slot
-router_slots r = vif_slot r.name ∷ cache_slot r.name ∷ []
+router_slots row = vif_slot row.name ∷ cache_slot row.name ∷ []
 
 -- the slot of the certificate, if the domain has one
 abbrev pub certificate_slots : (certified : Bool) → List Slot
@@ -74,18 +74,19 @@ certificate_slots false = []
 -- the slots after the topology's: those of the routers, those of the LANs, and that of the
 -- certificate
 abbrev pub slots_after_topology : (certified : Bool) → TopologyValue → List Slot
-slots_after_topology certified t =
-    flat_map router_slots t.routers ++ (map reports_slot t.lans ++ certificate_slots certified)
+slots_after_topology certified topology =
+    flat_map router_slots topology.routers ++
+    (map reports_slot topology.lans ++ certificate_slots certified)
 
 -- all slots of a domain, in their fixed order
 abbrev pub slots : (certified : Bool) → TopologyValue → List Slot
-slots certified t = topology_slot ∷ slots_after_topology certified t
+slots certified topology = topology_slot ∷ slots_after_topology certified topology
 
 -- ---- their numbers, counted from 0
 
 -- the number of the first LAN's slot: before it are the topology's and two of each router
 abbrev pub first_lan_number : TopologyValue → ℕ
-first_lan_number t = 1 + 2 * length t.routers
+first_lan_number topology = 1 + 2 * length topology.routers
 
 -- a slot that the domain of a topology has without a certificate, by its number
 pub record SlotNumber : Type 0 where
@@ -94,4 +95,4 @@ pub record SlotNumber : Type 0 where
 
 -- the slot with the number, if there is one
 abbrev pub numbered_slot : SlotNumber → Option Slot
-numbered_slot s = slice_get (slots false s.topology) s.number
+numbered_slot number = slice_get (slots false number.topology) number.number

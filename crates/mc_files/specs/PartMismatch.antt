@@ -13,10 +13,10 @@ first_mismatch [] [] = None
 first_mismatch [] (other ∷ others) = Some 0
 first_mismatch (name ∷ names) [] = Some 0
 first_mismatch (name ∷ names) (other ∷ others) =
-    if bytes_eq other name then option_map (λ n. n + 1) (first_mismatch names others) else Some 0
+    if bytes_eq other name then option_map (λ place. place + 1) (first_mismatch names others) else Some 0
 
 -- The place of the first part of a bundle that has another name than the domain's slot there, is
 -- missing, or is one too many. There is none if all parts are the domain's.
 abbrev pub first_part_mismatch : (certified : Bool) → TopologyValue → List PartText → Option ℕ
-first_part_mismatch certified t parts =
-    first_mismatch (map part_name (slots certified t)) (map (λ part. part.name) parts)
+first_part_mismatch certified topology parts =
+    first_mismatch (map part_name (slots certified topology)) (map (λ part. part.name) parts)

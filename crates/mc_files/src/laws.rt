@@ -17,8 +17,8 @@ ghost use Rattle.mc_files.specs.PackReading.{packed_parts};
 pub fn packing_is_exact_and_unique()
     ensures exact { (files : List FileText) (certified : Bool) (parts : List PartText)
         → (packed_parts certified files ≡ Ok parts ↔ IsPacked files certified parts) }
-    ensures unique { (files : List FileText) (certified : Bool) (ps qs : List PartText)
-        → IsPacked files certified ps → IsPacked files certified qs → ps ≡ qs }
+    ensures unique { (files : List FileText) (certified : Bool) (parts others : List PartText)
+        → IsPacked files certified parts → IsPacked files certified others → parts ≡ others }
 {}
 
 /// A packed bundle is read back as the parts that were packed.
@@ -30,21 +30,21 @@ pub fn packed_files_are_read_back()
 /// The names of the files that are packed have only letters, digits, `-`, `_` and `.`, so none of
 /// the files lies outside the folder.
 pub fn packed_names_are_plain()
-    ensures { (certified : Bool) (t : TopologyValue) → IsValidTopology t
+    ensures { (certified : Bool) (topology : TopologyValue) → IsValidTopology topology
         → AllByRecursion (λ slot. IsTrue (list_all is_name_byte (file_name slot)))
-        (slots certified t) }
+        (slots certified topology) }
 {}
 
 /// The name of each slot of a topology is a valid name of a part.
 pub fn slot_names_are_part_names()
-    ensures { (certified : Bool) (t : TopologyValue) → IsValidTopology t
-        → AllByRecursion (λ slot. IsPartName (part_name slot)) (slots certified t) }
+    ensures { (certified : Bool) (topology : TopologyValue) → IsValidTopology topology
+        → AllByRecursion (λ slot. IsPartName (part_name slot)) (slots certified topology) }
 {}
 
 /// The parts of a bundle are those of a domain exactly if they have the names of its slots, in
 /// order.
 pub fn parts_match_slots_exactly_by_name()
-    ensures { (certified : Bool) (t : TopologyValue) (parts : List PartText)
-        → ((first_part_mismatch certified t parts ≡ None)
-        ↔ (map part_name (slots certified t) ≡ map (λ part. part.name) parts)) }
+    ensures { (certified : Bool) (topology : TopologyValue) (parts : List PartText)
+        → ((first_part_mismatch certified topology parts ≡ None)
+        ↔ (map part_name (slots certified topology) ≡ map (λ part. part.name) parts)) }
 {}

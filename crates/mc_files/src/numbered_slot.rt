@@ -36,8 +36,8 @@ impl<'a> NumberedSlot<'a> {
         requires known { router < length topology.now.routers }
         requires few { router < 256 }
         ensures number { result ≡ record { topology = topology.now; number = 1 + 2 * router } }
-        ensures slot { (r : RouterRow) → slice_get topology.now.routers router ≡ Some r →
-            numbered_slot result ≡ Some (vif_slot r.name) }
+        ensures slot { (row : RouterRow) → slice_get topology.now.routers router ≡ Some row →
+            numbered_slot result ≡ Some (vif_slot row.name) }
     {
         NumberedSlot {
             topology,
@@ -51,8 +51,8 @@ impl<'a> NumberedSlot<'a> {
         requires known { router < length topology.now.routers }
         requires few { router < 256 }
         ensures number { result ≡ record { topology = topology.now; number = 2 + 2 * router } }
-        ensures slot { (r : RouterRow) → slice_get topology.now.routers router ≡ Some r →
-            numbered_slot result ≡ Some (cache_slot r.name) }
+        ensures slot { (row : RouterRow) → slice_get topology.now.routers router ≡ Some row →
+            numbered_slot result ≡ Some (cache_slot row.name) }
     {
         NumberedSlot {
             topology,

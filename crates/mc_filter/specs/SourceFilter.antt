@@ -8,7 +8,7 @@ use Rattle.std.specs.List.{list_any}
 
 -- whether the list has the address
 abbrev pub has : List ℕ → ℕ → Bool
-has addresses address = list_any (λ a. a == address) addresses
+has addresses address = list_any (λ listed. listed == address) addresses
 
 -- a filter: its mode, and the addresses of its list of sources
 pub record SourceFilter : Type 0 where

@@ -195,8 +195,9 @@ impl Channels {
     /// `Memory` if an allocation is refused.
     pub fn wanted(&self, alloc: Global, reports: &ReportList) -> Result<ChannelWants, Memory>
         ensures count { IfOk result (λ wants. vec_len wants.wanted ≡ length self.now) }
-        ensures each { IfOk result (λ wants. (i : ℕ) (channel : ℕ × ℕ) (is_wanted : Bool) →
-            slice_get self.now i ≡ Some channel → slice_get wants.wanted.items i ≡ Some is_wanted →
+        ensures each { IfOk result (λ wants. (index : ℕ) (channel : ℕ × ℕ) (is_wanted : Bool) →
+            slice_get self.now index ≡ Some channel
+            → slice_get wants.wanted.items index ≡ Some is_wanted →
             IsWantedAnswer reports.now channel is_wanted) }
         ensures all { IfOk result (λ wants. wants.asks_more ≡ false →
             AreAllAskedFor self.now reports.now) }

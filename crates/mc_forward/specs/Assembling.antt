@@ -20,33 +20,33 @@ domain_with topology vifs rows wants =
 
 -- each router's vifs, from its tables
 abbrev pub vifs_by_tables : List TablesValue → List VifsValue
-vifs_by_tables tables = map (λ t. t.vifs) tables
+vifs_by_tables tables = map (λ router_tables. router_tables.vifs) tables
 
 -- each router's row for each flow, from its tables
 abbrev pub rows_by_tables : List Flow → List TablesValue → List (List Row)
-rows_by_tables flows tables = map (λ t. map (row_in_cache t.cache) flows) tables
+rows_by_tables flows tables = map (λ router_tables. map (row_in_cache router_tables.cache) flows) tables
 
 -- the domain of a topology, of the routers' tables, and of which LAN wants which flow
 abbrev pub domain_of_tables : TopologyValue → List TablesValue → List (List Bool) → DomainValue
-domain_of_tables t tables wants =
-    domain_with t (vifs_by_tables tables) (rows_by_tables t.flows tables) wants
+domain_of_tables topology tables wants =
+    domain_with topology (vifs_by_tables tables) (rows_by_tables topology.flows tables) wants
 
 -- there are two tables for each router, and a list of reports for each LAN
-pub record HaveMatchingCounts (t : TopologyValue) (ts : List TablesValue) (rs : List (List Record))
-    : Type 0 where
-  pub routers : length ts ≡ length t.routers
-  pub lans : length rs ≡ length t.lans
+pub record HaveMatchingCounts (topology : TopologyValue) (tables : List TablesValue)
+    (rs : List (List Record)) : Type 0 where
+  pub routers : length tables ≡ length topology.routers
+  pub lans : length rs ≡ length topology.lans
 
 -- The domain of a topology, of the routers' tables and of the LANs' reports. A LAN wants a flow if
 -- some record of its reports for the flow's group admits the flow's source (RFC 3376, section 3.2).
-pub record IsAssembled (t : TopologyValue) (ts : List TablesValue) (rs : List (List Record))
-    (d : DomainValue) : Type 0 where
-  pub topology : d.topology ≡ t
-  pub vifs : d.vifs ≡ vifs_by_tables ts
-  pub rows : d.rows ≡ rows_by_tables t.flows ts
-  pub wants : (lan flow : ℕ) (records : List Record) (f : Flow) → slice_get rs lan ≡ Some records
-      → slice_get t.flows flow ≡ Some f
-      → IsTrue (wants_of d flow lan) ↔ Wants records f.group f.source
+pub record IsAssembled (t : TopologyValue) (tables : List TablesValue) (rs : List (List Record))
+    (domain : DomainValue) : Type 0 where
+  pub topology : domain.topology ≡ t
+  pub vifs : domain.vifs ≡ vifs_by_tables tables
+  pub rows : domain.rows ≡ rows_by_tables t.flows tables
+  pub wants : (lan flow : ℕ) (records : List Record) (listed : Flow) → slice_get rs lan ≡ Some records
+      → slice_get t.flows flow ≡ Some listed
+      → IsTrue (wants_of domain flow lan) ↔ Wants records listed.group listed.source
 
 -- ---- step by step
 
@@ -60,14 +60,14 @@ abbrev pub IsChannelWanted : List Record → ℕ × ℕ → Bool → Type 0
 IsChannelWanted records channel wanted = IsTrue wanted ↔ Wants records channel.1 channel.0
 
 -- there is an answer for each of the channels: whether these records want it
-pub record AreChannelsWanted (channels : List (ℕ × ℕ)) (records : List Record) (wanted : List Bool)
-    : Type 0 where
+pub record AreChannelsWanted (channels : List (ℕ × ℕ)) (records : List Record)
+    (wanted : List Bool) : Type 0 where
   pub count : length wanted ≡ length channels
   pub each : RelatedAtEachIndex (IsChannelWanted records) channels wanted
 
 -- the answer is yes exactly if these records want the flow
 abbrev pub IsWanted : List Record → Flow → Bool → Type 0
-IsWanted records f wanted = IsTrue wanted ↔ Wants records f.group f.source
+IsWanted records flow wanted = IsTrue wanted ↔ Wants records flow.group flow.source
 
 -- there is an answer for each of the flows: whether these records want it
 pub record AreWanted (flows : List Flow) (records : List Record) (wanted : List Bool) : Type 0 where
@@ -75,10 +75,10 @@ pub record AreWanted (flows : List Flow) (records : List Record) (wanted : List 
   pub each : RelatedAtEachIndex (IsWanted records) flows wanted
 
 -- there is an answer for each LAN and each flow
-pub record AreAnswers (t : TopologyValue) (wants : List (List Bool)) : Type 0 where
-  pub lans : length wants ≡ length t.lans
+pub record AreAnswers (topology : TopologyValue) (wants : List (List Bool)) : Type 0 where
+  pub lans : length wants ≡ length topology.lans
   pub flows : (lan : ℕ) (wanted : List Bool) → slice_get wants lan ≡ Some wanted
-      → length wanted ≡ length t.flows
+      → length wanted ≡ length topology.flows
 
 -- the LAN of each vif from 0 to 31 of one router, from the router's vifs
 abbrev pub vif_lans_by_vifs : TopologyValue → ℕ → VifsValue → List (Option ℕ)
@@ -93,7 +93,8 @@ vif_lan_in vif_lans router vif = slice_index_or (slice_index_or vif_lans router 
 -- vifs
 abbrev pub interfaces_by_vif_lans : List (List (Option ℕ)) → (routers : ℕ) → ℕ → List Interface
 interfaces_by_vif_lans vif_lans routers lan =
-    filter (λ i. is_lan (vif_lan_in vif_lans i.0 i.1) lan) (router_vif_pairs 32 routers)
+    filter (λ interface. is_lan (vif_lan_in vif_lans interface.0 interface.1) lan)
+    (router_vif_pairs 32 routers)
 
 -- the interfaces of a LAN that are one router's and among these vifs, from the LANs of the router's
 -- vifs

@@ -21,7 +21,8 @@ vifs_code = finite.code coded_ℕ vif_code
 abbrev pub tables_code : Coded TablesValue
 tables_code =
     code_by (VifsValue × CacheValue) (coded× vifs_code cache_code)
-    (λ t. (t.vifs, t.cache)) (λ p. record { vifs = p.0; cache = p.1 }) (λ _. refl)
+    (λ tables. (tables.vifs, tables.cache)) (λ stored. record { vifs = stored.0; cache = stored.1 })
+    (λ _. refl)
 
 -- a row is stored as its (S,G) entry, or as whether there is a (*,G) or (*,*) one
 abbrev pub stored_row : Row → Option (Option (ℕ × List (ℕ × ℕ)))
@@ -54,17 +55,17 @@ domain_code =
     code_by (TopologyValue × (List VifsValue × (List (List Row) × List (List Bool))))
     (coded× topology_code (coded× (coded_list vifs_code)
     (coded× (coded_list (coded_list row_code)) (coded_list (coded_list coded_bool)))))
-    (λ d. (d.topology, (d.vifs, (d.rows, d.wants))))
-    (λ p. domain_with p.0 p.1.0 p.1.1.0 p.1.1.1) (λ _. refl)
+    (λ domain. (domain.topology, (domain.vifs, (domain.rows, domain.wants))))
+    (λ stored. domain_with stored.0 stored.1.0 stored.1.1.0 stored.1.1.1) (λ _. refl)
 
 -- the LAN of each vif from 0 to 31, router by router
 abbrev pub vif_lans_of : DomainValue → List (List (Option ℕ))
-vif_lans_of d =
-    map (λ router. map (placed_of d router) (below 32)) (below (length d.topology.routers))
+vif_lans_of domain =
+    map (λ router. map (placed_of domain router) (below 32)) (below (length domain.topology.routers))
 
 -- the interfaces of each LAN, which are the same for every flow
 abbrev pub interfaces_of : DomainValue → List (List Interface)
-interfaces_of d = map (interfaces (net_of d 0)) (below (length d.topology.lans))
+interfaces_of domain = map (interfaces (net_of domain 0)) (below (length domain.topology.lans))
 
 -- the look-up tables are those of the domain: the LANs of all vifs, and the interfaces of all LANs
 pub record AreDerivedTables (d : DomainValue) (ps : List (List (Option ℕ)))
@@ -76,6 +77,6 @@ pub record AreDerivedTables (d : DomainValue) (ps : List (List (Option ℕ)))
 -- the look-up tables are those of each domain that has this topology and these vifs
 abbrev pub AreDerivedFrom : TopologyValue → List VifsValue → List (List (Option ℕ))
     → List (List Interface) → Type 0
-AreDerivedFrom t vifs ps is =
-    (rows : List (List Row)) (wants : List (List Bool)) → AreRows t rows → AreAnswers t wants
-    → AreDerivedTables (domain_with t vifs rows wants) ps is
+AreDerivedFrom topology vifs vif_lans interfaces =
+    (rows : List (List Row)) (wants : List (List Bool)) → AreRows topology rows → AreAnswers topology wants
+    → AreDerivedTables (domain_with topology vifs rows wants) vif_lans interfaces

@@ -56,7 +56,7 @@ placed_in topology vifs router vif =
 
 -- the LAN on which a router's vif is placed in the domain
 abbrev pub placed_of : DomainValue → ℕ → ℕ → Option ℕ
-placed_of d router vif = placed_in d.topology d.vifs router vif
+placed_of domain router vif = placed_in domain.topology domain.vifs router vif
 
 -- ---- which row a router has for a flow
 
@@ -80,38 +80,39 @@ row_in_cache cache flow =
 
 -- a router's row for a flow, by their numbers
 abbrev pub row_of : DomainValue → (flow router : ℕ) → Row
-row_of d flow router = slice_index_or (slice_index_or d.rows router []) flow NoRow
+row_of domain flow router = slice_index_or (slice_index_or domain.rows router []) flow NoRow
 
 -- ---- who wants a flow, and the flow's net
 
 -- whether a LAN wants a flow, by their numbers
 abbrev pub wants_of : DomainValue → (flow lan : ℕ) → Bool
-wants_of d flow lan = slice_index_or (slice_index_or d.wants lan []) flow false
+wants_of domain flow lan = slice_index_or (slice_index_or domain.wants lan []) flow false
 
 -- the LAN of a flow's source, by number
 abbrev pub source_of : DomainValue → (flow : ℕ) → ℕ
-source_of d flow = unwrap_or (option_map (λ f. f.lan) (slice_get d.topology.flows flow)) 0
+source_of domain flow = unwrap_or (option_map (λ listed. listed.lan)
+    (slice_get domain.topology.flows flow)) 0
 
 -- the least TTL with which a flow's source sends
 abbrev pub ttl_of : DomainValue → (flow : ℕ) → ℕ
-ttl_of d flow = unwrap_or (option_map (λ f. f.ttl) (slice_get d.topology.flows flow)) 0
+ttl_of domain flow = unwrap_or (option_map (λ listed. listed.ttl) (slice_get domain.topology.flows flow)) 0
 
 -- the net of a flow, by its number: what the routers do with its packets
 abbrev pub net_of : DomainValue → (flow : ℕ) → Net
-net_of d flow = record {
-  routers = length d.topology.routers;
-  placed = placed_of d;
-  row = row_of d flow;
-  wants = wants_of d flow;
-  source = source_of d flow;
-  ttl = ttl_of d flow;
+net_of domain flow = record {
+  routers = length domain.topology.routers;
+  placed = placed_of domain;
+  row = row_of domain flow;
+  wants = wants_of domain flow;
+  source = source_of domain flow;
+  ttl = ttl_of domain flow;
 }
 
 -- ---- what holds of every domain
 
 -- there are vifs for each router, as a kernel has them
-pub record AreVifs (t : TopologyValue) (vifs : List VifsValue) : Type 0 where
-  pub routers : length vifs ≡ length t.routers
+pub record AreVifs (topology : TopologyValue) (vifs : List VifsValue) : Type 0 where
+  pub routers : length vifs ≡ length topology.routers
   pub valid : (router : ℕ) (own : VifsValue) → slice_get vifs router ≡ Some own → IsValidVifTable own
 
 -- the rules of a row: those of its (S,G) entry, if it has one
@@ -121,19 +122,19 @@ IsValidRow Open = Unit {0}
 IsValidRow NoRow = Unit {0}
 
 -- there is a row for each router and each flow, as a kernel has them
-pub record AreRows (t : TopologyValue) (rows : List (List Row)) : Type 0 where
-  pub routers : length rows ≡ length t.routers
+pub record AreRows (topology : TopologyValue) (rows : List (List Row)) : Type 0 where
+  pub routers : length rows ≡ length topology.routers
   pub flows : (router : ℕ) (own : List Row) → slice_get rows router ≡ Some own
-      → length own ≡ length t.flows
+      → length own ≡ length topology.flows
   pub valid : (router : ℕ) (own : List Row) → slice_get rows router ≡ Some own
       → AllByRecursion IsValidRow own
 
 -- The rules of every domain: its topology keeps its own, there are vifs and rows for each router,
 -- and an answer for each LAN and each flow.
-pub record IsDomain (d : DomainValue) : Type 0 where
-  pub topology : IsValidTopology d.topology
-  pub vifs : AreVifs d.topology d.vifs
-  pub rows : AreRows d.topology d.rows
-  pub lans : length d.wants ≡ length d.topology.lans
-  pub flows : (lan : ℕ) (wanted : List Bool) → slice_get d.wants lan ≡ Some wanted
-      → length wanted ≡ length d.topology.flows
+pub record IsDomain (domain : DomainValue) : Type 0 where
+  pub topology : IsValidTopology domain.topology
+  pub vifs : AreVifs domain.topology domain.vifs
+  pub rows : AreRows domain.topology domain.rows
+  pub lans : length domain.wants ≡ length domain.topology.lans
+  pub flows : (lan : ℕ) (wanted : List Bool) → slice_get domain.wants lan ≡ Some wanted
+      → length wanted ≡ length domain.topology.flows

@@ -15,12 +15,12 @@ pub record FlowOfDomain : Type 0 where
 
 -- the net of the flow
 abbrev pub net_in : FlowOfDomain → Net
-net_in f = net_of f.domain f.flow
+net_in flow = net_of flow.domain flow.flow
 
 -- the domain keeps its rules, and has a flow of this number
-pub record IsFlowOfDomain (f : FlowOfDomain) : Type 0 where
-  pub domain : IsDomain f.domain
-  pub flow : f.flow < length f.domain.topology.flows
+pub record IsFlowOfDomain (flow_of_domain : FlowOfDomain) : Type 0 where
+  pub domain : IsDomain flow_of_domain.domain
+  pub flow : flow_of_domain.flow < length flow_of_domain.domain.topology.flows
 
 -- the flight of one packet through a domain, and the number of the packet's flow
 pub record FlightInDomain : Type 0 where
@@ -30,45 +30,48 @@ pub record FlightInDomain : Type 0 where
 
 -- the net of the packet's flow
 abbrev pub net_of_flight_in_domain : FlightInDomain → Net
-net_of_flight_in_domain j = net_of j.domain j.flow
+net_of_flight_in_domain flight = net_of flight.domain flight.flow
 
 -- the same domain and flow, with another flight
 abbrev pub with_flight : FlightInDomain → Flight → FlightInDomain
-with_flight j f = record { domain = j.domain; flow = j.flow; flight = f }
+with_flight flight flown = record { domain = flight.domain; flow = flight.flow; flight = flown }
 
 -- each waiting copy waits at one of the first `routers` routers
 abbrev pub WaitAtRouters : ℕ → Flight → Type 0
-WaitAtRouters routers f = (w : Waiting) → In w f.waiting → w.router < routers
+WaitAtRouters routers flight = (waiting : Waiting) → In waiting flight.waiting → waiting.router < routers
 
 -- the copy is on one of the first `lans` LANs, and one of the first `routers` routers sent it, or
 -- the source did
-pub record IsCopyInDomain (lans routers : ℕ) (c : Copy) : Type 0 where
-  pub lan : c.lan < lans
-  pub sender : IfSome c.sender (λ i. i.0 < routers)
+pub record IsCopyInDomain (lans routers : ℕ) (copy : Copy) : Type 0 where
+  pub lan : copy.lan < lans
+  pub sender : IfSome copy.sender (λ sender. sender.0 < routers)
 
 -- each carried copy is on one of the first `lans` LANs, and one of the first `routers` routers sent
 -- it, or the source did
 abbrev pub AreCopiesInDomain : ℕ → ℕ → Flight → Type 0
-AreCopiesInDomain lans routers f = (c : Copy) → In c f.carried → IsCopyInDomain lans routers c
+AreCopiesInDomain lans routers flight = (copy : Copy) → In copy flight.carried
+    → IsCopyInDomain lans routers copy
 
 -- the rules of every flight in a domain: its copies are on LANs of the domain, and were sent by its
 -- routers, or wait there
-pub record IsFlight (n : FlowOfDomain) (f : Flight) : Type 0 where
-  pub flow : IsFlowOfDomain n
-  pub routers : WaitAtRouters (length n.domain.topology.routers) f
-  pub listed : AreCopiesInDomain (length n.domain.topology.lans) (length n.domain.topology.routers) f
+pub record IsFlight (flow_of_domain : FlowOfDomain) (flight : Flight) : Type 0 where
+  pub flow : IsFlowOfDomain flow_of_domain
+  pub routers : WaitAtRouters (length flow_of_domain.domain.topology.routers) flight
+  pub listed : AreCopiesInDomain (length flow_of_domain.domain.topology.lans)
+      (length flow_of_domain.domain.topology.routers) flight
 
--- ---- travels of a flow's packet with TTL t
+-- ---- travels of a flow's packet with a TTL
 
--- These picks, by the picker's choices, are a travel of a packet with TTL t that finds x.
-abbrev pub IsFlowTravel : DomainValue → (flow t : ℕ) → Choices → (picks : List ℕ) → Finding → Type 0
-IsFlowTravel d flow t choices picks x =
-    IsTravel (net_of d flow) (length d.topology.lans) choices.numbers choices.last picks
-    (start (net_of d flow) t) x
+-- These picks, by the picker's choices, are a travel of a packet with this TTL that has the finding.
+abbrev pub IsFlowTravel : DomainValue → (flow ttl : ℕ) → Choices → (picks : List ℕ) → Finding → Type 0
+IsFlowTravel domain flow ttl choices picks finding =
+    IsTravel (net_of domain flow) (length domain.topology.lans) choices.numbers choices.last picks
+    (start (net_of domain flow) ttl) finding
 
--- Where a travel finds x, P holds of its last flight, whatever the picker chooses.
-abbrev pub OnFlowFinding : DomainValue → (flow t : ℕ) → Finding → (Flight → Type 0) → Type 0
-OnFlowFinding d flow t x P = OnFinding (net_of d flow) (length d.topology.lans) t x P
+-- Where a travel has the finding, P holds of its last flight, whatever the picker chooses.
+abbrev pub OnFlowFinding : DomainValue → (flow ttl : ℕ) → Finding → (Flight → Type 0) → Type 0
+OnFlowFinding domain flow ttl finding P = OnFinding (net_of domain flow) (length domain.topology.lans) ttl
+    finding P
 
 -- ---- how flights are stored
 
@@ -79,23 +82,23 @@ flight_of carried waiting strays = record { carried = carried; waiting = waiting
 -- a flow of a domain is stored as its fields
 abbrev pub flow_of_domain_code : Coded FlowOfDomain
 flow_of_domain_code =
-    code_by (DomainValue × ℕ) (coded× domain_code coded_ℕ) (λ f. (f.domain, f.flow))
-    (λ p. record { domain = p.0; flow = p.1 }) (λ _. refl)
+    code_by (DomainValue × ℕ) (coded× domain_code coded_ℕ) (λ flow. (flow.domain, flow.flow))
+    (λ stored. record { domain = stored.0; flow = stored.1 }) (λ _. refl)
 
 -- a carried copy is stored as its fields
 abbrev pub copy_code : Coded Copy
 copy_code =
     code_by (ℕ × (ℕ × Option Interface))
     (coded× coded_ℕ (coded× coded_ℕ (coded_option (coded× coded_ℕ coded_ℕ))))
-    (λ c. (c.lan, (c.ttl, c.sender)))
-    (λ p. record { lan = p.0; ttl = p.1.0; sender = p.1.1 }) (λ _. refl)
+    (λ copy. (copy.lan, (copy.ttl, copy.sender)))
+    (λ stored. record { lan = stored.0; ttl = stored.1.0; sender = stored.1.1 }) (λ _. refl)
 
 -- a waiting copy is stored as its fields
 abbrev pub waiting_code : Coded Waiting
 waiting_code =
     code_by (ℕ × (ℕ × ℕ)) (coded× coded_ℕ (coded× coded_ℕ coded_ℕ))
-    (λ w. (w.router, (w.vif, w.ttl)))
-    (λ p. record { router = p.0; vif = p.1.0; ttl = p.1.1 }) (λ _. refl)
+    (λ waiting. (waiting.router, (waiting.vif, waiting.ttl)))
+    (λ stored. record { router = stored.0; vif = stored.1.0; ttl = stored.1.1 }) (λ _. refl)
 
 -- a flight is stored as its fields
 abbrev pub flight_code : Coded Flight
@@ -103,23 +106,24 @@ flight_code =
     code_by (List Copy × (List Waiting × List Interface))
     (coded× (coded_list copy_code)
     (coded× (coded_list waiting_code) (coded_list (coded× coded_ℕ coded_ℕ))))
-    (λ f. (f.carried, (f.waiting, f.strays))) (λ p. flight_of p.0 p.1.0 p.1.1) (λ _. refl)
+    (λ flight. (flight.carried, (flight.waiting, flight.strays)))
+    (λ stored. flight_of stored.0 stored.1.0 stored.1.1) (λ _. refl)
 
 -- a flight in a domain is stored as its fields
 abbrev pub flight_in_domain_code : Coded FlightInDomain
 flight_in_domain_code =
     code_by (DomainValue × (ℕ × Flight)) (coded× domain_code (coded× coded_ℕ flight_code))
-    (λ j. (j.domain, (j.flow, j.flight)))
-    (λ p. record { domain = p.0; flow = p.1.0; flight = p.1.1 }) (λ _. refl)
+    (λ flight. (flight.domain, (flight.flow, flight.flight)))
+    (λ stored. record { domain = stored.0; flow = stored.1.0; flight = stored.1.1 }) (λ _. refl)
 
--- flight g with only as many carried copies, waiting copies and strays as flight f has, from the
--- front
+-- the later flight with only as many carried copies, waiting copies and strays as the earlier one has, from
+-- the front
 abbrev pub cut_to_lengths : Flight → Flight → Flight
-cut_to_lengths f g = flight_of
-    (take (length f.carried) g.carried)
-    (take (length f.waiting) g.waiting)
-    (take (length f.strays) g.strays)
+cut_to_lengths earlier later = flight_of
+    (take (length earlier.carried) later.carried)
+    (take (length earlier.waiting) later.waiting)
+    (take (length earlier.strays) later.strays)
 
--- each list of flight g begins with that of flight f
+-- each list of the later flight begins with that of the earlier one
 abbrev pub Extends : Flight → Flight → Type 0
-Extends f g = cut_to_lengths f g ≡ f
+Extends earlier later = cut_to_lengths earlier later ≡ earlier

@@ -10,7 +10,7 @@ use Rattle.mc_forward.specs.Domains.{TablesValue, DomainValue, net_of, vif_of}
 
 -- the source and the group of each flow
 abbrev pub flow_pairs : List Flow → List (ℕ × ℕ)
-flow_pairs flows = map (λ f. (f.source, f.group)) flows
+flow_pairs flows = map (λ flow. (flow.source, flow.group)) flows
 
 -- The part has all vifs of the whole tables, and of the cache what the flows need.
 pub record IsListedPartOfTables (flows : List Flow) (part whole : TablesValue) : Type 0 where
@@ -31,4 +31,4 @@ pub record DomainFacts : Type 0 where
 
 -- the facts of a domain
 abbrev pub facts : DomainValue → DomainFacts
-facts d = record { topology = d.topology; nets = net_of d; vifs = vif_of d.vifs }
+facts domain = record { topology = domain.topology; nets = net_of domain; vifs = vif_of domain.vifs }

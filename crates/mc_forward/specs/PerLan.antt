@@ -11,12 +11,12 @@ flatten_option (Some o) = o
 abbrev pub item_on_lan : {A : Type 0} → List (Option A) → ℕ → Option A
 item_on_lan places lan = flatten_option (slice_get places lan)
 
--- the first item whose key is n, if there is one
+-- the first item whose key is this number, if there is one
 abbrev pub first_with_key : {A : Type 0} → (A → ℕ) → List A → ℕ → Option A
-first_with_key key [] n = None
-first_with_key key (x ∷ xs) n = if key x == n then Some x else first_with_key key xs n
+first_with_key key [] number = None
+first_with_key key (x ∷ xs) number = if key x == number then Some x else first_with_key key xs number
 
 -- each place holds the first item whose key is the place's number, if there is one, and no key is a
 -- number past the last place
 abbrev pub HoldsFirstOfEachKey : {A : Type 0} → (A → ℕ) → List (Option A) → List A → Type 0
-HoldsFirstOfEachKey key places xs = (n : ℕ) → item_on_lan places n ≡ first_with_key key xs n
+HoldsFirstOfEachKey key places xs = (number : ℕ) → item_on_lan places number ≡ first_with_key key xs number

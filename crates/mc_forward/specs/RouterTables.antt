@@ -42,14 +42,14 @@ pub record AreRouterTables (kept : RouterTablesValue) : Type 0 where
   pub rows : AllByRecursion (HaveRows kept.flows) kept.rows
 
 -- what is kept is of as many routers and flows as the topology has
-pub record AreTablesFor (t : TopologyValue) (kept : RouterTablesValue) : Type 0 where
-  pub routers : length kept.vifs ≡ length t.routers
-  pub flows : kept.flows ≡ length t.flows
+pub record AreTablesFor (topology : TopologyValue) (kept : RouterTablesValue) : Type 0 where
+  pub routers : length kept.vifs ≡ length topology.routers
+  pub flows : kept.flows ≡ length topology.flows
 
 -- what is kept is stored as its fields
 abbrev pub router_tables_code : Coded RouterTablesValue
 router_tables_code =
     code_by (ℕ × (List VifsValue × List (List Row)))
     (coded× coded_ℕ (coded× (coded_list vifs_code) (coded_list (coded_list row_code))))
-    (λ k. (k.flows, (k.vifs, k.rows)))
-    (λ p. router_tables_with p.0 p.1.0 p.1.1) (λ _. refl)
+    (λ tables. (tables.flows, (tables.vifs, tables.rows)))
+    (λ stored. router_tables_with stored.0 stored.1.0 stored.1.1) (λ _. refl)

@@ -23,5 +23,5 @@ HasValidEntry NoRow = Unit {0}
 -- each of these rows is that of the router with its number, and its (S,G) entry, if it has one, one
 -- that a kernel may have
 abbrev pub AreRowsOf : Net → List RowFor → Type 0
-AreRowsOf n rows = (r : ℕ) (row : RowFor) → slice_get rows r ≡ Some row
-    → (row_value row ≡ n.row r) × HasValidEntry row
+AreRowsOf net rows = (router : ℕ) (row : RowFor) → slice_get rows router ≡ Some row
+    → (row_value row ≡ net.row router) × HasValidEntry row

@@ -7,13 +7,13 @@ use Rattle.mc_forward.specs.declared.unplaced.UnplacedReason.TheVariants.{NoDevi
 
 -- why a vif that has a line in its router's table is placed on no LAN
 abbrev pub reason_of_line : VifValue → UnplacedReason
-reason_of_line v =
-    if v.register then RegisterVif
-    else if v.tunnel then Tunnel
-    else if not (has_device v) then NoDevice
+reason_of_line vif =
+    if vif.register then RegisterVif
+    else if vif.tunnel then Tunnel
+    else if not (has_device vif) then NoDevice
     else OnNoLan
 
 -- why a vif is placed on no LAN, by its line in the router's table, if it has one
 abbrev pub unplaced_reason : Option VifValue → UnplacedReason
 unplaced_reason None = NoVifLine
-unplaced_reason (Some v) = reason_of_line v
+unplaced_reason (Some vif) = reason_of_line vif

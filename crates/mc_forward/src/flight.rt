@@ -115,9 +115,9 @@ impl<'d> Flight<'d> {
     pub fn copies(&self) -> &[CarriedCopy]
         ensures copies { result.now ≡ self.now.flight.carried }
         // Each is on a LAN of the topology, and one of its routers sent it if not the source.
-        ensures lans { All (λ c. c.lan < length self.now.domain.topology.lans) result.now }
-        ensures senders { All (λ c. IfSome c.sender (λ i.
-            i.0 < length self.now.domain.topology.routers)) result.now }
+        ensures lans { All (λ copy. copy.lan < length self.now.domain.topology.lans) result.now }
+        ensures senders { All (λ copy. IfSome copy.sender (λ interface.
+            interface.0 < length self.now.domain.topology.routers)) result.now }
     {
         self.copies.carried()
     }

@@ -10,7 +10,7 @@ ghost use Rattle.mc_igmp.specs.ReadingList.{read_list};
 
 /// Bytes are read as a message exactly if they are that message. So bytes are at most one message.
 pub fn messages_are_read_exactly()
-    ensures { (bytes : List ℕ) (message : Message) → ((i : ℕ) → slice_index bytes i < 256) →
+    ensures { (bytes : List ℕ) (message : Message) → ((index : ℕ) → slice_index bytes index < 256) →
         ((read_message bytes ≡ Ok message) ↔ IsMessage bytes message) }
 {}
 

@@ -33,7 +33,7 @@ fn join_line<'a>(begun: &'a mut Vec<u8>, bytes: &'a [u8]) -> Result<&'a [u8], Al
 fn line_feed_after_digits(digits: usize, text: &[u8]) -> Option<usize>
     requires within { digits ≤ length text.now }
     requires digits { list_all is_hex_digit (take digits text.now) ≡ true }
-    ensures value { result ≡ position (λ b. b == 10) text.now }
+    ensures value { result ≡ position (λ byte. byte == 10) text.now }
 {
     let place = find_byte(b'\n', &text[digits..])?;
     Some(digits + place)
@@ -73,7 +73,7 @@ impl LineReader {
     /// The place where the line ends, if it does. Its digits are decoded on the way, so that they aren't
     /// searched for the line's end.
     fn find_line_end(&mut self, rest: &[u8]) -> Option<usize>
-        ensures end { result ≡ position (λ b. b == 10) rest.now }
+        ensures end { result ≡ position (λ byte. byte == 10) rest.now }
         ensures ahead { IfSome result (λ end. IsDecodedAhead
             (self.new.begun.items ++ take end rest.now) self.new.message.items self.new.decoded) }
         ensures begun { self.new.begun ≡ self.old.begun }

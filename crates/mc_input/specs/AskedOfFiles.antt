@@ -27,12 +27,12 @@ pub record UnansweredWantsValue : Type 0 where
 -- This is what the files' hosts ask for and no flow answers. With `all` each want is shown, and otherwise the
 -- lowest; wants of the `ignored` ranges of groups are left out. What a router has for a want of any source is
 -- by entries for sources that the filter of at least one of the want's LANs admits.
-pub record IsAskedOf (all : Bool) (ignored : List (ℕ × ℕ)) (files : List FileText) (d : DomainValue)
-    (a : UnansweredWantsValue) : Type 0 where
+pub record IsAskedOf (all : Bool) (ignored : List (ℕ × ℕ)) (files : List FileText) (domain : DomainValue)
+    (asked : UnansweredWantsValue) : Type 0 where
   pub wants : List LanWantsValue
-  pub of : AreWantsOf all ignored files d.topology wants
-  pub lines : a.lines ≡ asked_lines all wants
-  pub count : a.count ≡ count_wants wants
-  pub further : a.further ≡ further_wants all wants
-  pub services : a.services ≡ service_lines wants
-  pub states : AreStatesOf files (map (with_unadmitted of.lists) a.lines) d a.states
+  pub of : AreWantsOf all ignored files domain.topology wants
+  pub lines : asked.lines ≡ asked_lines all wants
+  pub count : asked.count ≡ count_wants wants
+  pub further : asked.further ≡ further_wants all wants
+  pub services : asked.services ≡ service_lines wants
+  pub states : AreStatesOf files (map (with_unadmitted of.lists) asked.lines) domain asked.states

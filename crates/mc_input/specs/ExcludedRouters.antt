@@ -65,69 +65,70 @@ files_without names files = files_with_exclusions (names_of names) files
 
 -- Each of the names is that of a router.
 abbrev pub AreRouterNames : TopologyValue → (names : List (List ℕ)) → Type 0
-AreRouterNames t names = AllByRecursion (λ name. IsTrue (has_router name t.routers)) names
+AreRouterNames topology names = AllByRecursion (λ name. IsTrue (has_router name topology.routers)) names
 
 -- The first of the names that no router has is refused by its place, where the first name has place n. A
 -- place past the greatest u32 is reported as that.
-abbrev pub check_router_names : TopologyValue → (n : ℕ) → List (List ℕ) → Result (Unit {0}) ExclusionFault
-check_router_names t n [] = Ok tt
-check_router_names t n (name ∷ names) =
-    if has_router name t.routers then check_router_names t (n + 1) names
-    else Err (NoSuchRouter (min n 4294967295))
+abbrev pub check_router_names : TopologyValue → (number : ℕ) → List (List ℕ)
+    → Result (Unit {0}) ExclusionFault
+check_router_names topology number [] = Ok tt
+check_router_names topology number (name ∷ names) =
+    if has_router name topology.routers then check_router_names topology (number + 1) names
+    else Err (NoSuchRouter (min number 4294967295))
 
 -- whether there is a router and it has one of the names
 abbrev pub has_name_among : (names : List (List ℕ)) → Option RouterRow → Bool
 has_name_among names None = false
-has_name_among names (Some r) = list_any (λ name. bytes_eq name r.name) names
+has_name_among names (Some row) = list_any (λ name. bytes_eq name row.name) names
 
 -- whether the router with this number is excluded by its name
 abbrev pub is_excluded : TopologyValue → (names : List (List ℕ)) → (router : ℕ) → Bool
-is_excluded t names router = has_name_among names (slice_get t.routers router)
+is_excluded topology names router = has_name_among names (slice_get topology.routers router)
 
 -- The router with this number has one of the names.
 abbrev pub HasExcludedName : (names : List (List ℕ)) → TopologyValue → (router : ℕ) → Type 0
-HasExcludedName names t router =
+HasExcludedName names topology router =
     (name : List ℕ) × Contains names name
-    × (option_map (λ r. r.name) (slice_get t.routers router) ≡ Some name)
+    × (option_map (λ row. row.name) (slice_get topology.routers router) ≡ Some name)
 
 -- ---- the input without the excluded routers
 
 -- the input of this topology and of the other files, with the routers of these names excluded
 abbrev pub input_of_other_files : TopologyValue → (names : List (List ℕ)) → List FileText
     → Result InputValue SourceFault
-input_of_other_files t names files =
-    read_tables_and_reports Input (part_from_file (files_with_exclusions names files)) t
+input_of_other_files topology names files =
+    read_tables_and_reports Input (part_from_file (files_with_exclusions names files)) topology
 
 -- The input of a folder's files with the routers of these names excluded, or the first fault: that of the
 -- topology, that of the names, and then that of the other files.
 abbrev pub input_of_files_without : (names : List (List ℕ)) → List FileText → Result InputValue ExclusionFault
 input_of_files_without names files =
     map_fault Source (topology_of_files files)
-    >>= λ t. check_router_names t 1 names
+    >>= λ topology. check_router_names topology 1 names
     >>= λ _. map_fault Source (input_of_files (files_with_exclusions names files))
 
 -- The source failed or memory ran out, which says nothing about the files.
 abbrev pub IsReadOrMemoryWithout : ExclusionFault → Type 0
 IsReadOrMemoryWithout (Source fault) = IsReadOrMemory fault
-IsReadOrMemoryWithout (NoSuchRouter n) = ⊥
+IsReadOrMemoryWithout (NoSuchRouter number) = ⊥
 
 -- whether the fault is that the source failed, which the source counts
 abbrev pub is_read_without : ExclusionFault → Bool
 is_read_without (Source fault) = is_read fault
-is_read_without (NoSuchRouter n) = false
+is_read_without (NoSuchRouter number) = false
 
 -- whether a folder's files can have this fault when routers are excluded
 abbrev pub is_possible_for_files_without : ExclusionFault → Bool
 is_possible_for_files_without (Source fault) = is_possible_for_files fault
-is_possible_for_files_without (NoSuchRouter n) = true
+is_possible_for_files_without (NoSuchRouter number) = true
 
 -- ---- what is known of an excluded router
 
 -- The router has no vif, so that none is placed on a LAN, and no row for any flow.
-pub record HasNoVifOrRow (d : DomainValue) (router : ℕ) : Type 0 where
-  pub vifs : (vif : ℕ) → vif_of d.vifs router vif ≡ None
-  pub placed : (vif : ℕ) → placed_of d router vif ≡ None
-  pub rows : (flow : ℕ) → row_of d flow router ≡ NoRow
+pub record HasNoVifOrRow (domain : DomainValue) (router : ℕ) : Type 0 where
+  pub vifs : (vif : ℕ) → vif_of domain.vifs router vif ≡ None
+  pub placed : (vif : ℕ) → placed_of domain router vif ≡ None
+  pub rows : (flow : ℕ) → row_of domain flow router ≡ NoRow
 
 -- For each flow the domain `part` is the domain `whole` without the routers of these names.
 abbrev pub ExcludesRoutersPerFlow : (names : List (List ℕ)) → (part whole : DomainValue) → Type 0

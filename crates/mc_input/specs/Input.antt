@@ -22,11 +22,11 @@ pub record InputValue : Type 0 where
 
 -- The parts `vif/<router>` and `cache/<router>` denote the router's tables, with the addresses in the
 -- router's byte order.
-pub record DenotesTables (r : RouterRow) (vif cache : PartText) (t : TablesValue) : Type 0 where
-  pub vif_named : vif.name ≡ part_name (vif_slot r.name)
-  pub vifs : DenotesVifs vif.bytes t.vifs
-  pub cache_named : cache.name ≡ part_name (cache_slot r.name)
-  pub entries : DenotesCache r.order cache.bytes t.cache
+pub record DenotesTables (row : RouterRow) (vif cache : PartText) (tables : TablesValue) : Type 0 where
+  pub vif_named : vif.name ≡ part_name (vif_slot row.name)
+  pub vifs : DenotesVifs vif.bytes tables.vifs
+  pub cache_named : cache.name ≡ part_name (cache_slot row.name)
+  pub entries : DenotesCache row.order cache.bytes tables.cache
 
 -- The part `igmp/<lan>` denotes the records of the LAN's reports.
 pub record DenotesReports (lan : List ℕ) (part : PartText) (records : List Record) : Type 0 where
@@ -37,8 +37,8 @@ pub record DenotesReports (lan : List ℕ) (part : PartText) (records : List Rec
 -- these.
 abbrev pub PartsDenoteTables : List RouterRow → List PartText → List TablesValue → List PartText → Type 0
 PartsDenoteTables [] parts [] rest = parts ≡ rest
-PartsDenoteTables (r ∷ rs) (vif ∷ cache ∷ parts) (t ∷ ts) rest =
-    DenotesTables r vif cache t × PartsDenoteTables rs parts ts rest
+PartsDenoteTables (row ∷ rows) (vif ∷ cache ∷ parts) (tables ∷ ts) rest =
+    DenotesTables row vif cache tables × PartsDenoteTables rows parts ts rest
 PartsDenoteTables _ _ _ _ = ⊥
 
 -- The parts begin with one for each LAN, in order, which denotes its reports; `rest` are the parts after

@@ -26,24 +26,24 @@ Gives = Steps.Gives IsMemory
 
 -- the part, if there is one and it has this name; otherwise the fault of its place, counted from 1, where n
 -- counts from 0
-abbrev pub named : Option PartText → (name : List ℕ) → (n : ℕ) → Result PartText InputFault
-named None name n = Err (Parts (n + 1))
-named (Some part) name n = if bytes_eq part.name name then Ok part else Err (Parts (n + 1))
+abbrev pub named : Option PartText → (name : List ℕ) → (number : ℕ) → Result PartText InputFault
+named None name number = Err (Parts (number + 1))
+named (Some part) name number = if bytes_eq part.name name then Ok part else Err (Parts (number + 1))
 
--- the part with number n, from 0, if it has the name of the slot
+-- the part with this number, from 0, if it has the name of the slot
 abbrev pub part_with_slot_name : List PartText → ℕ → Slot → Result PartText InputFault
-part_with_slot_name parts n slot = named (slice_get parts n) (part_name slot) n
+part_with_slot_name parts number slot = named (slice_get parts number) (part_name slot) number
 
 -- the fault of the first part that isn't as the domain's slots say, if there is one, by its place, counted
 -- from 1
 abbrev pub part_name_fault : Option ℕ → Result (Unit {0}) InputFault
 part_name_fault None = Ok tt
-part_name_fault (Some n) = Err (Parts (n + 1))
+part_name_fault (Some number) = Err (Parts (number + 1))
 
 -- the check that the parts are those of the domain's slots, by their names and their number
 abbrev pub check_part_names : (certified : Bool) → List PartText → TopologyValue
     → Result (Unit {0}) InputFault
-check_part_names certified parts t = part_name_fault (first_part_mismatch certified t parts)
+check_part_names certified parts topology = part_name_fault (first_part_mismatch certified topology parts)
 
 -- the input of the parts, where `certified` says whether one of them is to be a certificate
 abbrev pub input_of_parts : Bool → List PartText → Result InputValue InputFault
@@ -52,12 +52,12 @@ input_of_parts certified parts =
 
 -- the part with this number, from 0; past the last one a part without a name and a text
 abbrev pub part_at : List PartText → ℕ → PartText
-part_at parts n = unwrap_or (slice_get parts n) (record { name = []; bytes = [] })
+part_at parts number = unwrap_or (slice_get parts number) (record { name = []; bytes = [] })
 
 -- the text of the certificate, if there is to be one: that of the part after those of the other slots
 abbrev pub certificate_in : Bool → List PartText → TopologyValue → Option (List ℕ)
-certificate_in true parts t = Some (part_at parts (length (slots false t))).bytes
-certificate_in false parts t = None
+certificate_in true parts topology = Some (part_at parts (length (slots false topology))).bytes
+certificate_in false parts topology = None
 
 -- the input of a bundle, where `certified` says whether it is to have a certificate
 unfoldable pub input_of_bundle : Bool → List ℕ → Result InputValue InputFault

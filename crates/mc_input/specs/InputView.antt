@@ -8,7 +8,7 @@ use Rattle.mc_input.specs.Input.{InputValue}
 
 -- the input of a topology, its routers' tables and its LANs' reports
 abbrev pub input_with : TopologyValue → List TablesValue → List (List Record) → InputValue
-input_with t tables reports = record { topology = t; tables = tables; reports = reports }
+input_with topology tables reports = record { topology = topology; tables = tables; reports = reports }
 
 -- the text of the certificate, if there is one
 abbrev pub certificate_text : Option (Vec ℕ Global) → Option (List ℕ)

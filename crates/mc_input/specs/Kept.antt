@@ -24,7 +24,7 @@ AreFlowPairs flows pairs = AreSamePairs pairs (flow_pairs flows)
 
 -- The answers say of each LAN and each flow whether the LAN's reports want the flow.
 abbrev pub AreWantedBy : TopologyValue → List (List Record) → List (List Bool) → Type 0
-AreWantedBy t reports wants = Pairwise (AreWanted t.flows) reports wants
+AreWantedBy topology reports wants = Pairwise (AreWanted topology.flows) reports wants
 
 -- This is what is kept of an input: the routers' vifs, their rows for the flows, and which LAN wants which
 -- flow.
@@ -37,11 +37,11 @@ pub record AreKeptContents (input : InputValue) (t : TopologyValue) (vifs : List
 
 -- The vifs and rows of `tables`, and `wants`, are what is kept of the input.
 abbrev pub AreContentsOf : TopologyValue → RouterTablesValue → List (List Bool) → InputValue → Type 0
-AreContentsOf t tables wants input = AreKeptContents input t tables.vifs tables.rows wants
+AreContentsOf topology tables wants input = AreKeptContents input topology tables.vifs tables.rows wants
 
 -- The domain consists of what is kept of the input.
 abbrev pub IsDomainOf : DomainValue → InputValue → Type 0
-IsDomainOf d input = AreKeptContents input d.topology d.vifs d.rows d.wants
+IsDomainOf domain input = AreKeptContents input domain.topology domain.vifs domain.rows domain.wants
 
 -- Where the call gives a value, that is what is kept of the value that the step gives. Where the call gives a
 -- fault, the step gives the same, unless the source failed or memory ran out.

@@ -21,19 +21,20 @@ pub record IsListOf (files : List FileText) (lan : List ℕ) (records : List Rec
   pub read : read_list part.bytes ≡ Ok records
 
 -- There is one such list for each LAN, in the topology's order.
-pub record AreListsOf (files : List FileText) (t : TopologyValue) (lists : List (List Record)) : Type 0 where
-  pub count : length lists ≡ length t.lans
-  pub each : RelatedAtEachIndex (IsListOf files) t.lans lists
+pub record AreListsOf (files : List FileText) (topology : TopologyValue)
+    (lists : List (List Record)) : Type 0 where
+  pub count : length lists ≡ length topology.lans
+  pub each : RelatedAtEachIndex (IsListOf files) topology.lans lists
 
 -- What answers wants: the topology's flows and sources. Wants of the `ignored` ranges of groups are left out.
 abbrev pub answers_of : TopologyValue → (ignored : List (ℕ × ℕ)) → AnswersValue
-answers_of t ignored =
-    record { flows = flow_pairs t.flows; sources = source_pairs t.sources; ignored = ignored }
+answers_of topology ignored =
+    record { flows = flow_pairs topology.flows; sources = source_pairs topology.sources; ignored = ignored }
 
 -- This is kept, LAN by LAN, of what the lists ask for: with `all` each want that no flow answers, and
 -- otherwise the lowest ones of each LAN.
-pub record AreWantsOf (all : Bool) (ignored : List (ℕ × ℕ)) (files : List FileText) (t : TopologyValue)
-    (wants : List LanWantsValue) : Type 0 where
+pub record AreWantsOf (all : Bool) (ignored : List (ℕ × ℕ)) (files : List FileText)
+    (topology : TopologyValue) (wants : List LanWantsValue) : Type 0 where
   pub lists : List (List Record)
-  pub of : AreListsOf files t lists
-  pub kept : wants ≡ lan_wants_from all (answers_of t ignored) 0 lists
+  pub of : AreListsOf files topology lists
+  pub kept : wants ≡ lan_wants_from all (answers_of topology ignored) 0 lists

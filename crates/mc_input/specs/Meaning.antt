@@ -8,20 +8,20 @@ use Rattle.mc_input.specs.FilesInput.{FilesDenoteInput}
 use Rattle.mc_input.specs.Input.{InputValue, DenotesInput}
 
 -- x denotes an input, and the domain is assembled from that. It keeps the rules of every domain.
-pub record Means {X : Type 0} (Denotes : X → InputValue → Type 0) (x : X) (d : DomainValue) : Type 0
+pub record Means {X : Type 0} (Denotes : X → InputValue → Type 0) (x : X) (domain : DomainValue) : Type 0
   where
     pub input : InputValue
     pub denotes : Denotes x input
-    pub assembled : IsAssembled input.topology input.tables input.reports d
-    pub rules : IsDomain d
+    pub assembled : IsAssembled input.topology input.tables input.reports domain
+    pub rules : IsDomain domain
 
 -- The bundle means the domain, and has this text of a certificate, or none.
 abbrev pub MeansDomain : List ℕ → (certificate : Option (List ℕ)) → DomainValue → Type 0
-MeansDomain text certificate d = Means (λ t input. DenotesInput t input certificate) text d
+MeansDomain text certificate domain = Means (λ t input. DenotesInput t input certificate) text domain
 
 -- The bundle means the domain, and has no certificate.
 abbrev pub MeansUncertifiedDomain : List ℕ → DomainValue → Type 0
-MeansUncertifiedDomain text d = MeansDomain text None d
+MeansUncertifiedDomain text domain = MeansDomain text None domain
 
 -- The files mean the domain.
 abbrev pub FilesMeanDomain : List FileText → DomainValue → Type 0

@@ -23,21 +23,21 @@ use Rattle.mc_input.specs.declared.source_fault.SourceFault.TheVariants.{Input}
 
 -- ---- the parts from one slot on
 
--- the check that the parts have the names of these slots, of which the first has number n, and that there are
--- as many
+-- the check that the parts have the names of these slots, of which the first has this number, and that there
+-- are as many
 abbrev pub check_names_from : ℕ → List Slot → List PartText → Result (Unit {0}) InputFault
-check_names_from n [] [] = Ok tt
-check_names_from n [] (part ∷ parts) = Err (Parts (n + 1))
-check_names_from n (slot ∷ others) [] = Err (Parts (n + 1))
-check_names_from n (slot ∷ others) (part ∷ parts) =
-    if bytes_eq part.name (part_name slot) then check_names_from (n + 1) others parts
-    else Err (Parts (n + 1))
+check_names_from number [] [] = Ok tt
+check_names_from number [] (part ∷ parts) = Err (Parts (number + 1))
+check_names_from number (slot ∷ others) [] = Err (Parts (number + 1))
+check_names_from number (slot ∷ others) (part ∷ parts) =
+    if bytes_eq part.name (part_name slot) then check_names_from (number + 1) others parts
+    else Err (Parts (number + 1))
 
--- the result of reading the parts from the slot with number n on, after their names are checked
+-- the result of reading the parts from the slot with this number on, after their names are checked
 abbrev pub check_names_then : {X : Type 0} → Bool → TopologyValue → ℕ → (List PartText → Result X InputFault)
     → List PartText → Result X InputFault
-check_names_then certified t n read parts =
-    check_names_from n (drop n (slots certified t)) parts >>= λ _. read parts
+check_names_then certified topology number read parts =
+    check_names_from number (drop number (slots certified topology)) parts >>= λ _. read parts
 
 -- ---- all parts
 
@@ -47,7 +47,7 @@ InputAndCertificate = InputValue × Option (List ℕ)
 
 -- the number of the certificate's slot, which comes after those of the LANs
 abbrev pub certificate_number : TopologyValue → ℕ
-certificate_number t = first_lan_number t + length t.lans
+certificate_number topology = first_lan_number topology + length topology.lans
 
 -- the topology, from the first part
 abbrev pub read_first_topology : List PartText → Result TopologyValue InputFault
@@ -56,7 +56,7 @@ read_first_topology parts = named (slice_get parts 0) (part_name topology_slot) 
 -- the input and the certificate, from all parts
 abbrev pub read_all_parts : (certified : Bool) → List PartText → Result InputAndCertificate InputFault
 read_all_parts certified parts =
-    input_of_parts certified parts >>= λ v. Ok (v, certificate_in certified parts v.topology)
+    input_of_parts certified parts >>= λ input. Ok (input, certificate_in certified parts input.topology)
 
 -- ---- from a state of the reading on
 
@@ -74,8 +74,8 @@ IsFaultOf state read fault =
 
 -- The name is that of the slot with number n.
 abbrev pub HasNameOfSlot : (certified : Bool) → TopologyValue → ℕ → List ℕ → Type 0
-HasNameOfSlot certified t n name =
-    (slot : Slot) × (slice_get (slots certified t) n ≡ Some slot) × (name ≡ part_name slot)
+HasNameOfSlot certified topology number name =
+    (slot : Slot) × (slice_get (slots certified topology) number ≡ Some slot) × (name ≡ part_name slot)
 
 -- The result is what is kept of the part's value, or the part's fault. If memory ran out, nothing is known of
 -- the part.
@@ -89,6 +89,6 @@ IsPartResult Keeps (Err fault) read = read ≡ Err fault
 -- All parts were read: the domain consists of what is kept of the input, and the certificate has this text.
 abbrev pub ReadsDomain : PartsState → List ℕ → (certified : Bool) → DomainValue → Option (List ℕ)
     → Type 0
-ReadsDomain state text certified d certificate =
-    (input : InputValue) × IsDomainOf d input
+ReadsDomain state text certified domain certificate =
+    (input : InputValue) × IsDomainOf domain input
     × (read_rest state text (read_all_parts certified) ≡ Ok (input, certificate))

@@ -49,39 +49,39 @@ read_part as_ours given read = given >>= λ part. map_fault as_ours (read part)
 
 -- ---- all parts: `source` gives the part of a slot, by the slot and its number
 
--- the tables of a router with this name and byte order, whose slots have the numbers n and n + 1
+-- the tables of a router with this name and byte order, whose slots have this number and the next one
 unfoldable pub router_tables : {F : Type 0} → (InputFault → F) → (ℕ → Slot → Result PartText F)
     → ℕ → (name : List ℕ) → Order → Result TablesValue F
-router_tables as_ours source n name order =
-    read_part as_ours (source n (vif_slot name)) vifs_of
-    >>= λ vifs. read_part as_ours (source (n + 1) (cache_slot name)) (cache_of order)
+router_tables as_ours source number name order =
+    read_part as_ours (source number (vif_slot name)) vifs_of
+    >>= λ vifs. read_part as_ours (source (number + 1) (cache_slot name)) (cache_of order)
     >>= λ entries. Ok (record { vifs = vifs; cache = entries })
 
--- the tables of these routers, whose slots have the numbers from n on
+-- the tables of these routers, whose slots have the numbers from this one on
 unfoldable pub all_tables : {F : Type 0} → (InputFault → F) → (ℕ → Slot → Result PartText F)
     → ℕ → List RouterRow → Result (List TablesValue) F
-all_tables as_ours source n [] = Ok []
-all_tables as_ours source n (r ∷ rs) =
-    router_tables as_ours source n r.name r.order
-    >>= λ tables. all_tables as_ours source (n + 2) rs
+all_tables as_ours source number [] = Ok []
+all_tables as_ours source number (row ∷ rows) =
+    router_tables as_ours source number row.name row.order
+    >>= λ tables. all_tables as_ours source (number + 2) rows
     >>= λ others. Ok (tables ∷ others)
 
--- the records of the reports of these LANs, whose slots have the numbers from n on
+-- the records of the reports of these LANs, whose slots have the numbers from this one on
 unfoldable pub all_reports : {F : Type 0} → (InputFault → F) → (ℕ → Slot → Result PartText F)
     → ℕ → List (List ℕ) → Result (List (List Record)) F
-all_reports as_ours source n [] = Ok []
-all_reports as_ours source n (lan ∷ lans) =
-    read_part as_ours (source n (reports_slot lan)) reports_of
-    >>= λ records. all_reports as_ours source (n + 1) lans
+all_reports as_ours source number [] = Ok []
+all_reports as_ours source number (lan ∷ lans) =
+    read_part as_ours (source number (reports_slot lan)) reports_of
+    >>= λ records. all_reports as_ours source (number + 1) lans
     >>= λ others. Ok (records ∷ others)
 
 -- the input of this topology, with the tables and the reports that the source gives
 unfoldable pub read_tables_and_reports : {F : Type 0} → (InputFault → F) → (ℕ → Slot → Result PartText F)
     → TopologyValue → Result InputValue F
-read_tables_and_reports as_ours source t =
-    all_tables as_ours source 1 t.routers
-    >>= λ tables. all_reports as_ours source (first_lan_number t) t.lans
-    >>= λ reports. Ok (record { topology = t; tables = tables; reports = reports })
+read_tables_and_reports as_ours source topology =
+    all_tables as_ours source 1 topology.routers
+    >>= λ tables. all_reports as_ours source (first_lan_number topology) topology.lans
+    >>= λ reports. Ok (record { topology = topology; tables = tables; reports = reports })
 
 -- The input, where `source` gives the part of a slot, `judge` checks with the topology which parts there are,
 -- and `as_ours` makes a part's fault one of the caller's.
@@ -89,5 +89,5 @@ unfoldable pub read_input : {F : Type 0} → (InputFault → F) → (ℕ → Slo
     → (TopologyValue → Result (Unit {0}) F) → Result InputValue F
 read_input as_ours source judge =
     read_part as_ours (source 0 topology_slot) topology_of
-    >>= λ t. judge t
-    >>= λ _. read_tables_and_reports as_ours source t
+    >>= λ tables. judge tables
+    >>= λ _. read_tables_and_reports as_ours source tables

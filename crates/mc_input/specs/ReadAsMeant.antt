@@ -10,7 +10,7 @@ use Rattle.mc_input.specs.declared.exclusion_fault.ExclusionFault.{ExclusionFaul
 
 -- The files mean the domain, with the routers of these names excluded.
 abbrev pub FilesMeanDomainWithout : (names : List (List ℕ)) → List FileText → DomainValue → Type 0
-FilesMeanDomainWithout names files d = FilesMeanDomain (files_with_exclusions names files) d
+FilesMeanDomainWithout names files domain = FilesMeanDomain (files_with_exclusions names files) domain
 
 -- A bundle that means a domain, with a text of a certificate where `certified` asks for one and otherwise
 -- without, is read as that domain and that text, unless the input failed or memory ran out.

@@ -42,10 +42,10 @@ judged_file files slot read = record { name = file_name slot; fault = file_fault
 
 -- the files of a router's two tables; none if the router is excluded
 abbrev pub judged_tables : (names : List (List ℕ)) → List FileText → RouterRow → List JudgedFile
-judged_tables names files r =
-    if list_any (λ name. bytes_eq name r.name) names then []
-    else judged_file files (vif_slot r.name) vifs_of
-    ∷ judged_file files (cache_slot r.name) (cache_of r.order) ∷ []
+judged_tables names files row =
+    if list_any (λ name. bytes_eq name row.name) names then []
+    else judged_file files (vif_slot row.name) vifs_of
+    ∷ judged_file files (cache_slot row.name) (cache_of row.order) ∷ []
 
 -- the file of a LAN's reports
 abbrev pub judged_reports : List FileText → (lan : List ℕ) → JudgedFile
@@ -53,11 +53,11 @@ judged_reports files lan = judged_file files (reports_slot lan) reports_of
 
 -- the files of the tables of all routers that aren't excluded
 abbrev pub judged_routers : (names : List (List ℕ)) → TopologyValue → List FileText → List JudgedFile
-judged_routers names t files = flat_map (judged_tables names files) t.routers
+judged_routers names topology files = flat_map (judged_tables names files) topology.routers
 
 -- the files of all LANs' reports
 abbrev pub judged_lans : TopologyValue → List FileText → List JudgedFile
-judged_lans t files = map (judged_reports files) t.lans
+judged_lans topology files = map (judged_reports files) topology.lans
 
 -- all files that a topology names, or the topology's own alone if that is refused
 abbrev pub judged_with_topology : (names : List (List ℕ)) → List FileText → Result TopologyValue SourceFault
@@ -68,7 +68,7 @@ judged_with_topology names files (Ok t) = judged_routers names t files ++ judged
 
 -- all files that this topology names
 abbrev pub judged_files_of : (names : List (List ℕ)) → TopologyValue → List FileText → List JudgedFile
-judged_files_of names t files = judged_with_topology names files (Ok t)
+judged_files_of names topology files = judged_with_topology names files (Ok topology)
 
 -- the files of a folder, in the order of a domain's slots
 abbrev pub judged_files : (names : List (List ℕ)) → List FileText → List JudgedFile

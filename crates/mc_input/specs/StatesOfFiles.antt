@@ -19,17 +19,17 @@ use Rattle.mc_asked.specs.declared.forwarding.RouterState.{RouterState}
 -- This is what a router with these vifs has for each want, which comes with its unadmitted sources (those
 -- that the filter of none of its LANs admits), by the rows in the router's file `cache-<router>`.
 pub record AreStatesOfRouter (files : List FileText) (wants : List (Want × List ℕ))
-    (vifs : FinMap nat_cmp VifValue) (r : RouterRow) (states : List RouterState) : Type 0 where
+    (vifs : FinMap nat_cmp VifValue) (row : RouterRow) (states : List RouterState) : Type 0 where
   pub part : PartText
   pub rows : List RowValue
-  pub made : file_part files (cache_slot r.name) ≡ Ok part
-  pub read : cache_rows_in r.order part.bytes ≡ Ok rows
-  pub stated : states ≡ map (λ w. router_state vifs w.1 w.0 rows) wants
+  pub made : file_part files (cache_slot row.name) ≡ Ok part
+  pub read : cache_rows_in row.order part.bytes ≡ Ok rows
+  pub stated : states ≡ map (λ want. router_state vifs want.1 want.0 rows) wants
 
 -- This is what each router of a domain has for these wants, in the topology's order.
-pub record AreStatesOf (files : List FileText) (wants : List (Want × List ℕ)) (d : DomainValue)
+pub record AreStatesOf (files : List FileText) (wants : List (Want × List ℕ)) (domain : DomainValue)
     (states : List (List RouterState)) : Type 0 where
-  pub count : length states ≡ length d.topology.routers
-  pub each : (router : ℕ) (r : RouterRow) (vifs : FinMap nat_cmp VifValue) (own : List RouterState)
-      → slice_get d.topology.routers router ≡ Some r → slice_get d.vifs router ≡ Some vifs
-      → slice_get states router ≡ Some own → AreStatesOfRouter files wants vifs r own
+  pub count : length states ≡ length domain.topology.routers
+  pub each : (router : ℕ) (row : RouterRow) (vifs : FinMap nat_cmp VifValue) (own : List RouterState)
+      → slice_get domain.topology.routers router ≡ Some row → slice_get domain.vifs router ≡ Some vifs
+      → slice_get states router ≡ Some own → AreStatesOfRouter files wants vifs row own

@@ -60,20 +60,22 @@ value_and_rest value later = later >>= λ parts. Ok (value, parts)
 
 -- ---- the two sources
 
--- the parts that a source gives of these slots, of which the first has number n
+-- the parts that a source gives of these slots, of which the first has this number
 abbrev pub parts_of_slots : (ℕ → Slot → Result PartText SourceFault) → ℕ → List Slot → NextParts
-parts_of_slots source n [] = []
-parts_of_slots source n (slot ∷ others) = source n slot ∷ parts_of_slots source (n + 1) others
+parts_of_slots source number [] = []
+parts_of_slots source number (slot ∷ others) = source number slot
+    ∷ parts_of_slots source (number + 1) others
 
--- what a bundle gives from the slot with number n on: its framing and its parts' names are judged first
+-- what a bundle gives from the slot with this number on: its framing and its parts' names are judged first
 abbrev pub bundle_gives : PartsState → (certified : Bool) → TopologyValue → ℕ → List ℕ → Stream
-bundle_gives s certified t n text =
-    map_fault Input (read_rest s text (check_names_then certified t n (λ parts. Ok parts)))
+bundle_gives s certified topology number text =
+    map_fault Input (read_rest s text (check_names_then certified topology number (λ parts. Ok parts)))
     >>= λ parts. Ok (map (λ part. Ok part) parts)
 
--- what a folder gives from the slot with number n on: each file is judged by itself
+-- what a folder gives from the slot with this number on: each file is judged by itself
 abbrev pub files_give : TopologyValue → ℕ → List FileText → Stream
-files_give t n files = Ok (parts_of_slots (part_from_file files) n (drop n (slots false t)))
+files_give topology number files = Ok (parts_of_slots (part_from_file files) number
+    (drop number (slots false topology)))
 
 -- ---- the contents of several parts
 
@@ -111,7 +113,7 @@ read_each read (x ∷ xs) parts =
 
 -- what is read of these routers, and the parts after it
 abbrev pub read_routers : List RouterRow → NextParts → Result (List RouterRead × NextParts) SourceFault
-read_routers rs = read_each (λ r. read_router r.order) rs
+read_routers rows = read_each (λ row. read_router row.order) rows
 
 -- the reports of these LANs, and the parts after them
 abbrev pub read_lans : List (List ℕ) → NextParts → Result (List (List Record) × NextParts) SourceFault
@@ -123,13 +125,13 @@ ContentsRead = List RouterRead × List (List Record)
 
 -- all contents of a topology's parts, and the parts after them
 abbrev pub read_contents : TopologyValue → NextParts → Result (ContentsRead × NextParts) SourceFault
-read_contents t parts =
-    read_routers t.routers parts >>= λ routers. read_lans t.lans routers.1
+read_contents topology parts =
+    read_routers topology.routers parts >>= λ routers. read_lans topology.lans routers.1
     >>= λ reports. Ok ((routers.0, reports.0), reports.1)
 
 -- the input of these contents
 abbrev pub input_of_contents : TopologyValue → ContentsRead → InputValue
-input_of_contents t read = input_with t (map (λ router. router.tables) read.0) read.1
+input_of_contents topology read = input_with topology (map (λ router. router.tables) read.0) read.1
 
 -- the text of the certificate, if there is to be one: that of the first part
 abbrev pub certificate_text_of : (certified : Bool) → NextParts → Option (List ℕ)
@@ -139,9 +141,9 @@ certificate_text_of certified parts = None
 -- the input and the certificate, from the parts after the topology's
 abbrev pub read_after_topology : (certified : Bool) → TopologyValue → NextParts
     → Result InputAndCertificate SourceFault
-read_after_topology certified t parts =
-    read_contents t parts
-    >>= λ read. Ok (input_of_contents t read.0, certificate_text_of certified read.1)
+read_after_topology certified topology parts =
+    read_contents topology parts
+    >>= λ read. Ok (input_of_contents topology read.0, certificate_text_of certified read.1)
 
 -- the part of a certificate with this text; none without a text
 abbrev pub certificate_parts : Option (List ℕ) → NextParts

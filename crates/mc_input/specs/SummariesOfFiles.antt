@@ -17,12 +17,12 @@ use Rattle.mc_input.specs.Stream.{RouterRead}
 
 -- This is the summary of the rows in the router's file `cache-<router>`, whose addresses are in the router's
 -- byte order. With `all` it has all pairs that belong to no flow, and otherwise the lowest ones.
-pub record IsSummaryOf (all : Bool) (files : List FileText) (flows : List Flow) (r : RouterRow)
+pub record IsSummaryOf (all : Bool) (files : List FileText) (flows : List Flow) (row : RouterRow)
     (summary : SummaryValue) : Type 0 where
   pub part : PartText
   pub rows : List RowValue
-  pub made : file_part files (cache_slot r.name) ≡ Ok part
-  pub read : cache_rows_in r.order part.bytes ≡ Ok rows
+  pub made : file_part files (cache_slot row.name) ≡ Ok part
+  pub read : cache_rows_in row.order part.bytes ≡ Ok rows
   pub summarized : summary ≡ summary_of all (flow_pairs flows) rows
 
 -- This is the summary of the rows in the text of a router's cache, where these pairs are the flows'.
@@ -32,7 +32,7 @@ IsSummaryOfRead all pairs read summary =
     × (summary ≡ summary_of all pairs rows)
 
 -- There is one such summary for each router, in the topology's order.
-pub record AreSummariesOf (all : Bool) (files : List FileText) (t : TopologyValue)
+pub record AreSummariesOf (all : Bool) (files : List FileText) (topology : TopologyValue)
     (summary : List SummaryValue) : Type 0 where
-  pub count : length summary ≡ length t.routers
-  pub each : RelatedAtEachIndex (IsSummaryOf all files t.flows) t.routers summary
+  pub count : length summary ≡ length topology.routers
+  pub each : RelatedAtEachIndex (IsSummaryOf all files topology.flows) topology.routers summary

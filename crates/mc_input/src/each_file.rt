@@ -60,9 +60,9 @@ fn judge_tables<F: PieceSource>(
     requires room { 0 < length buffer.old }
     ensures same { F.borrows files.new ≡ F.borrows files.old }
     ensures kept { F.contents files.new ≡ F.contents files.old }
-    ensures judged { (r : RouterRow) → slice_get topology.now.routers router ≡ Some r →
+    ensures judged { (row : RouterRow) → slice_get topology.now.routers router ≡ Some row →
         OnOk result (ListsRefused (F.contents files.old) (λ contents.
-        judged_tables (names_of without.now) contents r) refused.old.items refused.new.items
+        judged_tables (names_of without.now) contents row) refused.old.items refused.new.items
         (F.failed files.old) (F.failed files.new)) }
 {
     if is_excluded(without, topology.router_name(RouterNo(router))) {

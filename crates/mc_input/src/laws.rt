@@ -18,46 +18,55 @@ ghost use Rattle.mc_input.specs.SummariesOfFiles.{AreSummariesOf};
 /// The text of a bundle denotes at most one input and one certificate, among those with a certificate
 /// and among those without.
 pub fn bundle_denotes_one_input()
-    ensures input { (text : List ℕ) (a b : InputValue) (c d : Option (List ℕ))
-        → is_some d ≡ is_some c
-        → DenotesInput text a c → DenotesInput text b d → a ≡ b }
-    ensures certificate { (text : List ℕ) (a b : InputValue) (c d : Option (List ℕ))
-        → is_some d ≡ is_some c
-        → DenotesInput text a c → DenotesInput text b d → c ≡ d }
+    ensures input { (text : List ℕ) (input other : InputValue)
+        (certificate other_certificate : Option (List ℕ))
+        → is_some other_certificate ≡ is_some certificate
+        → DenotesInput text input certificate → DenotesInput text other other_certificate
+        → input ≡ other }
+    ensures certificate { (text : List ℕ) (input other : InputValue)
+        (certificate other_certificate : Option (List ℕ))
+        → is_some other_certificate ≡ is_some certificate
+        → DenotesInput text input certificate → DenotesInput text other other_certificate
+        → certificate ≡ other_certificate }
 {}
 
 /// The files of a folder denote at most one input.
 pub fn files_denote_one_input()
-    ensures { (files : List FileText) (a b : InputValue) → FilesDenoteInput files a → FilesDenoteInput files b
-        → a ≡ b }
+    ensures { (files : List FileText) (input other : InputValue) → FilesDenoteInput files input
+        → FilesDenoteInput files other
+        → input ≡ other }
 {}
 
 /// The files of a folder have at most one list of cache summaries for a topology.
 pub fn summaries_are_unique()
-    ensures { (all : Bool) (files : List FileText) (t : TopologyValue) (a b : List SummaryValue) →
-        AreSummariesOf all files t a → AreSummariesOf all files t b → a ≡ b }
+    ensures { (all : Bool) (files : List FileText) (topology : TopologyValue)
+        (summaries others : List SummaryValue)
+        →
+        AreSummariesOf all files topology summaries → AreSummariesOf all files topology others
+        → summaries ≡ others }
 {}
 
 /// By the files of a folder that mean a domain there is one answer to what hosts ask for and no flow answers.
 pub fn asked_is_unique()
-    ensures { (all : Bool) (ignored : List (ℕ × ℕ)) (files : List FileText) (d : DomainValue)
-        (a b : UnansweredWantsValue) → IsDomain d → IsAskedOf all ignored files d a →
-        IsAskedOf all ignored files d b → a ≡ b }
+    ensures { (all : Bool) (ignored : List (ℕ × ℕ)) (files : List FileText) (domain : DomainValue)
+        (asked other : UnansweredWantsValue) → IsDomain domain
+        → IsAskedOf all ignored files domain asked →
+        IsAskedOf all ignored files domain other → asked ≡ other }
 {}
 
 /// The bundle that is packed of files without a certificate denotes the input that the files denote.
 pub fn packed_bundle_denotes_input_of_files()
-    ensures { (files : List FileText) (parts : List PartText) (text : List ℕ) (v : InputValue)
-        → FilesDenoteInput files v → IsPacked files false parts → IsBundle text parts
-        → DenotesInput text v None }
+    ensures { (files : List FileText) (parts : List PartText) (text : List ℕ) (input : InputValue)
+        → FilesDenoteInput files input → IsPacked files false parts → IsBundle text parts
+        → DenotesInput text input None }
 {}
 
 /// In a domain that is read with routers excluded, an excluded router has no vif, placed or not, and
 /// no row.
 pub fn excluded_routers_have_no_vif_or_row()
-    ensures { (names : List (List ℕ)) (files : List FileText) (d : DomainValue) (router : ℕ)
-        → FilesMeanDomainWithout names files d → HasExcludedName names d.topology router
-        → HasNoVifOrRow d router }
+    ensures { (names : List (List ℕ)) (files : List FileText) (domain : DomainValue) (router : ℕ)
+        → FilesMeanDomainWithout names files domain → HasExcludedName names domain.topology router
+        → HasNoVifOrRow domain router }
 {}
 
 /// The domain that files mean with routers excluded is, in each flow, the one that they mean without

@@ -34,18 +34,20 @@ fn read_states_of_router<F: PieceSource>(
     wants: &[AskedWant],
     router: u32,
 ) -> Result<Vec<RouterState>, SourceFault>
-    requires sorted { IsStrictlySortedBy key_cmp (map (λ w. w.0) wants.now) }
+    requires sorted { IsStrictlySortedBy key_cmp (map (λ words. words.0) wants.now) }
     requires router { router < length domain.now.topology.routers }
     requires room { 0 < length buffer.old }
     requires failures { F.failed files.old < u64.MAX }
     ensures same { F.borrows files.new ≡ F.borrows files.old }
     ensures kept { F.contents files.new ≡ F.contents files.old }
-    ensures states { (all : Bool) (contents : List FileText) (summary : List SummaryValue) (r : RouterRow)
+    ensures states { (all : Bool) (contents : List FileText) (summary : List SummaryValue)
+        (row : RouterRow)
         (vifs : FinMap nat_cmp VifValue) → F.contents files.old ≡ Some contents →
         AreSummariesOf all (files_without without.now contents) domain.now.topology summary →
-        slice_get domain.now.topology.routers router ≡ Some r → slice_get domain.now.vifs router ≡ Some vifs →
+        slice_get domain.now.topology.routers router ≡ Some row
+        → slice_get domain.now.vifs router ≡ Some vifs →
         IfOk result (λ states.
-        AreStatesOfRouter (files_without without.now contents) wants.now vifs r states.items) }
+        AreStatesOfRouter (files_without without.now contents) wants.now vifs row states.items) }
     ensures fault { (all : Bool) (contents : List FileText) (summary : List SummaryValue) →
         F.contents files.old ≡ Some contents →
         AreSummariesOf all (files_without without.now contents) domain.now.topology summary →
@@ -82,7 +84,7 @@ pub(crate) fn read_states<F: PieceSource>(
     without: &[&str],
     wants: &[AskedWant],
 ) -> Result<Vec<Items<RouterState>>, SourceFault>
-    requires sorted { IsStrictlySortedBy key_cmp (map (λ w. w.0) wants.now) }
+    requires sorted { IsStrictlySortedBy key_cmp (map (λ words. words.0) wants.now) }
     requires room { 0 < length buffer.old }
     requires failures { F.failed files.old < u64.MAX }
     ensures same { F.borrows files.new ≡ F.borrows files.old }

@@ -151,12 +151,14 @@ fn read_asked_wants<F: PieceSource>(
     requires failures { F.failed files.old < u64.MAX }
     ensures same { F.borrows files.new ≡ F.borrows files.old }
     ensures kept { F.contents files.new ≡ F.contents files.old }
-    ensures wants { (all : Bool) (a : AnswersValue) (lists : List (List Record)) (contents : List FileText) →
+    ensures wants { (all : Bool) (answers : AnswersValue) (lists : List (List Record))
+        (contents : List FileText) →
         F.contents files.old ≡ Some contents →
         AreListsOf (files_without without.now contents) topology.now lists →
-        wants.now ≡ lan_wants_from all a 0 lists → lines.now ≡ asked_lines all wants.now →
+        wants.now ≡ lan_wants_from all answers 0 lists → lines.now ≡ asked_lines all wants.now →
         IfOk result (λ asked. asked.items ≡ map (with_unadmitted lists) lines.now) }
-    ensures sorted { IfOk result (λ asked. IsStrictlySortedBy key_cmp (map (λ w. w.0) asked.items)) }
+    ensures sorted { IfOk result (λ asked. IsStrictlySortedBy key_cmp
+        (map (λ words. words.0) asked.items)) }
     ensures fault { (lists : List (List Record)) (contents : List FileText) →
         F.contents files.old ≡ Some contents →
         AreListsOf (files_without without.now contents) topology.now lists → IfErr result IsReadOrMemory }

@@ -15,25 +15,27 @@ use Rattle.mc_json.specs.WhyData.{causes_data}
 
 -- a vif of a router by which copies leave the known domain
 abbrev pub stray_data : TopologyValue → Interface → Data
-stray_data t i = object_data ((codes "router", router_data t i.0) ∷ (codes "vif", count_data i.1) ∷ [])
+stray_data topology interface = object_data ((codes "router", router_data topology interface.0)
+    ∷ (codes "vif", count_data interface.1) ∷ [])
 
 -- what is behind a stray, with the values of its causes
 abbrev pub found_behind_data : TopologyValue → Behind → (why : List Data) → Data
-found_behind_data t b why = object_data (
-    (codes "finding", optional_finding_data t b.finding)
-    ∷ (codes "missed", list_data (map (lan_data t) b.missed.items))
-    ∷ (codes "open", routers_data t b.open_routers.items)
-    ∷ (codes "shown_from", shown_from_data b.shown_from)
-    ∷ (codes "strays", list_data (map (stray_data t) b.strays.items))
+found_behind_data topology behind why = object_data (
+    (codes "finding", optional_finding_data topology behind.finding)
+    ∷ (codes "missed", list_data (map (lan_data topology) behind.missed.items))
+    ∷ (codes "open", routers_data topology behind.open_routers.items)
+    ∷ (codes "shown_from", shown_from_data behind.shown_from)
+    ∷ (codes "strays", list_data (map (stray_data topology) behind.strays.items))
     ∷ (codes "why", list_data why) ∷ [])
 
 -- what is behind a stray of the flow with this number, by the summaries of the routers' caches; null where
 -- the finding is no stray
 abbrev pub behind_data : DomainFacts → List SummaryValue → (flow : ℕ) → Option Behind → Data
-behind_data d summary flow None = null
-behind_data d summary flow (Some b) =
-    found_behind_data d.topology b (causes_data d summary flow b.causes.items)
+behind_data domain summary flow None = null
+behind_data domain summary flow (Some behind) =
+    found_behind_data domain.topology behind (causes_data domain summary flow behind.causes.items)
 
 -- what is behind a stray, in the context in which the code writes lines; null where the finding is no stray
 abbrev pub behind_data_in : LineContext → Option Behind → Data
-behind_data_in c behind = behind_data (facts c.view.now.domain) c.summary.now c.view.now.flow behind
+behind_data_in context behind = behind_data (facts context.view.now.domain) context.summary.now
+    context.view.now.flow behind

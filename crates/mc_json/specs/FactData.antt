@@ -13,14 +13,16 @@ use Rattle.mc_json.specs.RowData.{incoming_device, incoming_vif}
 
 -- the value of a fact, in a line about a flow
 abbrev pub fact_data : FlowContext → FactValue → Data
-fact_data c (Lan lan) = lan_data c.domain.topology lan
-fact_data c (Router router) = router_data c.domain.topology router
-fact_data c (Device router vif) = device_data c.domain router vif
-fact_data c (Interface interface) = string (interface_text c.domain.topology interface)
-fact_data c (IncomingDevice router) = incoming_device c.domain router (row_for_flow c router)
-fact_data c (IncomingVif router) = incoming_vif (row_for_flow c router)
-fact_data c (Row router) = flow_row_data c.domain c.flow router
-fact_data c (EverySourceRow router) = every_source_data c.domain c.summary (flow_of c).group router
-fact_data c (Flag flag) = boolean flag
-fact_data c (Number n) = count_data n
-fact_data c (Routers routers) = routers_data c.domain.topology routers
+fact_data context (Lan lan) = lan_data context.domain.topology lan
+fact_data context (Router router) = router_data context.domain.topology router
+fact_data context (Device router vif) = device_data context.domain router vif
+fact_data context (Interface interface) = string (interface_text context.domain.topology interface)
+fact_data context (IncomingDevice router) = incoming_device context.domain router
+    (row_for_flow context router)
+fact_data context (IncomingVif router) = incoming_vif (row_for_flow context router)
+fact_data context (Row router) = flow_row_data context.domain context.flow router
+fact_data context (EverySourceRow router) = every_source_data context.domain context.summary
+    (flow_of context).group router
+fact_data context (Flag flag) = boolean flag
+fact_data context (Number number) = count_data number
+fact_data context (Routers routers) = routers_data context.domain.topology routers

@@ -25,39 +25,39 @@ use Rattle.mc_json.specs.TreeKey.{taking_interface}
 
 -- the members that every flow has
 abbrev pub flow_members : (number : ℕ) → Flow → List (List ℕ × Data)
-flow_members number f =
+flow_members number flow =
     (codes "flow", count_data (number + 1))
-    ∷ (codes "group", string (dotted f.group))
-    ∷ (codes "source", string (dotted f.source))
-    ∷ (codes "ttl", count_data f.ttl) ∷ []
+    ∷ (codes "group", string (dotted flow.group))
+    ∷ (codes "source", string (dotted flow.source))
+    ∷ (codes "ttl", count_data flow.ttl) ∷ []
 
 -- ---- trees
 
 -- the router of an interface; null for no interface
 abbrev pub interface_router : TopologyValue → Option Interface → Data
-interface_router t None = null
-interface_router t (Some i) = router_data t i.0
+interface_router topology None = null
+interface_router topology (Some interface) = router_data topology interface.0
 
 -- the vif of an interface; null for no interface
 abbrev pub interface_vif : Option Interface → Data
 interface_vif None = null
-interface_vif (Some i) = count_data i.1
+interface_vif (Some interface) = count_data interface.1
 
 -- a certificate entry: the LAN, its need and rank, the router and vif that send onto it, and the vif at which
 -- that router takes the packets; these three are null for the source's LAN
 abbrev pub reached_data : TopologyValue → Net → Entry → Data
-reached_data t n e = object_data (
-    (codes "from_vif", interface_vif (taking_interface n e.forwarder))
-    ∷ (codes "lan", lan_data t e.lan)
-    ∷ (codes "need", count_data e.need)
-    ∷ (codes "rank", count_data e.rank)
-    ∷ (codes "router", interface_router t e.forwarder)
-    ∷ (codes "vif", interface_vif e.forwarder) ∷ [])
+reached_data topology net entry = object_data (
+    (codes "from_vif", interface_vif (taking_interface net entry.forwarder))
+    ∷ (codes "lan", lan_data topology entry.lan)
+    ∷ (codes "need", count_data entry.need)
+    ∷ (codes "rank", count_data entry.rank)
+    ∷ (codes "router", interface_router topology entry.forwarder)
+    ∷ (codes "vif", interface_vif entry.forwarder) ∷ [])
 
 -- a tree with its number
 abbrev pub tree_data : TopologyValue → Net → List Entry → (tree : ℕ) → Data
-tree_data t n es tree = object_data (
-    (codes "entries", list_data (map (reached_data t n) es))
+tree_data topology net entries tree = object_data (
+    (codes "entries", list_data (map (reached_data topology net) entries))
     ∷ (codes "tree", count_data tree) ∷ [])
 
 -- ---- a right flow
@@ -70,37 +70,37 @@ right_mark false = null
 -- a right flow: how many LANs carry a copy of its packet, the number of its tree, and the LANs that want it
 abbrev pub right_data : (whole : Bool) → (number : ℕ) → Flow → (copies tree : ℕ)
     → (wanted : List Data) → Data
-right_data whole number f copies tree wanted = object_data (
+right_data whole number flow copies tree wanted = object_data (
     (codes "copies", count_data copies)
     ∷ (codes "flow", count_data (number + 1))
-    ∷ (codes "group", string (dotted f.group))
+    ∷ (codes "group", string (dotted flow.group))
     ∷ (codes "right", right_mark whole)
-    ∷ (codes "source", string (dotted f.source))
+    ∷ (codes "source", string (dotted flow.source))
     ∷ (codes "tree", count_data tree)
-    ∷ (codes "ttl", count_data f.ttl)
+    ∷ (codes "ttl", count_data flow.ttl)
     ∷ (codes "wanted", list_data wanted) ∷ [])
 
 -- ---- a flow that isn't right
 
 -- a finding that is about a LAN
 abbrev pub finding_at_lan : TopologyValue → (kind : List ℕ) → (lan : ℕ) → Data
-finding_at_lan t kind lan = object_data (
-    (codes "kind", string kind) ∷ (codes "lan", lan_data t lan) ∷ [])
+finding_at_lan topology kind lan = object_data (
+    (codes "kind", string kind) ∷ (codes "lan", lan_data topology lan) ∷ [])
 
 -- a finding
 abbrev pub finding_data : TopologyValue → Finding → Data
-finding_data t Clean = object_data ((codes "kind", string (codes "Clean")) ∷ [])
-finding_data t (Duplicate lan) = finding_at_lan t (codes "Duplicate") lan
-finding_data t (Loop lan) = finding_at_lan t (codes "Loop") lan
-finding_data t (Stray router vif) = object_data (
+finding_data topology Clean = object_data ((codes "kind", string (codes "Clean")) ∷ [])
+finding_data topology (Duplicate lan) = finding_at_lan topology (codes "Duplicate") lan
+finding_data topology (Loop lan) = finding_at_lan topology (codes "Loop") lan
+finding_data topology (Stray router vif) = object_data (
     (codes "kind", string (codes "Stray"))
-    ∷ (codes "router", router_data t router)
+    ∷ (codes "router", router_data topology router)
     ∷ (codes "vif", count_data vif) ∷ [])
-finding_data t (Missed lan) = finding_at_lan t (codes "Missed") lan
+finding_data topology (Missed lan) = finding_at_lan topology (codes "Missed") lan
 
 -- an outgoing vif, if a copy that came with this TTL passes its threshold
 abbrev pub passed_vif : (ttl : ℕ) → ℕ × ℕ → List ℕ
-passed_vif ttl p = if nat_lt p.1 ttl then p.0 ∷ [] else []
+passed_vif ttl pair = if nat_lt pair.1 ttl then pair.0 ∷ [] else []
 
 -- the vifs by which a row sends a copy that came with this TTL, whether they are placed or not, in the row's
 -- order, which is ascending
@@ -109,7 +109,7 @@ passed_vifs ttl row = flat_map (passed_vif ttl) (row_pairs row)
 
 -- the vifs by which copies went in an event that sent some
 abbrev pub sent_vifs : Net → Event → List ℕ
-sent_vifs n e = passed_vifs e.ttl (n.row e.router)
+sent_vifs net event = passed_vifs event.ttl (net.row event.router)
 
 -- vifs by their numbers
 abbrev pub vif_numbers_data : List ℕ → Data
@@ -117,34 +117,35 @@ vif_numbers_data vifs = list_data (map count_data vifs)
 
 -- an event that sent no copies, with this outcome
 abbrev pub event_without_copies_data : TopologyValue → Event → (outcome : List ℕ) → Data
-event_without_copies_data t e outcome = object_data (
+event_without_copies_data topology event outcome = object_data (
     (codes "onto", vif_numbers_data [])
     ∷ (codes "outcome", string outcome)
-    ∷ (codes "router", router_data t e.router)
-    ∷ (codes "ttl", count_data e.ttl)
-    ∷ (codes "vif", count_data e.vif) ∷ [])
+    ∷ (codes "router", router_data topology event.router)
+    ∷ (codes "ttl", count_data event.ttl)
+    ∷ (codes "vif", count_data event.vif) ∷ [])
 
 -- an event that sent copies and strays by these vifs
 abbrev pub event_with_copies_data : TopologyValue → Event → (copies strays : ℕ) → (vifs : List ℕ) → Data
-event_with_copies_data t e copies strays vifs = object_data (
+event_with_copies_data topology event copies strays vifs = object_data (
     (codes "copies", count_data copies)
     ∷ (codes "onto", vif_numbers_data vifs)
     ∷ (codes "outcome", string (codes "sent"))
-    ∷ (codes "router", router_data t e.router)
+    ∷ (codes "router", router_data topology event.router)
     ∷ (codes "strays", count_data strays)
-    ∷ (codes "ttl", count_data e.ttl)
-    ∷ (codes "vif", count_data e.vif) ∷ [])
+    ∷ (codes "ttl", count_data event.ttl)
+    ∷ (codes "vif", count_data event.vif) ∷ [])
 
 -- an event with this outcome
 abbrev pub outcome_data : TopologyValue → Net → Event → Outcome → Data
-outcome_data t n e Open = event_without_copies_data t e (codes "open")
-outcome_data t n e NoRow = event_without_copies_data t e (codes "no row")
-outcome_data t n e OtherVif = event_without_copies_data t e (codes "other vif")
-outcome_data t n e (Sent copies strays) = event_with_copies_data t e copies strays (sent_vifs n e)
+outcome_data topology net event Open = event_without_copies_data topology event (codes "open")
+outcome_data topology net event NoRow = event_without_copies_data topology event (codes "no row")
+outcome_data topology net event OtherVif = event_without_copies_data topology event (codes "other vif")
+outcome_data topology net event (Sent copies strays) =
+    event_with_copies_data topology event copies strays (sent_vifs net event)
 
 -- an event
 abbrev pub event_data : TopologyValue → Net → Event → Data
-event_data t n e = outcome_data t n e e.outcome
+event_data topology net event = outcome_data topology net event event.outcome
 
 -- that the flow isn't right, or null where that isn't known
 abbrev pub wrong_mark : (known : Bool) → Data
@@ -158,20 +159,20 @@ shown_from_data (Some ttl) = count_data ttl
 
 -- a finding; null where there is none
 abbrev pub optional_finding_data : TopologyValue → Option Finding → Data
-optional_finding_data t None = null
-optional_finding_data t (Some finding) = finding_data t finding
+optional_finding_data topology None = null
+optional_finding_data topology (Some finding) = finding_data topology finding
 
 -- the members of a flow with a finding from `flow` on, in the order of keys
 abbrev pub each_wrong_members : (number : ℕ) → Flow → Certainty → (found_ttl : ℕ) → (wanted why : List Data)
     → List (List ℕ × Data)
-each_wrong_members number f certainty found_ttl wanted why =
+each_wrong_members number flow certainty found_ttl wanted why =
     (codes "flow", count_data (number + 1))
     ∷ (codes "found_ttl", count_data found_ttl)
-    ∷ (codes "group", string (dotted f.group))
+    ∷ (codes "group", string (dotted flow.group))
     ∷ (codes "right", wrong_mark certainty.known)
     ∷ (codes "shown_from", shown_from_data certainty.shown_by.from)
-    ∷ (codes "source", string (dotted f.source))
-    ∷ (codes "ttl", count_data f.ttl)
+    ∷ (codes "source", string (dotted flow.source))
+    ∷ (codes "ttl", count_data flow.ttl)
     ∷ (codes "wanted", list_data wanted)
     ∷ (codes "why", list_data why) ∷ []
 
@@ -203,13 +204,14 @@ events_member (Some events) = (codes "events", list_data events) ∷ []
 
 -- all members of a flow with a finding
 abbrev pub wrong_members : (number : ℕ) → Flow → WrongFlow → List (List ℕ × Data)
-wrong_members number f w =
-    (codes "also", list_data w.also)
-    ∷ (codes "at_ttl", w.at_flow_ttl)
-    ∷ (codes "behind", w.behind)
-    ∷ (events_member w.events
-    ++ ((codes "finding", w.finding) ∷ each_wrong_members number f w.certainty w.found_ttl w.wanted w.why))
+wrong_members number flow wrong =
+    (codes "also", list_data wrong.also)
+    ∷ (codes "at_ttl", wrong.at_flow_ttl)
+    ∷ (codes "behind", wrong.behind)
+    ∷ (events_member wrong.events
+    ++ ((codes "finding", wrong.finding) ∷ each_wrong_members number flow wrong.certainty wrong.found_ttl
+    wrong.wanted wrong.why))
 
 -- a flow with a finding
 abbrev pub wrong_data : (number : ℕ) → Flow → WrongFlow → Data
-wrong_data number f w = object_data (wrong_members number f w)
+wrong_data number flow wrong = object_data (wrong_members number flow wrong)

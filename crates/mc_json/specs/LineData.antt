@@ -9,14 +9,16 @@ use Rattle.mc_json.specs.FactData.{fact_data}
 
 -- the members with one more for each fact, by its key
 abbrev pub with_facts : FlowContext → List (List ℕ × FactValue) → Members → Members
-with_facts c [] ms = ms
-with_facts c (f ∷ fs) ms = with_facts c fs (put f.0 (fact_data c f.1) ms)
+with_facts context [] members = members
+with_facts context (fact ∷ facts) members = with_facts context facts
+    (put fact.0 (fact_data context fact.1) members)
 
 -- the object of a line
 abbrev pub line_data : FlowContext → Line → Data
-line_data c l = object (put (codes "text") (string (joined_sentences c l.facts l.sentences))
-    (with_facts c l.facts (put (codes "kind") (string l.kind) no_members)))
+line_data context line = object (put (codes "text")
+    (string (joined_sentences context line.facts line.sentences))
+    (with_facts context line.facts (put (codes "kind") (string line.kind) no_members)))
 
 -- the object of a line, as a list of one
 abbrev pub line_values : FlowContext → Line → List Data
-line_values c l = line_data c l ∷ []
+line_values context line = line_data context line ∷ []

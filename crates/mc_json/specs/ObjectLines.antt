@@ -10,7 +10,7 @@ use Rattle.mc_json.specs.declared.fields.Fields.{Fields}
 
 -- The fields that were built have these members, unless an allocation failed.
 abbrev pub HasMembers : Fields → Members → Type 0
-HasMembers fields ms = IfOk fields.built (λ map. members_view map.entries ≡ ms)
+HasMembers fields members = IfOk fields.built (λ map. members_view map.entries ≡ members)
 
 -- The line begins with a brace and a quote.
 abbrev pub BeginsObject : List ℕ → Type 0

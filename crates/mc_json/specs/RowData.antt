@@ -37,78 +37,80 @@ object_data ms = object (members ms)
 
 -- a value as a line of text
 abbrev pub line_of : Data → List ℕ
-line_of d = compact_text d ++ codes "\n"
+line_of value = compact_text value ++ codes "\n"
 
 -- ---- names
 
 -- a LAN by its name
 abbrev pub lan_data : TopologyValue → (lan : ℕ) → Data
-lan_data t lan = string (lan_name t lan)
+lan_data topology lan = string (lan_name topology lan)
 
 -- a router by its name
 abbrev pub router_data : TopologyValue → (router : ℕ) → Data
-router_data t router = string (router_name t router)
+router_data topology router = string (router_name topology router)
 
 -- ---- devices
 
 -- the device of a vif; null if the vif table has no line for it
 abbrev pub device_data_of : Option VifValue → Data
 device_data_of None = null
-device_data_of (Some v) = string (device_name_text v.device)
+device_data_of (Some vif) = string (device_name_text vif.device)
 
 -- the device of a router's vif
 abbrev pub device_data : DomainFacts → (router vif : ℕ) → Data
-device_data d router vif = device_data_of (d.vifs router vif)
+device_data domain router vif = device_data_of (domain.vifs router vif)
 
 -- ---- rows
 
 -- an outgoing vif of an entry, with its threshold
 abbrev pub oif_data : DomainFacts → (router : ℕ) → ℕ × ℕ → Data
-oif_data d router p = object_data (
-    (codes "device", device_data d router p.0)
-    ∷ (codes "threshold", count_data p.1)
-    ∷ (codes "vif", count_data p.0) ∷ [])
+oif_data domain router pair = object_data (
+    (codes "device", device_data domain router pair.0)
+    ∷ (codes "threshold", count_data pair.1)
+    ∷ (codes "vif", count_data pair.0) ∷ [])
 
 -- the incoming vif of an entry
 abbrev pub incoming_data : DomainFacts → (router incoming : ℕ) → Data
-incoming_data d router incoming = object_data (
-    (codes "device", device_data d router incoming)
+incoming_data domain router incoming = object_data (
+    (codes "device", device_data domain router incoming)
     ∷ (codes "vif", count_data incoming) ∷ [])
 
 -- an entry; its source or group is `*`, every one, for 0.0.0.0
 abbrev pub entry_data : DomainFacts → (router source group incoming : ℕ) → List (ℕ × ℕ) → Data
-entry_data d router source group incoming pairs = object_data (
-    (codes "from", incoming_data d router incoming)
+entry_data domain router source group incoming pairs = object_data (
+    (codes "from", incoming_data domain router incoming)
     ∷ (codes "group", string (address_text group))
-    ∷ (codes "router", string (router_name d.topology router))
+    ∷ (codes "router", string (router_name domain.topology router))
     ∷ (codes "source", string (address_text source))
-    ∷ (codes "to", list_data (map (oif_data d router) pairs)) ∷ [])
+    ∷ (codes "to", list_data (map (oif_data domain router) pairs)) ∷ [])
 
 -- the (S,G) entry that is a router's row for a flow; null for another row
 abbrev pub row_data : DomainFacts → Flow → (router : ℕ) → Row → Data
-row_data d f router row = of_entry_or null (entry_data d router f.source f.group) row
+row_data domain flow router row = of_entry_or null (entry_data domain router flow.source flow.group) row
 
 -- the (S,G) entry that is a router's row for the flow with this number; null for another row
 abbrev pub flow_row_data : DomainFacts → (flow router : ℕ) → Data
-flow_row_data d flow router = row_data d (flow_at d.topology flow) router ((d.nets flow).row router)
+flow_row_data domain flow router = row_data domain (flow_at domain.topology flow) router
+    ((domain.nets flow).row router)
 
 -- an entry that a router has for every source; null if there is none
 abbrev pub every_source_row_data : DomainFacts → (router : ℕ) → Option (ℕ × EntryValue) → Data
-every_source_row_data d router None = null
-every_source_row_data d router (Some row) =
-    entry_data d router 0 row.0 row.1.iif (oif_pairs row.1.oifs)
+every_source_row_data domain router None = null
+every_source_row_data domain router (Some row) =
+    entry_data domain router 0 row.0 row.1.iif (oif_pairs row.1.oifs)
 
 -- the entry that a router has for every source of this group, by the summaries of all routers' caches; null
 -- if it has none
 abbrev pub every_source_data : DomainFacts → List SummaryValue → (group router : ℕ) → Data
-every_source_data d summary group router =
-    every_source_row_data d router (every_source_of summary group router)
+every_source_data domain summary group router =
+    every_source_row_data domain router (every_source_of summary group router)
 
 -- ---- the incoming vif of a row
 
 -- the device of a row's incoming vif; null for a row without one
 abbrev pub incoming_device : DomainFacts → (router : ℕ) → Row → Data
-incoming_device d router row = of_entry_or null (λ incoming pairs. device_data d router incoming) row
+incoming_device domain router row = of_entry_or null (λ incoming pairs. device_data domain router incoming)
+    row
 
 -- the number of a row's incoming vif; null for a row without one
 abbrev pub incoming_vif : Row → Data

@@ -10,19 +10,19 @@ incoming_interface router row = of_entry_or None (λ incoming pairs. Some (route
 
 -- the interface at which the router of a sending interface takes the packets; none for the source
 abbrev pub taking_interface : Net → Option Interface → Option Interface
-taking_interface n None = None
-taking_interface n (Some i) = incoming_interface i.0 (n.row i.0)
+taking_interface net None = None
+taking_interface net (Some interface) = incoming_interface interface.0 (net.row interface.0)
 
 -- an entry with that interface in place of the one that sends
 abbrev pub taking_entry : Net → Entry → Entry
-taking_entry n e = record {
-  lan = e.lan;
-  rank = e.rank;
-  need = e.need;
-  forwarder = taking_interface n e.forwarder;
+taking_entry net entry = record {
+  lan = entry.lan;
+  rank = entry.rank;
+  need = entry.need;
+  forwarder = taking_interface net entry.forwarder;
 }
 
 -- what is the same of trees that are one: their entries, and the interfaces at which their routers take the
 -- packets
 abbrev pub tree_key : Net → List Entry → List Entry
-tree_key n es = es ++ map (taking_entry n) es
+tree_key net entries = entries ++ map (taking_entry net) entries

@@ -14,27 +14,28 @@ use Rattle.mc_json.specs.LineData.{line_values}
 
 -- the values of the causes, for the flow with this number, by the summaries of the routers' caches
 abbrev pub causes_data : DomainFacts → List SummaryValue → (flow : ℕ) → List Cause → List Data
-causes_data d summary flow causes = causes_items line_values (context_of d summary flow) causes
+causes_data domain summary flow causes = causes_items line_values (context_of domain summary flow) causes
 
 -- the values of a search: how far the packet came, and the lines
 abbrev pub search_data : DomainFacts → List SummaryValue → (flow : ℕ) → LanSearch → List Data
-search_data d summary flow found =
-    reach_items line_values (context_of d summary flow) found.reach.sent_on.items found.reach.took_none.items
-    ++ search_items line_values (context_of d summary flow) found.lines.items
+search_data domain summary flow found =
+    reach_items line_values (context_of domain summary flow) found.reach.sent_on.items
+    found.reach.took_none.items
+    ++ search_items line_values (context_of domain summary flow) found.lines.items
 
 -- the values of the search, if there was one
 abbrev pub search_data_if_any : DomainFacts → List SummaryValue → (flow : ℕ) → Option LanSearch
     → List Data
-search_data_if_any d summary flow None = []
-search_data_if_any d summary flow (Some found) = search_data d summary flow found
+search_data_if_any domain summary flow None = []
+search_data_if_any domain summary flow (Some found) = search_data domain summary flow found
 
 -- the values of the causes, and then those of the search
 abbrev pub why_data : DomainFacts → List SummaryValue → (flow : ℕ) → List Cause
     → Option LanSearch → List Data
-why_data d summary flow causes search =
-    causes_data d summary flow causes ++ search_data_if_any d summary flow search
+why_data domain summary flow causes search =
+    causes_data domain summary flow causes ++ search_data_if_any domain summary flow search
 
 -- the values of the causes and of the search, in the context in which the code writes lines
 abbrev pub why_data_in : LineContext → List Cause → Option LanSearch → List Data
-why_data_in c causes search =
-    why_data (facts c.view.now.domain) c.summary.now c.view.now.flow causes search
+why_data_in context causes search =
+    why_data (facts context.view.now.domain) context.summary.now context.view.now.flow causes search

@@ -38,23 +38,24 @@ found_travel_value found = record {
 
 -- what is written of the travel's flow, beside its number, addresses and TTL
 abbrev pub wrong_flow_of : DomainFacts → List SummaryValue → FoundTravelValue → ExplanationValue → WrongFlow
-wrong_flow_of d summary found x = record {
-  certainty = x.certainty;
-  also = map (lan_data d.topology) x.also;
-  at_flow_ttl = optional_finding_data d.topology x.certainty.shown_by.at_flow_ttl;
-  behind = behind_data d summary found.flow x.behind;
-  events = option_map (map (event_data d.topology (d.nets found.flow))) found.events;
-  finding = finding_data d.topology found.finding;
+wrong_flow_of domain summary found explanation = record {
+  certainty = explanation.certainty;
+  also = map (lan_data domain.topology) explanation.also;
+  at_flow_ttl = optional_finding_data domain.topology explanation.certainty.shown_by.at_flow_ttl;
+  behind = behind_data domain summary found.flow explanation.behind;
+  events = option_map (map (event_data domain.topology (domain.nets found.flow))) found.events;
+  finding = finding_data domain.topology found.finding;
   found_ttl = found.found_ttl;
-  wanted = map (lan_data d.topology) (lans_wanting d found.flow);
-  why = why_data d summary found.flow x.printed x.search;
+  wanted = map (lan_data domain.topology) (lans_wanting domain found.flow);
+  why = why_data domain summary found.flow explanation.printed explanation.search;
 }
 
 -- the object of the travel's flow
 abbrev pub found_flow_data : DomainFacts → List SummaryValue → FoundTravelValue → ExplanationValue → Data
-found_flow_data d summary found x =
-    wrong_data found.flow (flow_at d.topology found.flow) (wrong_flow_of d summary found x)
+found_flow_data domain summary found explanation =
+    wrong_data found.flow (flow_at domain.topology found.flow)
+    (wrong_flow_of domain summary found explanation)
 
 -- the line of the travel's flow
 abbrev pub wrong_line : DomainFacts → List SummaryValue → FoundTravelValue → ExplanationValue → List ℕ
-wrong_line d summary found x = line_of (found_flow_data d summary found x)
+wrong_line domain summary found explanation = line_of (found_flow_data domain summary found explanation)

@@ -28,9 +28,10 @@ fn with_member(
     key: &str,
     value: Result<Value, AllocError>,
 ) -> Result<Map<String, Value>, AllocError>
-    ensures { (ms : Members) → (d : Data) → IfOk built (λ map. members_view map.entries ≡ ms)
-        → IfOk value (λ v. data_of v ≡ d)
-        → IfOk result (λ map. members_view map.entries ≡ with_member key.now d ms) }
+    ensures { (members : Members) → (given : Data)
+        → IfOk built (λ map. members_view map.entries ≡ members)
+        → IfOk value (λ v. data_of v ≡ given)
+        → IfOk result (λ map. members_view map.entries ≡ with_member key.now given members) }
 {
     let mut members = built?;
     put(&mut members, alloc, key, value?)?;
@@ -39,8 +40,8 @@ fn with_member(
 
 /// The array of these items, or the allocation that failed.
 fn array(items: Result<Vec<Value>, AllocError>) -> Result<Value, AllocError>
-    ensures { (ds : List Data) → IfOk items (λ vs. map data_of vs.items ≡ ds)
-        → IfOk result (λ v. data_of v ≡ list_data ds) }
+    ensures { (values : List Data) → IfOk items (λ verdicts. map data_of verdicts.items ≡ values)
+        → IfOk result (λ v. data_of v ≡ list_data values) }
 {
     Ok(Value::Array(items?))
 }
@@ -64,8 +65,9 @@ impl Fields {
 
     /// Adds a member with this value.
     pub(crate) fn value(self, key: &str, value: Result<Value, AllocError>) -> Fields
-        ensures { (ms : Members) → (d : Data) → HasMembers self ms → IfOk value (λ v. data_of v ≡ d)
-            → HasMembers result (with_member key.now d ms) }
+        ensures { (members : Members) → (given : Data) → HasMembers self members
+            → IfOk value (λ v. data_of v ≡ given)
+            → HasMembers result (with_member key.now given members) }
     {
         let Fields { alloc, built } = self;
         let built = with_member(alloc, built, key, value);
@@ -74,26 +76,26 @@ impl Fields {
 
     /// Adds an array of these items.
     pub(crate) fn list(self, key: &str, items: Result<Vec<Value>, AllocError>) -> Fields
-        ensures { (ms : Members) → (ds : List Data) → HasMembers self ms
-            → IfOk items (λ vs. map data_of vs.items ≡ ds)
-            → HasMembers result (with_member key.now (list_data ds) ms) }
+        ensures { (members : Members) → (values : List Data) → HasMembers self members
+            → IfOk items (λ verdicts. map data_of verdicts.items ≡ values)
+            → HasMembers result (with_member key.now (list_data values) members) }
     {
         self.value(key, array(items))
     }
 
     /// Adds an owned string.
     pub(crate) fn string(self, key: &str, text: Result<String, AllocError>) -> Fields
-        ensures { (ms : Members) → (bytes : List ℕ) → HasMembers self ms
+        ensures { (members : Members) → (bytes : List ℕ) → HasMembers self members
             → IfOk text (λ t. string_bytes t ≡ bytes)
-            → HasMembers result (with_member key.now (string bytes) ms) }
+            → HasMembers result (with_member key.now (string bytes) members) }
     {
         self.value(key, string(text))
     }
 
     /// Adds a copy of a text.
     pub(crate) fn text(self, key: &str, text: &str) -> Fields
-        ensures { (ms : Members) → HasMembers self ms
-            → HasMembers result (with_member key.now (string text.now) ms) }
+        ensures { (members : Members) → HasMembers self members
+            → HasMembers result (with_member key.now (string text.now) members) }
     {
         let Fields { alloc, built } = self;
         let built = with_member(alloc, built, key, Value::try_from_str(alloc, text));
@@ -102,46 +104,48 @@ impl Fields {
 
     /// Adds a number.
     pub(crate) fn count(self, key: &str, number: u64) -> Fields
-        ensures { (ms : Members) → HasMembers self ms
-            → HasMembers result (with_member key.now (count_data number) ms) }
+        ensures { (members : Members) → HasMembers self members
+            → HasMembers result (with_member key.now (count_data number) members) }
     {
         self.value(key, Ok(Value::from(number)))
     }
 
     /// Adds a truth value.
     pub(crate) fn flag(self, key: &str, flag: bool) -> Fields
-        ensures { (ms : Members) → HasMembers self ms
-            → HasMembers result (with_member key.now (boolean flag) ms) }
+        ensures { (members : Members) → HasMembers self members
+            → HasMembers result (with_member key.now (boolean flag) members) }
     {
         self.value(key, Ok(Value::Bool(flag)))
     }
 
     /// Adds null.
     pub(crate) fn null(self, key: &str) -> Fields
-        ensures { (ms : Members) → HasMembers self ms → HasMembers result (with_member key.now null ms) }
+        ensures { (members : Members) → HasMembers self members
+            → HasMembers result (with_member key.now null members) }
     {
         self.value(key, Ok(Value::Null))
     }
 
     /// Adds the name of a LAN.
     pub(crate) fn lan(self, key: &str, topology: &Topology, lan: LanNo) -> Fields
-        ensures { (ms : Members) → HasMembers self ms
-            → HasMembers result (with_member key.now (lan_data topology.now lan) ms) }
+        ensures { (members : Members) → HasMembers self members
+            → HasMembers result (with_member key.now (lan_data topology.now lan) members) }
     {
         self.text(key, topology.lan_name_or_empty(lan))
     }
 
     /// Adds the name of a router.
     pub(crate) fn router(self, key: &str, topology: &Topology, router: RouterNo) -> Fields
-        ensures { (ms : Members) → HasMembers self ms
-            → HasMembers result (with_member key.now (router_data topology.now router) ms) }
+        ensures { (members : Members) → HasMembers self members
+            → HasMembers result (with_member key.now (router_data topology.now router) members) }
     {
         self.text(key, topology.router_name_or_empty(router))
     }
 
     /// The finished object, or the first failed allocation.
     pub(crate) fn object(self) -> Result<Value, AllocError>
-        ensures { (ms : Members) → HasMembers self ms → IfOk result (λ v. data_of v ≡ object ms) }
+        ensures { (members : Members) → HasMembers self members
+            → IfOk result (λ v. data_of v ≡ object members) }
     {
         let Fields { built, .. } = self;
         Ok(Value::Object(built?))

@@ -25,23 +25,24 @@ ghost use Rattle.mc_json.specs.TreeKey.{tree_key};
 /// Each line except the verdict's begins an object other than the verdict, and its only line feed ends it,
 /// whatever words of the command line and names of LANs, routers and devices it has.
 pub fn each_line_is_an_object()
-    ensures domain { (d : DomainFacts) (words : List (List ℕ)) →
-        AreObjectLines (line_of (domain_data d words)) }
-    ensures tree { (t : TopologyValue) (n : Net) (es : List Entry) (tree : ℕ) →
-        AreObjectLines (line_of (tree_data t n es tree)) }
-    ensures right { (whole : Bool) (number : ℕ) (f : Flow) (copies tree : ℕ) (wanted : List Data) →
-        AreObjectLines (line_of (right_data whole number f copies tree wanted)) }
-    ensures wrong { (number : ℕ) (f : Flow) (w : WrongFlow) →
-        AreObjectLines (line_of (wrong_data number f w)) }
-    ensures unlisted { (all : Bool) (t : TopologyValue) (summary : List SummaryValue) →
-        AreObjectLines (unlisted_lines all t summary) }
-    ensures without { (t : TopologyValue) (excluded : List Bool) →
-        AreObjectLines (without_line t excluded) }
-    ensures asked { (t : TopologyValue) (line : Want × List ℕ) (listed : List ℕ) (routers : RoutersForWant) →
-        AreObjectLines (line_of (asked_object t line listed routers)) }
+    ensures domain { (domain : DomainFacts) (words : List (List ℕ)) →
+        AreObjectLines (line_of (domain_data domain words)) }
+    ensures tree { (topology : TopologyValue) (net : Net) (entries : List Entry) (tree : ℕ) →
+        AreObjectLines (line_of (tree_data topology net entries tree)) }
+    ensures right { (whole : Bool) (number : ℕ) (flow : Flow) (copies tree : ℕ) (wanted : List Data) →
+        AreObjectLines (line_of (right_data whole number flow copies tree wanted)) }
+    ensures wrong { (number : ℕ) (flow : Flow) (wrong : WrongFlow) →
+        AreObjectLines (line_of (wrong_data number flow wrong)) }
+    ensures unlisted { (all : Bool) (topology : TopologyValue) (summary : List SummaryValue) →
+        AreObjectLines (unlisted_lines all topology summary) }
+    ensures without { (topology : TopologyValue) (excluded : List Bool) →
+        AreObjectLines (without_line topology excluded) }
+    ensures asked { (topology : TopologyValue) (line : Want × List ℕ) (listed : List ℕ)
+        (routers : RoutersForWant) →
+        AreObjectLines (line_of (asked_object topology line listed routers)) }
     ensures asked_more { (more : ℕ) → AreObjectLines (asked_more_line more) }
-    ensures asked_services { (t : TopologyValue) (lines : List (Want × List ℕ)) →
-        AreObjectLines (asked_services_line t lines) }
+    ensures asked_services { (topology : TopologyValue) (lines : List (Want × List ℕ)) →
+        AreObjectLines (asked_services_line topology lines) }
     ensures summary { (asked right unknown unwanted wrong : ℕ) →
         AreObjectLines (line_of (summary_data asked right unknown unwanted wrong)) }
 {}
@@ -54,13 +55,15 @@ pub fn the_verdict_is_a_line()
 
 /// An event that sent copies names a vif for each of its copies and for each of its strays.
 pub fn each_copy_of_an_event_has_its_vif()
-    ensures { (n : Net) (w : Waiting) (copies strays : ℕ) → (event_of n w).outcome ≡ Sent copies strays →
-        length (sent_vifs n (event_of n w)) ≡ copies + strays }
+    ensures { (net : Net) (waiting : Waiting) (copies strays : ℕ)
+        → (event_of net waiting).outcome ≡ Sent copies strays →
+        length (sent_vifs net (event_of net waiting)) ≡ copies + strays }
 {}
 
 /// Trees that aren't told apart, even of different flows, have one line: so the line with a flow's number of
 /// a tree is that of its own tree.
 pub fn trees_with_one_key_have_one_line()
-    ensures { (t : TopologyValue) (n m : Net) (es fs : List Entry) (tree : ℕ) →
-        tree_key n es ≡ tree_key m fs → tree_data t n es tree ≡ tree_data t m fs tree }
+    ensures { (topology : TopologyValue) (net m : Net) (entries fs : List Entry) (tree : ℕ) →
+        tree_key net entries ≡ tree_key m fs → tree_data topology net entries tree
+        ≡ tree_data topology m fs tree }
 {}

@@ -30,8 +30,9 @@ fn with_sending_router(
     topology: &Topology,
     interface: Option<(RouterNo, u8)>,
 ) -> Fields
-    ensures { (ms : Members) → HasMembers fields ms
-        → HasMembers result (with_member (codes "router") (interface_router topology.now interface) ms) }
+    ensures { (members : Members) → HasMembers fields members
+        → HasMembers result (with_member (codes "router") (interface_router topology.now interface)
+        members) }
 {
     match interface {
         Some((router, _)) => fields.router("router", topology, router),
@@ -41,8 +42,8 @@ fn with_sending_router(
 
 /// Adds the vif of an interface, null for none.
 fn with_vif(fields: Fields, key: &str, interface: Option<(RouterNo, u8)>) -> Fields
-    ensures { (ms : Members) → HasMembers fields ms
-        → HasMembers result (with_member key.now (interface_vif interface) ms) }
+    ensures { (members : Members) → HasMembers fields members
+        → HasMembers result (with_member key.now (interface_vif interface) members) }
 {
     match interface {
         Some((_, vif)) => fields.count(key, vif as u64),

@@ -45,8 +45,8 @@ pub struct FoundTravel<'a> {
 
 /// Adds that a flow isn't right, if that is known, or else null.
 fn with_wrong_mark(fields: Fields, known: bool) -> Fields
-    ensures { (ms : Members) → HasMembers fields ms
-        → HasMembers result (with_member (codes "right") (wrong_mark known) ms) }
+    ensures { (members : Members) → HasMembers fields members
+        → HasMembers result (with_member (codes "right") (wrong_mark known) members) }
 {
     if known {
         fields.flag("right", false)
@@ -57,8 +57,8 @@ fn with_wrong_mark(fields: Fields, known: bool) -> Fields
 
 /// Adds the TTL from which on packets show a finding, null where none is said.
 pub(crate) fn with_shown_from(fields: Fields, shown_from: Option<u8>) -> Fields
-    ensures { (ms : Members) → HasMembers fields ms
-        → HasMembers result (with_member (codes "shown_from") (shown_from_data shown_from) ms) }
+    ensures { (members : Members) → HasMembers fields members
+        → HasMembers result (with_member (codes "shown_from") (shown_from_data shown_from) members) }
 {
     match shown_from {
         Some(ttl) => fields.count("shown_from", ttl as u64),

@@ -60,14 +60,14 @@ unplaced_line reason router vif = line (unplaced_words reason).0 ((unplaced_word
 
 -- the lines of a cause of a flow's fault
 abbrev pub cause_lines : FlowContext → Cause → List Line
-cause_lines c (SentOnto lan router vif) = line (codes "sent_onto")
+cause_lines context (SentOnto lan router vif) = line (codes "sent_onto")
     (codes "forwarded onto {lan} by {router} {device}: {row}" ∷ [])
     ((codes "device", Device router vif)
     ∷ (codes "lan", Lan lan)
     ∷ (codes "router", Router router)
     ∷ (codes "row", Row router)
     ∷ (codes "vif", Number vif) ∷ []) ∷ []
-cause_lines c (Circle from onto router vif) = line (codes "circle")
+cause_lines context (Circle from onto router vif) = line (codes "circle")
     (codes "{from_lan} to {to_lan} through {router}, {from_device} to {to_device}: {row}" ∷ [])
     ((codes "from_device", IncomingDevice router)
     ∷ (codes "from_lan", Lan from)
@@ -77,12 +77,12 @@ cause_lines c (Circle from onto router vif) = line (codes "circle")
     ∷ (codes "to_device", Device router vif)
     ∷ (codes "to_lan", Lan onto)
     ∷ (codes "to_vif", Number vif) ∷ []) ∷ []
-cause_lines c (TakeOut lan router vif least) =
-    take_out_line (nat_le least (flow_of c).ttl) lan router vif least (flow_of c).ttl ∷ []
-cause_lines c (Unplaced router vif) =
-    unplaced_line (unplaced_reason (c.domain.vifs router vif)) router vif
+cause_lines context (TakeOut lan router vif least) =
+    take_out_line (nat_le least (flow_of context).ttl) lan router vif least (flow_of context).ttl ∷ []
+cause_lines context (Unplaced router vif) =
+    unplaced_line (unplaced_reason (context.domain.vifs router vif)) router vif
     ∷ line (codes "row") (codes "{row}" ∷ []) ((codes "row", Row router) ∷ []) ∷ []
-cause_lines c (OnlyEverySource router vif) = line (codes "only_every_source")
+cause_lines context (OnlyEverySource router vif) = line (codes "only_every_source")
     ((codes "a copy arrives at {router} {device}, which has no resolved (S,G) entry for it, but one "
     ++ codes "for every source: {row}")
     ∷ codes "this may be healthy: mcaudit audits (S,G) trees only" ∷ [])
@@ -90,13 +90,13 @@ cause_lines c (OnlyEverySource router vif) = line (codes "only_every_source")
     ∷ (codes "router", Router router)
     ∷ (codes "row", EverySourceRow router)
     ∷ (codes "vif", Number vif) ∷ []) ∷ []
-cause_lines c (LeastTtl lan least) = line (codes "least_ttl")
+cause_lines context (LeastTtl lan least) = line (codes "least_ttl")
     ((codes "{lan} is reached by packets sent with ttl {least} or more; "
     ++ codes "this flow is listed with ttl {ttl}") ∷ [])
     ((codes "lan", Lan lan)
     ∷ (codes "least", Number least)
-    ∷ (codes "ttl", Number (flow_of c).ttl) ∷ []) ∷ []
-cause_lines c (StoppedAt router vif threshold ttl) = line (codes "stopped_at")
+    ∷ (codes "ttl", Number (flow_of context).ttl) ∷ []) ∷ []
+cause_lines context (StoppedAt router vif threshold ttl) = line (codes "stopped_at")
     (codes "stopped at {router} {device}: ttl {ttl} is not above threshold {threshold}" ∷ [])
     ((codes "device", Device router vif)
     ∷ (codes "router", Router router)
@@ -108,8 +108,8 @@ cause_lines c (StoppedAt router vif threshold ttl) = line (codes "stopped_at")
 
 -- what is made of the lines of one cause
 abbrev pub cause_items : {A : Type 0} → (FlowContext → Line → List A) → FlowContext → Cause → List A
-cause_items items_of c cause = flat_map (items_of c) (cause_lines c cause)
+cause_items items_of context cause = flat_map (items_of context) (cause_lines context cause)
 
 -- what is made of the lines of these causes, in order
 abbrev pub causes_items : {A : Type 0} → (FlowContext → Line → List A) → FlowContext → List Cause → List A
-causes_items items_of c causes = flat_map (cause_items items_of c) causes
+causes_items items_of context causes = flat_map (cause_items items_of context) causes

@@ -16,17 +16,18 @@ use Rattle.mc_lines.specs.SearchLines.{reach_items, shown_items}
 
 -- the context of the flow with this number
 abbrev pub context_of : DomainFacts → List SummaryValue → (flow : ℕ) → FlowContext
-context_of d summary flow = record { domain = d; summary = summary; flow = flow }
+context_of domain summary flow = record { domain = domain; summary = summary; flow = flow }
 
 -- ---- causes
 
 -- the text of the causes of a flow's fault, each line after two spaces
 abbrev pub causes_text : DomainFacts → List SummaryValue → (flow : ℕ) → List Cause → List ℕ
-causes_text d summary flow causes = causes_items line_text (context_of d summary flow) causes
+causes_text domain summary flow causes = causes_items line_text (context_of domain summary flow) causes
 
 -- the text of the causes, each line after four spaces: they explain a line that is itself indented
 abbrev pub deeper_causes_text : DomainFacts → List SummaryValue → (flow : ℕ) → List Cause → List ℕ
-deeper_causes_text d summary flow causes = causes_items deeper_line_text (context_of d summary flow) causes
+deeper_causes_text domain summary flow causes =
+    causes_items deeper_line_text (context_of domain summary flow) causes
 
 -- ---- a search
 
@@ -37,17 +38,18 @@ more_lines_text more =
 
 -- the first 40 shown lines of a search, and how many more there are
 abbrev pub first_lines_text : FlowContext → List ShownLine → List ℕ
-first_lines_text c lines =
-    flat_map (shown_items line_text c) (take 40 lines) ++ more_lines_text (length lines - 40)
+first_lines_text context lines =
+    flat_map (shown_items line_text context) (take 40 lines) ++ more_lines_text (length lines - 40)
 
 -- the text of a search: how far the packet came, and the lines
 abbrev pub search_text : DomainFacts → List SummaryValue → (flow : ℕ) → LanSearch → List ℕ
-search_text d summary flow found =
-    reach_items line_text (context_of d summary flow) found.reach.sent_on.items found.reach.took_none.items
-    ++ first_lines_text (context_of d summary flow) (shown_lines found.lines.items)
+search_text domain summary flow found =
+    reach_items line_text (context_of domain summary flow) found.reach.sent_on.items
+    found.reach.took_none.items
+    ++ first_lines_text (context_of domain summary flow) (shown_lines found.lines.items)
 
 -- In this domain the text of each search is a sequence of lines that begin with two spaces.
 abbrev pub IsEachSearchIndented : DomainFacts → Type 0
-IsEachSearchIndented d =
+IsEachSearchIndented domain =
     (summary : List SummaryValue) (flow : ℕ) (found : LanSearch)
-    → AreIndented (search_text d summary flow found)
+    → AreIndented (search_text domain summary flow found)

@@ -14,7 +14,7 @@ use Rattle.mc_lines.specs.Lines.FactValue.{EverySourceRow, Flag, Number, Routers
 
 -- the device of an interface of the topology
 abbrev pub interface_text : TopologyValue → (interface : ℕ) → List ℕ
-interface_text t interface = device_name_text (interface_at t interface).device
+interface_text topology interface = device_name_text (interface_at topology interface).device
 
 -- the number of a row's incoming vif; nothing for a row without one
 abbrev pub incoming_number_text : NetRow → List ℕ
@@ -27,14 +27,16 @@ flag_text false = codes "false"
 
 -- the text of a fact, in a line about a flow
 abbrev pub fact_text : FlowContext → FactValue → List ℕ
-fact_text c (Lan lan) = lan_name c.domain.topology lan
-fact_text c (Router router) = router_name c.domain.topology router
-fact_text c (Device router vif) = device_text c.domain router vif
-fact_text c (Interface interface) = interface_text c.domain.topology interface
-fact_text c (IncomingDevice router) = incoming_text c.domain router (row_for_flow c router)
-fact_text c (IncomingVif router) = incoming_number_text (row_for_flow c router)
-fact_text c (Row router) = flow_row_text c.domain c.flow router
-fact_text c (EverySourceRow router) = every_source_text c.domain c.summary (flow_of c).group router
-fact_text c (Flag flag) = flag_text flag
-fact_text c (Number n) = decimal n
-fact_text c (Routers routers) = routers_text c.domain.topology routers
+fact_text context (Lan lan) = lan_name context.domain.topology lan
+fact_text context (Router router) = router_name context.domain.topology router
+fact_text context (Device router vif) = device_text context.domain router vif
+fact_text context (Interface interface) = interface_text context.domain.topology interface
+fact_text context (IncomingDevice router) = incoming_text context.domain router
+    (row_for_flow context router)
+fact_text context (IncomingVif router) = incoming_number_text (row_for_flow context router)
+fact_text context (Row router) = flow_row_text context.domain context.flow router
+fact_text context (EverySourceRow router) = every_source_text context.domain context.summary
+    (flow_of context).group router
+fact_text context (Flag flag) = flag_text flag
+fact_text context (Number number) = decimal number
+fact_text context (Routers routers) = routers_text context.domain.topology routers

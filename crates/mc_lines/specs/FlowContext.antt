@@ -15,16 +15,16 @@ pub record FlowContext : Type 0 where
 
 -- the context, as the code keeps it
 abbrev pub flow_context : LineContext → FlowContext
-flow_context c = record {
-  domain = facts c.view.now.domain;
-  summary = c.summary.now;
-  flow = c.view.now.flow;
+flow_context context = record {
+  domain = facts context.view.now.domain;
+  summary = context.summary.now;
+  flow = context.view.now.flow;
 }
 
 -- the flow, as the topology lists it
 abbrev pub flow_of : FlowContext → Flow
-flow_of c = flow_at c.domain.topology c.flow
+flow_of context = flow_at context.domain.topology context.flow
 
 -- a router's row for the flow
 abbrev pub row_for_flow : FlowContext → (router : ℕ) → Row
-row_for_flow c router = (c.domain.nets c.flow).row router
+row_for_flow context router = (context.domain.nets context.flow).row router

@@ -47,8 +47,8 @@ interface_line kind sentence lan router interface = line kind (sentence ∷ [])
 -- why the incoming vif of a router's row is placed on no LAN; `OnNoLan` for a row without one, which has no
 -- such line
 abbrev pub incoming_reason : DomainFacts → (router : ℕ) → NetRow → UnplacedReason
-incoming_reason d router row =
-    of_entry_or OnNoLan (λ incoming pairs. unplaced_reason (d.vifs router incoming)) row
+incoming_reason domain router row =
+    of_entry_or OnNoLan (λ incoming pairs. unplaced_reason (domain.vifs router incoming)) row
 
 -- the kind and the sentence of the line for this reason
 abbrev pub incoming_words : UnplacedReason → List ℕ × List ℕ
@@ -100,24 +100,24 @@ expected_line lan routers = line (codes "expected_from_here")
 
 -- the line of a search, with its sentence and its facts
 abbrev pub search_line : FlowContext → SearchLine → Line
-search_line c (Excluded lan router) = router_line (codes "left_out")
+search_line context (Excluded lan router) = router_line (codes "left_out")
     (codes "{lan}: {router} is excluded: its tables are unknown") lan router
-search_line c (NoVif lan router interface) = interface_line (codes "no_vif")
+search_line context (NoVif lan router interface) = interface_line (codes "no_vif")
     (codes "{lan}: {router} has no vif for {device}") lan router interface
-search_line c (NotMulticast lan router interface) = interface_line (codes "not_multicast")
+search_line context (NotMulticast lan router interface) = interface_line (codes "not_multicast")
     (codes "{lan}: {router} uses {device} as a DVMRP tunnel or register vif") lan router interface
-search_line c (NoRow lan router) =
+search_line context (NoRow lan router) =
     router_line (codes "no_row") (codes "{lan}: {router} has no entry for this flow") lan router
-search_line c (Unresolved lan router) = router_line (codes "unresolved")
+search_line context (Unresolved lan router) = router_line (codes "unresolved")
     (codes "{lan}: {router} has only an unresolved entry: its routing daemon "
     ++ codes "has not answered yet") lan router
-search_line c (EverySource lan router) = line (codes "every_source")
+search_line context (EverySource lan router) = line (codes "every_source")
     ((codes "{lan}: {router} has no resolved (S,G) entry for this flow, but one for every source, "
     ++ codes "which is not audited: {row}") ∷ [])
     ((codes "lan", Lan lan) ∷ (codes "router", Router router) ∷ (codes "row", EverySourceRow router) ∷ [])
-search_line c (FromUnplaced lan router) =
-    from_unplaced_line (incoming_reason c.domain router (row_for_flow c router)) lan router
-search_line c (DoesNotSend lan router vif from carried) = line (codes "does_not_send")
+search_line context (FromUnplaced lan router) =
+    from_unplaced_line (incoming_reason context.domain router (row_for_flow context router)) lan router
+search_line context (DoesNotSend lan router vif from carried) = line (codes "does_not_send")
     (missing_sentence carried ∷ [])
     ((codes "carried", Flag carried)
     ∷ (codes "device", Device router vif)
@@ -126,7 +126,7 @@ search_line c (DoesNotSend lan router vif from carried) = line (codes "does_not_
     ∷ (codes "router", Router router)
     ∷ (codes "row", Row router)
     ∷ (codes "vif", Number vif) ∷ [])
-search_line c (Stopped lan router vif threshold ttl) = line (codes "stopped")
+search_line context (Stopped lan router vif threshold ttl) = line (codes "stopped")
     (codes "{lan}: {router} is stopped at {device}: ttl {ttl} is not above threshold {threshold}" ∷ [])
     ((codes "device", Device router vif)
     ∷ (codes "lan", Lan lan)
@@ -135,7 +135,7 @@ search_line c (Stopped lan router vif threshold ttl) = line (codes "stopped")
     ∷ (codes "threshold", Number threshold)
     ∷ (codes "ttl", Number ttl)
     ∷ (codes "vif", Number vif) ∷ [])
-search_line c (WaitsFor lan router vif from) = line (codes "waits_for")
+search_line context (WaitsFor lan router vif from) = line (codes "waits_for")
     (codes "{lan}: {router} expects it from {from_lan} at {from_device}: {row}" ∷ [])
     ((codes "device", Device router vif)
     ∷ (codes "from_device", IncomingDevice router)
@@ -145,28 +145,28 @@ search_line c (WaitsFor lan router vif from) = line (codes "waits_for")
     ∷ (codes "router", Router router)
     ∷ (codes "row", Row router)
     ∷ (codes "vif", Number vif) ∷ [])
-search_line c (ExpectedFromHere lan router) = expected_line lan (router ∷ [])
-search_line c (NoRouter lan) =
+search_line context (ExpectedFromHere lan router) = expected_line lan (router ∷ [])
+search_line context (NoRouter lan) =
     lan_line (codes "no_router") (codes "{lan}: no router is on this LAN") lan
-search_line c (NoSender lan) =
+search_line context (NoSender lan) =
     lan_line (codes "no_sender") (codes "{lan}: no entry for this flow forwards onto it") lan
 
 -- a line of a search as it is shown, with its sentence and its facts
 abbrev pub shown_line : FlowContext → ShownLine → Line
-shown_line c (One line) = search_line c line
-shown_line c (Expected lan routers) = expected_line lan routers
+shown_line context (One line) = search_line context line
+shown_line context (Expected lan routers) = expected_line lan routers
 
 -- ---- how far the packet came
 
 -- the sentence about the routers that sent copies on; none if there are none
 abbrev pub sent_on_sentences : (sent_on : List ℕ) → List (List ℕ)
 sent_on_sentences [] = []
-sent_on_sentences (r ∷ rs) = codes "reaches:{routers}" ∷ []
+sent_on_sentences (router ∷ routers) = codes "reaches:{routers}" ∷ []
 
 -- the sentence about the routers that took none; if there are none of these, and none that sent copies on,
 -- the one that no router receives the packet
 abbrev pub took_none_sentences : (sent_on took_none : List ℕ) → List (List ℕ)
-took_none_sentences sent_on (r ∷ rs) = codes "reaches, and is taken by no entry of:{routers}" ∷ []
+took_none_sentences sent_on (router ∷ routers) = codes "reaches, and is taken by no entry of:{routers}" ∷ []
 took_none_sentences [] [] = codes "by the known tables no router of this search receives it" ∷ []
 took_none_sentences (s ∷ ss) [] = []
 
@@ -184,14 +184,14 @@ reach_lines sent_on took_none =
 
 -- what is made of a shown line
 abbrev pub shown_items : {A : Type 0} → (FlowContext → Line → List A) → FlowContext → ShownLine → List A
-shown_items items_of c l = items_of c (shown_line c l)
+shown_items items_of context l = items_of context (shown_line context l)
 
 -- what is made of all lines of a search, as they are shown
 abbrev pub search_items : {A : Type 0} → (FlowContext → Line → List A) → FlowContext → List SearchLine
     → List A
-search_items items_of c lines = flat_map (shown_items items_of c) (shown_lines lines)
+search_items items_of context lines = flat_map (shown_items items_of context) (shown_lines lines)
 
 -- what is made of the lines that say how far the packet came
 abbrev pub reach_items : {A : Type 0} → (FlowContext → Line → List A) → FlowContext
     → (sent_on took_none : List ℕ) → List A
-reach_items items_of c sent_on took_none = flat_map (items_of c) (reach_lines sent_on took_none)
+reach_items items_of context sent_on took_none = flat_map (items_of context) (reach_lines sent_on took_none)

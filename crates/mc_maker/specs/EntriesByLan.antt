@@ -12,7 +12,7 @@ use Rattle.mc_forward.specs.PerLan.{item_on_lan, HoldsFirstOfEachKey}
 -- Each place of `by_lan` holds the first of these entries for the LAN with the place's number, if there is
 -- one.
 abbrev pub AreEntriesByLan : List (Option Entry) → List Entry → Type 0
-AreEntriesByLan by_lan es = HoldsFirstOfEachKey (λ (e : Entry). e.lan) by_lan es
+AreEntriesByLan by_lan entries = HoldsFirstOfEachKey (λ (entry : Entry). entry.lan) by_lan entries
 
 -- the entry that is held for a LAN; none for no LAN
 abbrev pub held_entry_at : List (Option Entry) → Option ℕ → Option Entry
@@ -23,24 +23,25 @@ held_entry_at by_lan (Some lan) = item_on_lan by_lan lan
 abbrev pub held_entries : List (Option Entry) → List Entry
 held_entries [] = []
 held_entries (None ∷ places) = held_entries places
-held_entries (Some e ∷ places) = e ∷ held_entries places
+held_entries (Some entry ∷ places) = entry ∷ held_entries places
 
 -- the need of a copy that this interface sent, by the held entry of the LAN that it took it from; 1 for the
 -- source's copy
 abbrev pub need_by_held_entries : Net → List (Option Entry) → Option Interface → ℕ
-need_by_held_entries n by_lan None = 1
-need_by_held_entries n by_lan (Some i) = need_over (threshold_of i.1 (row_pairs (n.row i.0)))
-    (held_entry_at by_lan (from_lan n (Some i)))
+need_by_held_entries net by_lan None = 1
+need_by_held_entries net by_lan (Some interface) =
+    need_over (threshold_of interface.1 (row_pairs (net.row interface.0)))
+    (held_entry_at by_lan (from_lan net (Some interface)))
 
 -- a copy's entry, by the held entries: its rank is 255 less its TTL
 abbrev pub entry_by_held_entries : Net → List (Option Entry) → Copy → Entry
-entry_by_held_entries n by_lan c = record {
-  lan = c.lan;
-  rank = 255 - c.ttl;
-  need = need_by_held_entries n by_lan c.sender;
-  forwarder = c.sender;
+entry_by_held_entries net by_lan copy = record {
+  lan = copy.lan;
+  rank = 255 - copy.ttl;
+  need = need_by_held_entries net by_lan copy.sender;
+  forwarder = copy.sender;
 }
 
 -- whether the flow's TTL meets the entry's need, or the entry's LAN doesn't want the flow
 abbrev pub serves : Net → Entry → Bool
-serves n e = nat_le e.need n.ttl || not (n.wants e.lan)
+serves net entry = nat_le entry.need net.ttl || not (net.wants entry.lan)

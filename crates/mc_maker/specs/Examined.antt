@@ -17,12 +17,13 @@ use Rattle.mc_maker.specs.declared.examination.Examined.TheVariants.{Certified, 
 
 -- The copies are of the domain's LANs and routers, each LAN that wants the flow carried one, and their
 -- entries fulfil all conditions of a certificate but the last, with needs up to 255.
-pub record AreCleanCopies (d : DomainValue) (flow : ℕ) (cs : List Copy) : Type 0 where
-  pub tree : IsTree (net_of d flow) (entries_of (net_of d flow) cs)
-  pub needs : All (λ e. e.need ≤ 255) (entries_of (net_of d flow) cs)
-  pub reached : (l : ℕ) → (net_of d flow).wants l ≡ true → In l (lans cs)
-  pub lans : All (λ c. c.lan < length d.topology.lans) cs
-  pub senders : All (λ c. IfSome c.sender (λ i. i.0 < length d.topology.routers)) cs
+pub record AreCleanCopies (domain : DomainValue) (flow : ℕ) (copies : List Copy) : Type 0 where
+  pub tree : IsTree (net_of domain flow) (entries_of (net_of domain flow) copies)
+  pub needs : All (λ entry. entry.need ≤ 255) (entries_of (net_of domain flow) copies)
+  pub reached : (lan : ℕ) → (net_of domain flow).wants lan ≡ true → In lan (lans copies)
+  pub lans : All (λ copy. copy.lan < length domain.topology.lans) copies
+  pub senders : All (λ copy. IfSome copy.sender (λ sender. sender.0 < length domain.topology.routers))
+      copies
 
 -- ---- the result
 
@@ -49,32 +50,35 @@ first_choices = record { numbers = []; last = false }
 
 -- The travel is that of a packet of the flow with this TTL.
 abbrev pub IsFirstPickTravel : DomainValue → (flow ttl : ℕ) → Travel → Type 0
-IsFirstPickTravel d flow ttl t = IsRunOfChoices (replay_of d flow ttl first_choices) t
+IsFirstPickTravel domain flow ttl travel = IsRunOfChoices (replay_of domain flow ttl first_choices) travel
 
 -- The travel finds nothing: its finding is `Clean`.
 abbrev pub FindsNothing : Travel → Type 0
-FindsNothing t = finding_value t.finding ≡ Clean
+FindsNothing travel = finding_value travel.finding ≡ Clean
 
 -- The travel finds a fault: its finding is another one.
 abbrev pub FindsFault : Travel → Type 0
-FindsFault t = finding_value t.finding ≢ Clean
+FindsFault travel = finding_value travel.finding ≢ Clean
 
 -- P holds exactly if the travels at TTL 255 and at the flow's TTL both find nothing.
 abbrev pub IffTravelsFindNothing : DomainValue → (flow : ℕ) → Type 0 → Type 0
-IffTravelsFindNothing d flow P = (first second : Travel) → IsFirstPickTravel d flow 255 first
-    → IsFirstPickTravel d flow (ttl_of d flow) second → P ↔ (FindsNothing first × FindsNothing second)
+IffTravelsFindNothing domain flow P = (first second : Travel) → IsFirstPickTravel domain flow 255 first
+    → IsFirstPickTravel domain flow (ttl_of domain flow) second → P
+    ↔ (FindsNothing first × FindsNothing second)
 
 -- The TTL at which a fault is found is 255 if the travel at TTL 255 finds one, and otherwise the flow's.
-pub record IsTtlOfFault (d : DomainValue) (flow ttl : ℕ) : Type 0 where
-  pub greatest : (t : Travel) → IsFirstPickTravel d flow 255 t → FindsFault t → ttl ≡ 255
-  pub least : (t : Travel) → IsFirstPickTravel d flow 255 t → FindsNothing t → ttl ≡ ttl_of d flow
+pub record IsTtlOfFault (domain : DomainValue) (flow ttl : ℕ) : Type 0 where
+  pub greatest : (travel : Travel) → IsFirstPickTravel domain flow 255 travel → FindsFault travel
+      → ttl ≡ 255
+  pub least : (travel : Travel) → IsFirstPickTravel domain flow 255 travel → FindsNothing travel
+      → ttl ≡ ttl_of domain flow
 
 -- The entries are those of the copies that were carried in the travel at TTL 255, which finds nothing, in
 -- some order: each has its copy's LAN, as its rank 255 less its copy's TTL, and its copy's sender as its
 -- forwarder.
-pub record AreEntriesOfCleanTravel (d : DomainValue) (flow : ℕ) (es : List Entry) : Type 0 where
+pub record AreEntriesOfCleanTravel (domain : DomainValue) (flow : ℕ) (es : List Entry) : Type 0 where
   pub travel : Travel
   pub flight : Flight
-  pub run : IsRunTo (replay_of d flow 255 first_choices) travel flight
+  pub run : IsRunTo (replay_of domain flow 255 first_choices) travel flight
   pub clean : FindsNothing travel
-  pub entries : IsReordering (entries_of (net_of d flow) flight.carried) es
+  pub entries : IsReordering (entries_of (net_of domain flow) flight.carried) es

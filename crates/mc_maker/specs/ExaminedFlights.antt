@@ -14,9 +14,10 @@ use Rattle.mc_maker.specs.declared.examined_flights.ExaminedFlights.TheVariants.
 
 -- The result without its flights. `greatest` is the travel at TTL 255, and `least` the one at the flow's TTL.
 abbrev pub without_flights : DomainValue → (flow : ℕ) → ExaminedFlights → Examined
-without_flights d flow (Certified entries) = examined.Certified entries
-without_flights d flow (FoundAtTtl255 ended) = examined.Found 255 ended.travel
-without_flights d flow (FoundAtFlowTtl greatest least) = examined.Found (ttl_of d flow) least.travel
+without_flights domain flow (Certified entries) = examined.Certified entries
+without_flights domain flow (FoundAtTtl255 ended) = examined.Found 255 ended.travel
+without_flights domain flow (FoundAtFlowTtl greatest least) =
+    examined.Found (ttl_of domain flow) least.travel
 
 -- This is the travel of a packet of the flow with this TTL in which the first waiting copy is handled each
 -- time, and the flight that it ends with.
@@ -27,8 +28,8 @@ pub record IsFinishedTravelOf (d : DomainValue) (flow ttl : ℕ) (ended : Finish
 
 -- The travels of the result are the one at TTL 255 and, where that finds nothing, the one at the flow's TTL.
 abbrev pub HasExaminedFlights : DomainValue → (flow : ℕ) → ExaminedFlights → Type 0
-HasExaminedFlights d flow (Certified entries) = ⊤
-HasExaminedFlights d flow (FoundAtTtl255 ended) = IsFinishedTravelOf d flow 255 ended
-HasExaminedFlights d flow (FoundAtFlowTtl greatest least) =
-    IsFinishedTravelOf d flow 255 greatest × FindsNothing greatest.travel
-    × IsFinishedTravelOf d flow (ttl_of d flow) least
+HasExaminedFlights domain flow (Certified entries) = ⊤
+HasExaminedFlights domain flow (FoundAtTtl255 ended) = IsFinishedTravelOf domain flow 255 ended
+HasExaminedFlights domain flow (FoundAtFlowTtl greatest least) =
+    IsFinishedTravelOf domain flow 255 greatest × FindsNothing greatest.travel
+    × IsFinishedTravelOf domain flow (ttl_of domain flow) least

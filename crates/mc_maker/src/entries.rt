@@ -80,8 +80,8 @@ fn entry_of_copy(view: &FlowView<'_>, by_lan: &PerLan<Reached>, copy: &CarriedCo
 /// Stores the entry of each copy by its LAN, unless the LAN has one.
 fn put_entries(view: &FlowView<'_>, by_lan: &mut PerLan<Reached>, copies: &[CarriedCopy])
     requires empty { AreEntriesByLan by_lan.old [] }
-    requires lans { All (λ c. c.lan < length by_lan.old) copies.now }
-    requires needs { All (λ e. e.need ≤ 255) (entries_of (net_in view.now) copies.now) }
+    requires lans { All (λ copy. copy.lan < length by_lan.old) copies.now }
+    requires needs { All (λ entry. entry.need ≤ 255) (entries_of (net_in view.now) copies.now) }
     ensures entries { AreEntriesByLan by_lan.new (entries_of (net_in view.now) copies.now) }
 {
     for copy in copies {
@@ -96,8 +96,8 @@ pub(crate) fn entries_by_lan(
     view: &FlowView<'_>,
     copies: &[CarriedCopy],
 ) -> Result<PerLan<Reached>, Memory>
-    requires lans { All (λ c. c.lan < length view.now.domain.topology.lans) copies.now }
-    requires needs { All (λ e. e.need ≤ 255) (entries_of (net_in view.now) copies.now) }
+    requires lans { All (λ copy. copy.lan < length view.now.domain.topology.lans) copies.now }
+    requires needs { All (λ entry. entry.need ≤ 255) (entries_of (net_in view.now) copies.now) }
     ensures ok { IfOk result (λ by_lan.
         AreEntriesByLan by_lan (entries_of (net_in view.now) copies.now)) }
 {

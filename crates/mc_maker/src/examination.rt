@@ -43,7 +43,8 @@ pub fn examine(alloc: Global, domain: &Domain, flow: u32) -> Result<Examined, Me
     // The entries of a certified flow are accepted.
     ensures accepted { IfOk result (IfCertified (IsAccepted (net_of domain.now flow))) }
     // They are in the order of their LANs' numbers.
-    ensures ascending { IfOk result (IfCertified (λ es. IsStrictlyIncreasing (map (λ e. e.lan) es))) }
+    ensures ascending { IfOk result (IfCertified
+        (λ entries. IsStrictlyIncreasing (map (λ entry. entry.lan) entries))) }
     // Their LANs and routers are the topology's.
     ensures listed { IfOk result (IfCertified (All (IsEntryOf domain.now.topology))) }
     // A certificate can hold them.
@@ -81,19 +82,19 @@ pub fn examine(alloc: Global, domain: &Domain, flow: u32) -> Result<Examined, Me
 pub fn make(alloc: Global, domain: &Domain, flow: u32) -> Result<Option<Vec<Reached>>, Memory>
     requires known { flow < length domain.now.topology.flows }
     // The entries are accepted.
-    ensures accepted { IfOk result (λ made. IfSome made (λ es.
-        IsAccepted (net_of domain.now flow) es.items)) }
+    ensures accepted { IfOk result (λ made. IfSome made (λ entries.
+        IsAccepted (net_of domain.now flow) entries.items)) }
     // They are in the order of their LANs' numbers.
-    ensures ascending { IfOk result (λ made. IfSome made (λ es.
-        IsStrictlyIncreasing (map (λ e. e.lan) es.items))) }
+    ensures ascending { IfOk result (λ made. IfSome made (λ entries.
+        IsStrictlyIncreasing (map (λ entry. entry.lan) entries.items))) }
     // Their LANs and routers are the topology's.
-    ensures listed { IfOk result (λ made. IfSome made (λ es.
-        All (IsEntryOf domain.now.topology) es.items)) }
+    ensures listed { IfOk result (λ made. IfSome made (λ entries.
+        All (IsEntryOf domain.now.topology) entries.items)) }
     // A certificate can hold them.
-    ensures writable { IfOk result (λ made. IfSome made (λ es. IsWritableTree es.items)) }
+    ensures writable { IfOk result (λ made. IfSome made (λ entries. IsWritableTree entries.items)) }
     // They are those of the copies that the travel at TTL 255 carried.
-    ensures made { IfOk result (λ made. IfSome made (λ es. AreEntriesOfCleanTravel domain.now flow
-        es.items)) }
+    ensures made { IfOk result (λ made. IfSome made (λ entries. AreEntriesOfCleanTravel domain.now flow
+        entries.items)) }
     // There are entries exactly if the flow is right.
     ensures right { IfOk result (λ made. IsSome made ↔ IsRight (net_of domain.now flow)) }
     // There are entries exactly if the travels at TTL 255 and at the flow's TTL both find nothing.

@@ -45,15 +45,15 @@ fn certificate_of(
     copies: &[CarriedCopy],
 ) -> Result<Option<Vec<Reached>>, Memory>
     requires valid { AreCleanCopies view.now.domain view.now.flow copies.now }
-    ensures accepted { IfOk result (λ made. IfSome made (λ es.
-        IsAccepted (net_in view.now) es.items)) }
-    ensures ascending { IfOk result (λ made. IfSome made (λ es.
-        IsStrictlyIncreasing (map (λ e. e.lan) es.items))) }
-    ensures listed { IfOk result (λ made. IfSome made (λ es.
-        All (IsEntryOf view.now.domain.topology) es.items)) }
-    ensures writable { IfOk result (λ made. IfSome made (λ es. IsWritableTree es.items)) }
-    ensures entries { IfOk result (λ made. IfSome made (λ es.
-        IsReordering (entries_of (net_in view.now) copies.now) es.items)) }
+    ensures accepted { IfOk result (λ made. IfSome made (λ entries.
+        IsAccepted (net_in view.now) entries.items)) }
+    ensures ascending { IfOk result (λ made. IfSome made (λ entries.
+        IsStrictlyIncreasing (map (λ entry. entry.lan) entries.items))) }
+    ensures listed { IfOk result (λ made. IfSome made (λ entries.
+        All (IsEntryOf view.now.domain.topology) entries.items)) }
+    ensures writable { IfOk result (λ made. IfSome made (λ entries. IsWritableTree entries.items)) }
+    ensures entries { IfOk result (λ made. IfSome made (λ entries.
+        IsReordering (entries_of (net_in view.now) copies.now) entries.items)) }
     // Without entries, the travel at the flow's TTL finds a fault.
     ensures none { IfOk result (λ made. IfNone made ((travel : Travel) →
         IsFirstPickTravel view.now.domain view.now.flow (net_in view.now).ttl travel → FindsFault travel)) }
@@ -83,7 +83,7 @@ pub fn examine_to_end<'d>(
         (without_flights domain.now flow examined_flights)) }
     // They are in the order of their LANs' numbers.
     ensures ascending { IfOk result (λ examined_flights.
-        IfCertified (λ es. IsStrictlyIncreasing (map (λ e. e.lan) es))
+        IfCertified (λ entries. IsStrictlyIncreasing (map (λ entry. entry.lan) entries))
         (without_flights domain.now flow examined_flights)) }
     // Their LANs and routers are the topology's.
     ensures listed { IfOk result (λ examined_flights. IfCertified (All (IsEntryOf domain.now.topology))

@@ -20,11 +20,11 @@ fn serves(view: &FlowView<'_>, entry: &Reached) -> bool
 /// Whether each LAN of these entries is served, if it wants the flow. After a clean travel, each LAN
 /// that wants the flow has an entry.
 pub(crate) fn serves_all(view: &FlowView<'_>, entries: &[Reached]) -> bool
-    requires within { All (λ e. e.lan < length view.now.domain.topology.lans) entries.now }
+    requires within { All (λ entry. entry.lan < length view.now.domain.topology.lans) entries.now }
     ensures rules { IsFlowOfDomain view.now }
     ensures each { IsTrue result → All (λ e. serves (net_in view.now) e ≡ true) entries.now }
     ensures some { IsFalse result →
-        (e : Entry) × In e entries.now × (serves (net_in view.now) e ≡ false) }
+        (entry : Entry) × In entry entries.now × (serves (net_in view.now) entry ≡ false) }
 {
     let _rules = view.topology();
     for entry in entries {

@@ -13,29 +13,31 @@ use Rattle.mc_replay.specs.declared.past_strays.FlightPastStrays.{FlightPastStra
 
 -- whether the run goes on from a flight: no LAN carried two copies, and a copy waits
 abbrev pub goes_on : Flight → Bool
-goes_on f = not (is_some (first_double [] f.carried)) && nat_lt 0 (length f.waiting)
+goes_on flight = not (is_some (first_double [] flight.carried)) && nat_lt 0 (length flight.waiting)
 
--- From flight f on these picks, the first waiting copy each time, lead to the first flight from which the run
+-- From the flight these picks, the first waiting copy each time, lead to the first flight from which the run
 -- doesn't go on.
 abbrev pub IsRunPastStrays : Net → List ℕ → Flight → Type 0
-IsRunPastStrays n [] f = goes_on f ≡ false
-IsRunPastStrays n (i ∷ is) f = (goes_on f ≡ true) × (i ≡ 0) × IsRunPastStrays n is (step n i f)
+IsRunPastStrays net [] flight = goes_on flight ≡ false
+IsRunPastStrays net (pick ∷ picks) flight = (goes_on flight ≡ true) × (pick ≡ 0)
+    × IsRunPastStrays net picks (step net pick flight)
 
--- The run past strays leads from flight f to flight g.
-pub record EndsPastStrays (n : Net) (f g : Flight) : Type 0 where
+-- The run past strays leads from the first flight to the second one.
+pub record EndsPastStrays (net : Net) (flight last : Flight) : Type 0 where
   pub picks : List ℕ
-  pub stops : IsRunPastStrays n picks f
-  pub ends : g ≡ run n (handles picks) f
+  pub stops : IsRunPastStrays net picks flight
+  pub ends : last ≡ run net (handles picks) flight
 
 -- what a LAN's second copy shows, whatever strays there are: a loop if it descends from the LAN's own first
 -- copy, or else a duplicate
 abbrev pub finding_of_double : Net → List Copy → Copy → Finding
-finding_of_double n cs c =
-    if walk_visits n cs c.lan (length cs) c.sender then Loop c.lan else Duplicate c.lan
+finding_of_double net copies copy =
+    if walk_visits net copies copy.lan (length copies) copy.sender then Loop copy.lan
+    else Duplicate copy.lan
 
 -- what the carried copies show, if a LAN carried two: a loop or a duplicate
 abbrev pub second_copy_finding : Net → List Copy → Option Finding
-second_copy_finding n cs = option_map (finding_of_double n cs) (first_double [] cs)
+second_copy_finding net copies = option_map (finding_of_double net copies) (first_double [] copies)
 
 -- The flight with which the run past strays ends, of a packet of the flow with this TTL, and what its carried
 -- copies show.

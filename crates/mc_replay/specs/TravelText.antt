@@ -19,15 +19,16 @@ outcome_text (Sent copies strays) =
 -- an event, such as `r1 0 ttl 3 sent 1 strayed 0`: the router, its vif, the TTL that the copy came with, and
 -- the outcome
 abbrev pub event_text : TopologyValue → Event → List ℕ
-event_text t e = router_name t e.router ++ codes " " ++ decimal e.vif ++ codes " ttl "
-    ++ decimal e.ttl ++ codes " " ++ outcome_text e.outcome
+event_text topology event = router_name topology event.router ++ codes " " ++ decimal event.vif
+    ++ codes " ttl "
+    ++ decimal event.ttl ++ codes " " ++ outcome_text event.outcome
 
 -- a finding: its kind, and the LAN, or the router and the vif, that it is about, such as `Missed hall` or
 -- `Stray r1 2`
 abbrev pub finding_text : TopologyValue → Finding → List ℕ
-finding_text t Clean = codes "Clean"
-finding_text t (Duplicate lan) = codes "Duplicate " ++ lan_name t lan
-finding_text t (Loop lan) = codes "Loop " ++ lan_name t lan
-finding_text t (Stray router vif) =
-    codes "Stray " ++ router_name t router ++ codes " " ++ decimal vif
-finding_text t (Missed lan) = codes "Missed " ++ lan_name t lan
+finding_text topology Clean = codes "Clean"
+finding_text topology (Duplicate lan) = codes "Duplicate " ++ lan_name topology lan
+finding_text topology (Loop lan) = codes "Loop " ++ lan_name topology lan
+finding_text topology (Stray router vif) =
+    codes "Stray " ++ router_name topology router ++ codes " " ++ decimal vif
+finding_text topology (Missed lan) = codes "Missed " ++ lan_name topology lan

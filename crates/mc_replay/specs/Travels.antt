@@ -25,44 +25,48 @@ pub record Replay : Type 0 where
 
 -- the replay of a packet of a domain's flow, sent with this TTL, by these choices
 abbrev pub replay_of : DomainValue → (flow ttl : ℕ) → Choices → Replay
-replay_of d flow ttl choices = record {
-  net = net_of d flow;
-  lans = length d.topology.lans;
+replay_of domain flow ttl choices = record {
+  net = net_of domain flow;
+  lans = length domain.topology.lans;
   ttl = ttl;
   choices = choices;
 }
 
--- From flight f on, these are the events of the run by the picker's choices, which ends with flight g. Flight
--- g has the finding x, and no flight before it has a finding.
-pub record IsTravelTo (n : Net) (lans : ℕ) (choices : Choices) (f : Flight) (es : List Event) (g : Flight)
-    (x : Finding) : Type 0 where
+-- From the flight on, these are the reported events of the run by the picker's choices, which ends with
+-- `last`. That flight has the finding, and no flight before it has one.
+pub record IsTravelTo (net : Net) (lans : ℕ) (choices : Choices) (flight : Flight) (reported : List Event)
+    (last : Flight) (finding : Finding) : Type 0 where
   pub picks : List ℕ
-  pub travel : IsTravel n lans choices.numbers choices.last picks f x
-  pub events : es ≡ events n picks f
-  pub ends : g ≡ run n (handles picks) f
+  pub travel : IsTravel net lans choices.numbers choices.last picks flight finding
+  pub events : reported ≡ events net picks flight
+  pub ends : last ≡ run net (handles picks) flight
 
--- The travel has the events of the run by the picker's choices up to flight g, which is the first flight with
+-- The travel has the events of the run by the picker's choices up to this flight, which is the first one with
 -- a finding, and has that finding.
 abbrev pub IsRunTo : Replay → Travel → Flight → Type 0
-IsRunTo r t g = IsTravelTo r.net r.lans r.choices (start r.net r.ttl) t.events.items g
-    (finding_value t.finding)
+IsRunTo replay travel flight = IsTravelTo replay.net replay.lans replay.choices
+    (start replay.net replay.ttl) travel.events.items flight
+    (finding_value travel.finding)
 
 -- The travel is such a run up to some flight.
 abbrev pub IsRunOfChoices : Replay → Travel → Type 0
-IsRunOfChoices r t = (g : Flight) × IsRunTo r t g
+IsRunOfChoices replay travel = (flight : Flight) × IsRunTo replay travel flight
 
 -- There are at most as many events as vifs that are placed on LANs.
 abbrev pub EventsAtMostPlacedVifs : Replay → Travel → Type 0
-EventsAtMostPlacedVifs r t = length t.events.items ≤ length (placed_interfaces r.net)
+EventsAtMostPlacedVifs replay travel = length travel.events.items ≤ length (placed_interfaces replay.net)
 
 -- The flight that the run ends with shows what the travel's finding means.
 abbrev pub EndShowsFinding : Replay → Travel → Type 0
-EndShowsFinding r t = (g : Flight) × IsRunTo r t g × Shows r.net g (finding_value t.finding)
+EndShowsFinding replay travel = (flight : Flight) × IsRunTo replay travel flight
+    × Shows replay.net flight (finding_value travel.finding)
 
 -- In that flight the walk back from each carried copy ends at the source's copy.
 abbrev pub WalksEndAtSource : Replay → Travel → Type 0
-WalksEndAtSource r t = (g : Flight) × IsRunTo r t g × AllWalksEnd r.net g.carried
+WalksEndAtSource replay travel = (flight : Flight) × IsRunTo replay travel flight
+    × AllWalksEnd replay.net flight.carried
 
 -- A finding other than `Clean`, of a packet with at least the flow's TTL, shows that the flow isn't right.
 abbrev pub ShowsWrongFlow : Replay → Travel → Type 0
-ShowsWrongFlow r t = r.net.ttl ≤ r.ttl → finding_value t.finding ≢ Clean → ¬ IsRight r.net
+ShowsWrongFlow replay travel = replay.net.ttl ≤ replay.ttl → finding_value travel.finding ≢ Clean
+    → ¬ IsRight replay.net

@@ -15,11 +15,11 @@ pub(crate) fn record_first_copies(
     seen: usize,
 ) -> Option<CarriedCopy>
     requires seen { seen ≤ length copies.now }
-    requires firsts { HoldsFirstOfEachKey (λ c. c.lan) firsts.old (take seen copies.now) }
+    requires firsts { HoldsFirstOfEachKey (λ copy. copy.lan) firsts.old (take seen copies.now) }
     requires distinct { first_double [] (take seen copies.now) ≡ None }
-    requires lans { All (λ c. c.lan < length firsts.old) copies.now }
+    requires lans { All (λ copy. copy.lan < length firsts.old) copies.now }
     ensures second { result ≡ first_double [] copies.now }
-    ensures firsts { HoldsFirstOfEachKey (λ c. c.lan) firsts.new copies.now }
+    ensures firsts { HoldsFirstOfEachKey (λ copy. copy.lan) firsts.new copies.now }
     ensures count { length firsts.new ≡ length firsts.old }
 {
     let mut second = None;
@@ -34,7 +34,7 @@ pub(crate) fn record_first_copies(
 /// The router and the vif that sent the first copy onto a LAN. None for the source, and where there is no
 /// copy.
 pub fn sender_on(first_copies: &PerLan<CarriedCopy>, lan: LanNo) -> Option<(RouterNo, u8)>
-    ensures { result ≡ option_and_then (λ c. c.sender) (item_on_lan first_copies.now lan) }
+    ensures { result ≡ option_and_then (λ copy. copy.sender) (item_on_lan first_copies.now lan) }
 {
     match first_copies.on(lan) {
         Some(first) => first.sender,

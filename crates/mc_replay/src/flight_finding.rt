@@ -22,7 +22,7 @@ pub(crate) fn walk_back_reaches_own_lan(
     firsts: &PerLan<CarriedCopy>,
     copy: &CarriedCopy,
 ) -> bool
-    requires firsts { HoldsFirstOfEachKey (λ c. c.lan) firsts.now copies.now }
+    requires firsts { HoldsFirstOfEachKey (λ copy. copy.lan) firsts.now copies.now }
     ensures value { result ≡ walk_visits (net_in view.now) copies.now copy.now.lan (length copies.now)
         copy.now.sender }
 {
@@ -42,7 +42,7 @@ pub(crate) fn walk_back_reaches_own_lan(
 /// Whether some LAN wants the flow and carried no copy. It tests every LAN without a branch, since a
 /// processor predicts badly which of them want a flow.
 fn misses_any_lan(view: &FlowView<'_>, firsts: &PerLan<CarriedCopy>) -> bool
-    ensures { (copies : List Copy) → HoldsFirstOfEachKey (λ c. c.lan) firsts.now copies → result ≡
+    ensures { (copies : List Copy) → HoldsFirstOfEachKey (λ copy. copy.lan) firsts.now copies → result ≡
         is_some (missed (net_in view.now) copies
         (below (length view.now.domain.topology.lans))) }
 {
@@ -56,7 +56,7 @@ fn misses_any_lan(view: &FlowView<'_>, firsts: &PerLan<CarriedCopy>) -> bool
 
 /// The lowest LAN that wants the flow and carried no copy.
 fn missed(view: &FlowView<'_>, firsts: &PerLan<CarriedCopy>) -> Option<LanNo>
-    ensures { (copies : List Copy) → HoldsFirstOfEachKey (λ c. c.lan) firsts.now copies → result ≡
+    ensures { (copies : List Copy) → HoldsFirstOfEachKey (λ copy. copy.lan) firsts.now copies → result ≡
         missed (net_in view.now) copies
         (below (length view.now.domain.topology.lans)) }
 {
@@ -80,7 +80,7 @@ pub(crate) fn finding_of(
     firsts: &PerLan<CarriedCopy>,
     second: Option<CarriedCopy>,
 ) -> Option<Finding>
-    requires firsts { HoldsFirstOfEachKey (λ c. c.lan) firsts.now flight.now.flight.carried }
+    requires firsts { HoldsFirstOfEachKey (λ copy. copy.lan) firsts.now flight.now.flight.carried }
     requires second { second ≡ first_double [] flight.now.flight.carried }
     ensures finding { optional_finding_value result ≡ finding (net_in view.now)
         (length view.now.domain.topology.lans) flight.now.flight }

@@ -38,12 +38,12 @@ fn run_to_second_copy<'d>(
     requires start { (ttl : ℕ) × (flight.old.flight
         ≡ start (net_of view.now.domain view.now.flow) ttl) }
     requires count { length firsts.old ≡ length view.now.domain.topology.lans }
-    requires firsts { HoldsFirstOfEachKey (λ c. c.lan) firsts.old [] }
+    requires firsts { HoldsFirstOfEachKey (λ copy. copy.lan) firsts.old [] }
     ensures domain { IfOk result (λ _. flight.new.domain ≡ view.now.domain) }
     ensures flow { IfOk result (λ _. flight.new.flow ≡ view.now.flow) }
     ensures run { IfOk result (λ _. EndsPastStrays (net_of view.now.domain view.now.flow)
         flight.old.flight flight.new.flight) }
-    ensures firsts { IfOk result (λ _. HoldsFirstOfEachKey (λ c. c.lan) firsts.new
+    ensures firsts { IfOk result (λ _. HoldsFirstOfEachKey (λ copy. copy.lan) firsts.new
         flight.new.flight.carried) }
     ensures second { IfOk result (λ second. second ≡ first_double [] flight.new.flight.carried) }
 {
@@ -69,7 +69,7 @@ fn finding_of_second(
     firsts: &PerLan<CarriedCopy>,
     copy: &CarriedCopy,
 ) -> Finding
-    requires firsts { HoldsFirstOfEachKey (λ c. c.lan) firsts.now copies.now }
+    requires firsts { HoldsFirstOfEachKey (λ copy. copy.lan) firsts.now copies.now }
     ensures { finding_value result ≡ finding_of_double (net_in view.now) copies.now copy.now }
 {
     if walk_back_reaches_own_lan(view, copies, firsts, copy) {
@@ -86,7 +86,7 @@ fn finding_of_second_if_any(
     firsts: &PerLan<CarriedCopy>,
     second: Option<CarriedCopy>,
 ) -> Option<Finding>
-    requires firsts { HoldsFirstOfEachKey (λ c. c.lan) firsts.now copies.now }
+    requires firsts { HoldsFirstOfEachKey (λ copy. copy.lan) firsts.now copies.now }
     ensures { optional_finding_value result
         ≡ option_map (finding_of_double (net_in view.now) copies.now) second }
 {

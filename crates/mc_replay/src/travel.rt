@@ -52,7 +52,7 @@ fn travel_to_finding<'d, P: Picker>(
     requires start { (ttl : ℕ) × (flight.old.flight
         ≡ start (net_of view.now.domain view.now.flow) ttl) }
     requires count { length firsts.old ≡ length view.now.domain.topology.lans }
-    requires firsts { HoldsFirstOfEachKey (λ c. c.lan) firsts.old [] }
+    requires firsts { HoldsFirstOfEachKey (λ copy. copy.lan) firsts.old [] }
     requires events { events.old.items ≡ [] }
     ensures domain { IfOk result (λ _. flight.new.domain ≡ view.now.domain) }
     ensures flow { IfOk result (λ _. flight.new.flow ≡ view.now.flow) }

@@ -22,34 +22,37 @@ state_at number (Some own) = unwrap_or (slice_get own number) Nothing
 
 -- what each router has for the want of the line with this number, in the topology's order
 abbrev pub states_of_line : TopologyValue → List (List RouterState) → (number : ℕ) → List RouterState
-states_of_line t states number = map (λ r. state_at number (slice_get states r)) (below (length t.routers))
+states_of_line topology states number = map (λ router. state_at number (slice_get states router))
+    (below (length topology.routers))
 
 -- a line that the audit has made
 abbrev pub line_written : (json : Bool) → TopologyValue → AskedLine → List ℕ
-line_written true t l = line_of (asked_data_of t l)
-line_written false t l = asked_text_of t l
+line_written true topology line = line_of (asked_data_of topology line)
+line_written false topology line = asked_text_of topology line
 
 -- the line of a want and its LANs, by what each router has for the want; nothing for no line
 abbrev pub asked_line_of : (json : Bool) → TopologyValue → (are_excluded : Bool) → List RouterState
     → Option (Want × List ℕ) → List ℕ
-asked_line_of json t are_excluded states None = []
-asked_line_of true t are_excluded states (Some line) =
-    line_of (asked_data t (flow_pairs t.flows) states line)
-asked_line_of false t are_excluded states (Some line) =
-    asked_text t are_excluded (flow_pairs t.flows) states line
+asked_line_of json topology are_excluded states None = []
+asked_line_of true topology are_excluded states (Some line) =
+    line_of (asked_data topology (flow_pairs topology.flows) states line)
+asked_line_of false topology are_excluded states (Some line) =
+    asked_text topology are_excluded (flow_pairs topology.flows) states line
 
 -- the line with this number
 abbrev pub numbered_asked_line : (json : Bool) → TopologyValue → (are_excluded : Bool) → UnansweredWantsValue
     → (number : ℕ) → List ℕ
-numbered_asked_line json t are_excluded a number =
-    asked_line_of json t are_excluded (states_of_line t a.states number) (slice_get a.lines number)
+numbered_asked_line json topology are_excluded asked number =
+    asked_line_of json topology are_excluded (states_of_line topology asked.states number)
+    (slice_get asked.lines number)
 
 -- the lines after those of the wants: how many more wants there are, and the services
 abbrev pub asked_end : (json : Bool) → TopologyValue → UnansweredWantsValue → List ℕ
-asked_end true t a = asked_more_line a.further ++ asked_services_line t a.services
-asked_end false t a = asked_more_text a.further ++ services_text a.services
+asked_end true topology asked = asked_more_line asked.further ++ asked_services_line topology asked.services
+asked_end false topology asked = asked_more_text asked.further ++ services_text asked.services
 
 -- all lines
 abbrev pub asked_lines : (json : Bool) → TopologyValue → (are_excluded : Bool) → UnansweredWantsValue → List ℕ
-asked_lines json t are_excluded a =
-    flat_map (numbered_asked_line json t are_excluded a) (below (length a.lines)) ++ asked_end json t a
+asked_lines json topology are_excluded asked =
+    flat_map (numbered_asked_line json topology are_excluded asked) (below (length asked.lines))
+    ++ asked_end json topology asked

@@ -43,7 +43,7 @@ pub record FlowAnswer : Type 0 where
 
 -- whether every flow is certified
 abbrev pub are_right : List FlowAnswer → Bool
-are_right answers = list_all (λ a. is_certified a.examined) answers
+are_right answers = list_all (λ answer. is_certified answer.examined) answers
 
 -- ---- the counts of flows
 
@@ -64,28 +64,28 @@ one_if_true false = 0
 
 -- the counts with one flow more, of this status
 abbrev pub with_status : FlowCounts → FlowStatus → FlowCounts
-with_status s f = record {
-  right = s.right + one_if_true (says_right f.right);
-  wrong = s.wrong + one_if_true (says_wrong f.right);
-  unknown = s.unknown + one_if_true (is_none f.right);
-  unwanted = s.unwanted + one_if_true f.unwanted;
+with_status flow_counts status = record {
+  right = flow_counts.right + one_if_true (says_right status.right);
+  wrong = flow_counts.wrong + one_if_true (says_wrong status.right);
+  unknown = flow_counts.unknown + one_if_true (is_none status.right);
+  unwanted = flow_counts.unwanted + one_if_true status.unwanted;
 }
 
 -- whether it is known of this flow that it is right
 abbrev pub is_right : FlowAnswer → Bool
-is_right a = says_right a.right
+is_right answer = says_right answer.right
 
 -- whether it is known of this flow that it isn't right
 abbrev pub is_wrong : FlowAnswer → Bool
-is_wrong a = says_wrong a.right
+is_wrong answer = says_wrong answer.right
 
 -- whether neither is known of this flow
 abbrev pub is_unknown : FlowAnswer → Bool
-is_unknown a = is_none a.right
+is_unknown answer = is_none answer.right
 
 -- whether nothing is found of this flow and no LAN wants it
 abbrev pub is_unwanted : FlowAnswer → Bool
-is_unwanted a = is_certified a.examined && (length a.wanted == 0)
+is_unwanted answer = is_certified answer.examined && (length answer.wanted == 0)
 
 -- how many of the flows pass the test
 abbrev pub count : (FlowAnswer → Bool) → List FlowAnswer → ℕ
@@ -128,7 +128,8 @@ is_among names name = list_any (λ other. bytes_eq other name) names
 
 -- a mark for each router, in order: whether it has one of the names
 abbrev pub excluded_marks : TopologyValue → (names : List (List ℕ)) → List Bool
-excluded_marks t names = map (λ r. is_among names (router_name t r)) (below (length t.routers))
+excluded_marks topology names = map (λ router. is_among names (router_name topology router))
+    (below (length topology.routers))
 
 -- ---- before the lines of the flows
 
@@ -138,7 +139,7 @@ word_if_asked asked word = if asked then word ∷ [] else []
 
 -- the words that exclude a router
 abbrev pub without_words : TopologyValue → (router : ℕ) → List (List ℕ)
-without_words t router = without_word ∷ router_name t router ∷ []
+without_words topology router = without_word ∷ router_name topology router ∷ []
 
 -- the words that ignore a range of groups
 abbrev pub ignore_words : (range : ℕ × ℕ) → List (List ℕ)
@@ -148,20 +149,21 @@ ignore_words range = ignore_word ∷ range_text range ∷ []
 -- groups
 abbrev pub option_words : AuditOptions → TopologyValue → (excluded : List Bool) → (ignored : List (ℕ × ℕ))
     → List (List ℕ)
-option_words o t excluded ignored =
-    word_if_asked o.travels travel_word
-    ++ (word_if_asked o.faults faults_word
-    ++ (word_if_asked o.unlisted unlisted_word
-    ++ (word_if_asked o.strict strict_word
-    ++ (word_if_asked o.json json_word
-    ++ (flat_map (without_words t) (excluded_routers t excluded)
+option_words options topology excluded ignored =
+    word_if_asked options.travels travel_word
+    ++ (word_if_asked options.faults faults_word
+    ++ (word_if_asked options.unlisted unlisted_word
+    ++ (word_if_asked options.strict strict_word
+    ++ (word_if_asked options.json json_word
+    ++ (flat_map (without_words topology) (excluded_routers topology excluded)
     ++ flat_map ignore_words ignored)))))
 
 -- in JSON the line of the domain and of the options' words; as text nothing
 abbrev pub begin_lines : AuditOptions → DomainFacts → (excluded : List Bool) → (ignored : List (ℕ × ℕ))
     → List ℕ
-begin_lines o d excluded ignored =
-    if o.json then line_of (domain_data d (option_words o d.topology excluded ignored)) else []
+begin_lines options domain excluded ignored =
+    if options.json then line_of (domain_data domain
+    (option_words options domain.topology excluded ignored)) else []
 
 -- ---- after the lines of the flows
 
@@ -169,34 +171,35 @@ begin_lines o d excluded ignored =
 -- excluded, and `all` where the verdict is yes
 abbrev pub end_text : AuditOptions → TopologyValue → List SummaryValue → UnansweredWantsValue
     → (excluded : List Bool) → (whole all : Bool) → (flows right wrong unknown unwanted : ℕ) → List ℕ
-end_text o t summary asked excluded whole all flows right wrong unknown unwanted =
-    unlisted_text o.unlisted t summary
-    ++ (asked_lines false t (not whole) asked
-    ++ (excluded_lines t excluded
+end_text options topology summary asked excluded whole all flows right wrong unknown unwanted =
+    unlisted_text options.unlisted topology summary
+    ++ (asked_lines false topology (not whole) asked
+    ++ (excluded_lines topology excluded
     ++ (summary_line flows right wrong unknown unwanted asked.count
-    ++ (excluded_text t excluded ++ strict_lines o.strict all unwanted asked.count))))
+    ++ (excluded_text topology excluded ++ strict_lines options.strict all unwanted asked.count))))
 
 -- the lines after the flows in JSON
 abbrev pub end_objects : AuditOptions → TopologyValue → List SummaryValue → UnansweredWantsValue
     → (excluded : List Bool) → (whole : Bool) → (right wrong unknown unwanted : ℕ) → List ℕ
-end_objects o t summary asked excluded whole right wrong unknown unwanted =
-    unlisted_lines o.unlisted t summary
-    ++ (asked_lines true t (not whole) asked
-    ++ (without_line t excluded
+end_objects options topology summary asked excluded whole right wrong unknown unwanted =
+    unlisted_lines options.unlisted topology summary
+    ++ (asked_lines true topology (not whole) asked
+    ++ (without_line topology excluded
     ++ line_of (summary_data asked.count right unknown unwanted wrong)))
 
 -- the lines after the flows, as text or in JSON
 abbrev pub end_text_or_objects : AuditOptions → TopologyValue → List SummaryValue → UnansweredWantsValue
     → (excluded : List Bool) → (whole all : Bool) → (flows right wrong unknown unwanted : ℕ) → List ℕ
-end_text_or_objects o t summary asked excluded whole all flows right wrong unknown unwanted =
-    if o.json then end_objects o t summary asked excluded whole right wrong unknown unwanted
-    else end_text o t summary asked excluded whole all flows right wrong unknown unwanted
+end_text_or_objects options topology summary asked excluded whole all flows right wrong unknown unwanted =
+    if options.json then end_objects options topology summary asked excluded whole right wrong unknown
+    unwanted
+    else end_text options topology summary asked excluded whole all flows right wrong unknown unwanted
 
 -- the lines after the flows, by what is printed of each flow
 abbrev pub end_lines : AuditOptions → TopologyValue → List SummaryValue → UnansweredWantsValue
     → (excluded : List Bool) → (whole all : Bool) → List FlowAnswer → List ℕ
-end_lines o t summary asked excluded whole all answers =
-    end_text_or_objects o t summary asked excluded whole all (length answers)
+end_lines options topology summary asked excluded whole all answers =
+    end_text_or_objects options topology summary asked excluded whole all (length answers)
     (count is_right answers) (count is_wrong answers) (count is_unknown answers) (count is_unwanted answers)
 
 -- the last line of an audit, with the verdict

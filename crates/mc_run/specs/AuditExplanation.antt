@@ -35,18 +35,18 @@ use Rattle.mc_explain.specs.ExplanationValues.{ExplanationValue}
 
 -- the other LANs that the packet of the printed finding missed
 abbrev pub also_missed : DomainFacts → (flow : ℕ) → ExaminedFlights → List ℕ
-also_missed d flow (Certified entries) = []
-also_missed d flow (FoundAtTtl255 ended) =
-    missed_besides d flow ended.flight.flight.carried ended.travel.finding
-also_missed d flow (FoundAtFlowTtl greatest least) =
-    missed_besides d flow least.flight.flight.carried least.travel.finding
+also_missed domain flow (Certified entries) = []
+also_missed domain flow (FoundAtTtl255 ended) =
+    missed_besides domain flow ended.flight.flight.carried ended.travel.finding
+also_missed domain flow (FoundAtFlowTtl greatest least) =
+    missed_besides domain flow least.flight.flight.carried least.travel.finding
 
 -- what a search reads for a flow, of whose packet these are the carried copies; the marked routers are
 -- excluded
 abbrev pub search_context : DomainFacts → List SummaryValue → (excluded : List Bool) → (flow : ℕ) → List Copy
     → Search
-search_context d summary excluded flow copies = record {
-  domain = d;
+search_context domain summary excluded flow copies = record {
+  domain = domain;
   flow = flow;
   summary = summary;
   excluded = excluded;
@@ -55,8 +55,8 @@ search_context d summary excluded flow copies = record {
 
 -- This is the search for the LAN of the finding, if a LAN is missed; there is none for another finding.
 abbrev pub IsSearchIfMissed : Search → List Event → Finding → Option LanSearch → Type 0
-IsSearchIfMissed s events (Missed lan) (Some found) = IsLanSearch s events lan found
-IsSearchIfMissed s events (Missed lan) None = ⊥
+IsSearchIfMissed search events (Missed lan) (Some found) = IsLanSearch search events lan found
+IsSearchIfMissed search events (Missed lan) None = ⊥
 IsSearchIfMissed s events Clean search = search ≡ None
 IsSearchIfMissed s events (Duplicate lan) search = search ≡ None
 IsSearchIfMissed s events (Loop lan) search = search ≡ None
@@ -65,11 +65,11 @@ IsSearchIfMissed s events (Stray router vif) search = search ≡ None
 -- This is the search for the LAN that a packet with TTL 255 missed, if it missed one.
 abbrev pub IsSearchAt255 : DomainFacts → List SummaryValue → (excluded : List Bool) → (flow : ℕ)
     → ExaminedFlights → Option LanSearch → Type 0
-IsSearchAt255 d summary excluded flow (Certified entries) search = search ≡ None
-IsSearchAt255 d summary excluded flow (FoundAtTtl255 ended) search =
-    IsSearchIfMissed (search_context d summary excluded flow ended.flight.flight.carried)
+IsSearchAt255 domain summary excluded flow (Certified entries) search = search ≡ None
+IsSearchAt255 domain summary excluded flow (FoundAtTtl255 ended) search =
+    IsSearchIfMissed (search_context domain summary excluded flow ended.flight.flight.carried)
     ended.travel.events.items ended.travel.finding search
-IsSearchAt255 d summary excluded flow (FoundAtFlowTtl greatest least) search = search ≡ None
+IsSearchAt255 domain summary excluded flow (FoundAtFlowTtl greatest least) search = search ≡ None
 
 -- whether a cause is a remedy: it names an outgoing vif to take out of an entry
 abbrev pub is_remedy : Cause → Bool
@@ -84,13 +84,13 @@ is_remedy (StoppedAt router vif threshold ttl) = false
 -- The causes, but without remedies where a router is excluded: that router may need what a remedy takes away.
 abbrev pub without_remedies : (whole : Bool) → List Cause → List Cause
 without_remedies true printed = printed
-without_remedies false printed = filter (λ t. not (is_remedy t)) printed
+without_remedies false printed = filter (λ cause. not (is_remedy cause)) printed
 
 -- These are the causes of an examined flow that are printed.
-pub record ArePrintedCauses (whole : Bool) (d : DomainValue) (flow : ℕ) (flights : ExaminedFlights)
+pub record ArePrintedCauses (whole : Bool) (domain : DomainValue) (flow : ℕ) (flights : ExaminedFlights)
     (printed : List Cause) : Type 0 where
   pub all : List Cause
-  pub explained : IsExplained d flow flights all
+  pub explained : IsExplained domain flow flights all
   pub shown : printed ≡ without_remedies whole all
 
 -- Whether it is known that a flow with a finding isn't right. With routers excluded it isn't known where a
@@ -104,16 +104,16 @@ is_known_wrong false (Some found) = not (name_excluded_router found.lines.items)
 -- This is the TTL from which on packets show the finding. None is given where `greatest` is true: the flow's
 -- own TTL is 255.
 abbrev pub IsShownFromUnless : (greatest : Bool) → Net → List Copy → FindingValue → Option ℕ → Type 0
-IsShownFromUnless true n cs x shown = shown ≡ None
-IsShownFromUnless false n cs x shown = IsShownFromIfAny n cs x shown
+IsShownFromUnless true net copies finding shown = shown ≡ None
+IsShownFromUnless false net copies finding shown = IsShownFromIfAny net copies finding shown
 
 -- This is the TTL from which on packets show what is found of a packet with TTL 255. None is given for what
 -- is found of one with the flow's own TTL.
 abbrev pub IsShownFromAt255 : DomainValue → (flow : ℕ) → ExaminedFlights → Option ℕ → Type 0
-IsShownFromAt255 d flow (Certified entries) shown = shown ≡ None
-IsShownFromAt255 d flow (FoundAtTtl255 ended) shown = IsShownFromUnless (ttl_of d flow == 255)
-    (net_of d flow) ended.flight.flight.carried (finding_value ended.travel.finding) shown
-IsShownFromAt255 d flow (FoundAtFlowTtl greatest least) shown = shown ≡ None
+IsShownFromAt255 domain flow (Certified entries) shown = shown ≡ None
+IsShownFromAt255 domain flow (FoundAtTtl255 ended) shown = IsShownFromUnless (ttl_of domain flow == 255)
+    (net_of domain flow) ended.flight.flight.carried (finding_value ended.travel.finding) shown
+IsShownFromAt255 domain flow (FoundAtFlowTtl greatest least) shown = shown ≡ None
 
 -- ---- what a packet with the flow's own TTL meets
 
@@ -128,58 +128,59 @@ certain_finding whole (Stray router vif) = Some (Stray router vif)
 
 -- This is what is printed of the travel of a packet with the flow's own TTL in which the first waiting copy
 -- is handled each time.
-pub record IsFoundAtFlowTtl (whole : Bool) (d : DomainValue) (flow : ℕ) (found : Option Finding)
-    : Type 0 where
+pub record IsFoundAtFlowTtl (whole : Bool) (domain : DomainValue) (flow : ℕ)
+    (found : Option Finding) : Type 0 where
   pub travel : Travel
-  pub runs : IsFirstPickTravel d flow (ttl_of d flow) travel
+  pub runs : IsFirstPickTravel domain flow (ttl_of domain flow) travel
   pub certain : found ≡ certain_finding whole travel.finding
 
 -- This is what is printed of that travel: nothing, unless the flow's own TTL is less than the one from which
 -- on packets show the finding (`less`).
 abbrev pub IsFoundAtFlowTtlIf : (less whole : Bool) → DomainValue → (flow : ℕ) → Option Finding → Type 0
-IsFoundAtFlowTtlIf true whole d flow found = IsFoundAtFlowTtl whole d flow found
-IsFoundAtFlowTtlIf false whole d flow found = found ≡ None
+IsFoundAtFlowTtlIf true whole domain flow found = IsFoundAtFlowTtl whole domain flow found
+IsFoundAtFlowTtlIf false whole domain flow found = found ≡ None
 
 -- This is what is printed of that travel, by the TTL from which on packets show the finding, if that is
 -- given.
 abbrev pub IsFoundBelow : (whole : Bool) → DomainValue → (flow : ℕ) → (shown_from : Option ℕ)
     → Option Finding → Type 0
-IsFoundBelow whole d flow None found = found ≡ None
-IsFoundBelow whole d flow (Some k) found =
-    IsFoundAtFlowTtlIf (nat_lt (ttl_of d flow) k) whole d flow found
+IsFoundBelow whole domain flow None found = found ≡ None
+IsFoundBelow whole domain flow (Some k) found =
+    IsFoundAtFlowTtlIf (nat_lt (ttl_of domain flow) k) whole domain flow found
 
 -- These are the packets that show the finding, and what one with the flow's own TTL meets.
-pub record IsShownBy (whole : Bool) (d : DomainValue) (flow : ℕ) (flights : ExaminedFlights)
+pub record IsShownBy (whole : Bool) (domain : DomainValue) (flow : ℕ) (flights : ExaminedFlights)
     (shown_by : ShownBy) : Type 0 where
-  pub from : IsShownFromAt255 d flow flights shown_by.from
-  pub below : IsFoundBelow whole d flow shown_by.from shown_by.at_flow_ttl
+  pub from : IsShownFromAt255 domain flow flights shown_by.from
+  pub below : IsFoundBelow whole domain flow shown_by.from shown_by.at_flow_ttl
 
 -- ---- what is behind a stray
 
 -- This is what is behind the stray, if the finding of a packet with TTL 255 is one.
 abbrev pub IsBehindIfStray : (whole : Bool) → DomainValue → (flow : ℕ) → Finding → Option Behind → Type 0
-IsBehindIfStray whole d flow (Stray router vif) None = ⊥
-IsBehindIfStray whole d flow (Stray router vif) (Some b) = IsBehind whole d flow (router, vif) b
-IsBehindIfStray whole d flow Clean behind = behind ≡ None
-IsBehindIfStray whole d flow (Duplicate lan) behind = behind ≡ None
-IsBehindIfStray whole d flow (Loop lan) behind = behind ≡ None
-IsBehindIfStray whole d flow (Missed lan) behind = behind ≡ None
+IsBehindIfStray whole domain flow (Stray router vif) None = ⊥
+IsBehindIfStray whole domain flow (Stray router vif) (Some behind) =
+    IsBehind whole domain flow (router, vif) behind
+IsBehindIfStray whole domain flow Clean behind = behind ≡ None
+IsBehindIfStray whole domain flow (Duplicate lan) behind = behind ≡ None
+IsBehindIfStray whole domain flow (Loop lan) behind = behind ≡ None
+IsBehindIfStray whole domain flow (Missed lan) behind = behind ≡ None
 
 -- This is what is behind the stray that the examination found, if it found one. A packet with the flow's own
 -- TTL makes no stray where one with TTL 255 makes none.
 abbrev pub IsBehindAt255 : (whole : Bool) → DomainValue → (flow : ℕ) → ExaminedFlights
     → Option Behind → Type 0
-IsBehindAt255 whole d flow (Certified entries) behind = behind ≡ None
-IsBehindAt255 whole d flow (FoundAtTtl255 ended) behind =
-    IsBehindIfStray whole d flow ended.travel.finding behind
-IsBehindAt255 whole d flow (FoundAtFlowTtl greatest least) behind = behind ≡ None
+IsBehindAt255 whole domain flow (Certified entries) behind = behind ≡ None
+IsBehindAt255 whole domain flow (FoundAtTtl255 ended) behind =
+    IsBehindIfStray whole domain flow ended.travel.finding behind
+IsBehindAt255 whole domain flow (FoundAtFlowTtl greatest least) behind = behind ≡ None
 
 -- This is the explanation of the finding of a domain's flow, by the flights of its travels.
-pub record IsExplanation (d : DomainValue) (summary : List SummaryValue) (excluded : List Bool)
-    (whole : Bool) (flow : ℕ) (flights : ExaminedFlights) (x : ExplanationValue) : Type 0 where
-  pub printed : ArePrintedCauses whole d flow flights x.printed
-  pub search : IsSearchAt255 (facts d) summary excluded flow flights x.search
-  pub also : x.also ≡ also_missed (facts d) flow flights
-  pub behind : IsBehindAt255 whole d flow flights x.behind
-  pub known : x.certainty.known ≡ is_known_wrong whole x.search
-  pub shown : IsShownBy whole d flow flights x.certainty.shown_by
+pub record IsExplanation (domain : DomainValue) (summary : List SummaryValue) (excluded : List Bool)
+    (whole : Bool) (flow : ℕ) (flights : ExaminedFlights) (explanation : ExplanationValue) : Type 0 where
+  pub printed : ArePrintedCauses whole domain flow flights explanation.printed
+  pub search : IsSearchAt255 (facts domain) summary excluded flow flights explanation.search
+  pub also : explanation.also ≡ also_missed (facts domain) flow flights
+  pub behind : IsBehindAt255 whole domain flow flights explanation.behind
+  pub known : explanation.certainty.known ≡ is_known_wrong whole explanation.search
+  pub shown : IsShownBy whole domain flow flights explanation.certainty.shown_by

@@ -31,31 +31,33 @@ unless_hidden faults wanted lines = if is_hidden faults wanted then [] else line
 -- the lines of a right flow with this tree, as text or in JSON
 abbrev pub right_lines_or_object : (json whole : Bool) → DomainFacts → (printed : List Tree)
     → (flow : ℕ) → Tree → (wanted : List ℕ) → List ℕ
-right_lines_or_object true whole d printed flow es wanted = right_objects whole d printed flow es wanted
-right_lines_or_object false whole d printed flow es wanted =
-    right_lines whole d.topology flow (length es) wanted
+right_lines_or_object true whole domain printed flow tree wanted =
+    right_objects whole domain printed flow tree wanted
+right_lines_or_object false whole domain printed flow tree wanted =
+    right_lines whole domain.topology flow (length tree) wanted
 
 -- the lines of a right flow with this tree, as the options ask
 abbrev pub right_flow_lines : AuditOptions → (whole : Bool) → DomainFacts → (printed : List Tree)
     → (flow : ℕ) → Tree → (wanted : List ℕ) → List ℕ
-right_flow_lines o whole d printed flow es wanted =
-    unless_hidden o.faults wanted (right_lines_or_object o.json whole d printed flow es wanted)
+right_flow_lines options whole domain printed flow tree wanted =
+    unless_hidden options.faults wanted (right_lines_or_object options.json whole domain printed flow tree
+    wanted)
 
 -- ---- a flow with a finding
 
 -- the lines of a flow with a finding, as text or in JSON
 abbrev pub wrong_lines_or_object : (json travels : Bool) → DomainFacts → List SummaryValue
     → (flow ttl : ℕ) → Travel → ExplanationValue → List ℕ
-wrong_lines_or_object true travels d summary flow ttl travel x =
-    wrong_object travels d summary flow ttl travel x
-wrong_lines_or_object false travels d summary flow ttl travel x =
-    wrong_lines travels d summary flow travel x
+wrong_lines_or_object true travels domain summary flow ttl travel explanation =
+    wrong_object travels domain summary flow ttl travel explanation
+wrong_lines_or_object false travels domain summary flow ttl travel explanation =
+    wrong_lines travels domain summary flow travel explanation
 
 -- the lines of a flow with a finding, as the options ask
 abbrev pub wrong_flow_lines : AuditOptions → DomainFacts → List SummaryValue → (flow ttl : ℕ) → Travel
     → ExplanationValue → List ℕ
-wrong_flow_lines o d summary flow ttl travel x =
-    wrong_lines_or_object o.json o.travels d summary flow ttl travel x
+wrong_flow_lines options domain summary flow ttl travel explanation =
+    wrong_lines_or_object options.json options.travels domain summary flow ttl travel explanation
 
 -- ---- any flow
 
@@ -63,10 +65,10 @@ wrong_flow_lines o d summary flow ttl travel x =
 -- and the LANs that want it
 abbrev pub answer_lines : AuditOptions → (whole : Bool) → DomainFacts → List SummaryValue
     → (printed : List Tree) → (flow : ℕ) → Examined → ExplanationValue → (wanted : List ℕ) → List ℕ
-answer_lines o whole d summary printed flow (Certified entries) x wanted =
-    right_flow_lines o whole d printed flow entries.items wanted
-answer_lines o whole d summary printed flow (Found ttl travel) x wanted =
-    wrong_flow_lines o d summary flow ttl travel x
+answer_lines options whole domain summary printed flow (Certified entries) explanation wanted =
+    right_flow_lines options whole domain printed flow entries.items wanted
+answer_lines options whole domain summary printed flow (Found ttl travel) explanation wanted =
+    wrong_flow_lines options domain summary flow ttl travel explanation
 
 -- the printed trees and this flow's, each by its key; text prints none, and neither does a flow whose lines
 -- are left out
@@ -76,9 +78,9 @@ with_shown_tree _ _ printed key = printed
 
 -- the printed trees after the lines of this flow
 abbrev pub shown_trees_with : AuditOptions → Net → List Tree → Examined → (wanted : List ℕ) → List Tree
-shown_trees_with o n printed (Certified entries) wanted =
-    with_shown_tree o.json (is_hidden o.faults wanted) printed (tree_key n entries.items)
-shown_trees_with o n printed (Found ttl travel) wanted = printed
+shown_trees_with options net printed (Certified entries) wanted =
+    with_shown_tree options.json (is_hidden options.faults wanted) printed (tree_key net entries.items)
+shown_trees_with options net printed (Found ttl travel) wanted = printed
 
 -- ---- what is known of a flow
 

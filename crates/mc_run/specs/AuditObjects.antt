@@ -18,27 +18,28 @@ use Rattle.mc_explain.specs.ExplanationValues.{ExplanationValue}
 
 -- the key of a flow's tree; trees with the same key are one
 abbrev pub key_of_tree : DomainFacts → (flow : ℕ) → Tree → Tree
-key_of_tree d flow es = tree_key (d.nets flow) es
+key_of_tree domain flow tree = tree_key (domain.nets flow) tree
 
 -- the line of a flow's tree; nothing if it was printed before
 abbrev pub tree_line : DomainFacts → (printed : List Tree) → (flow : ℕ) → Tree → List ℕ
-tree_line d printed flow es =
-    if is_some (find_tree printed (key_of_tree d flow es)) then []
-    else line_of (tree_data d.topology (d.nets flow) es (length printed))
+tree_line domain printed flow tree =
+    if is_some (find_tree printed (key_of_tree domain flow tree)) then []
+    else line_of (tree_data domain.topology (domain.nets flow) tree (length printed))
 
 -- the number of a flow's tree, in the order in which trees are printed
 abbrev pub tree_number : DomainFacts → (printed : List Tree) → (flow : ℕ) → Tree → ℕ
-tree_number d printed flow es =
-    tree_number_of (with_tree printed (key_of_tree d flow es)) (key_of_tree d flow es)
+tree_number domain printed flow tree =
+    tree_number_of (with_tree printed (key_of_tree domain flow tree)) (key_of_tree domain flow tree)
 
 -- the line of a right flow's tree, if need be, and the line of the flow, with its tree's number and the LANs
 -- that want it
 abbrev pub right_objects : (whole : Bool) → DomainFacts → (printed : List Tree) → (flow : ℕ) → Tree
     → (wanted : List ℕ) → List ℕ
-right_objects whole d printed flow es wanted =
-    tree_line d printed flow es
-    ++ line_of (right_data whole flow (flow_at d.topology flow) (length es) (tree_number d printed flow es)
-    (map (lan_data d.topology) wanted))
+right_objects whole domain printed flow tree wanted =
+    tree_line domain printed flow tree
+    ++ line_of (right_data whole flow (flow_at domain.topology flow) (length tree)
+    (tree_number domain printed flow tree)
+    (map (lan_data domain.topology) wanted))
 
 -- ---- a flow with a finding
 
@@ -58,5 +59,5 @@ found_travel travels flow ttl travel = record {
 -- the line of a flow with a finding: the finding, its explanation, and with the option travel the events
 abbrev pub wrong_object : (travels : Bool) → DomainFacts → List SummaryValue → (flow ttl : ℕ) → Travel
     → ExplanationValue → List ℕ
-wrong_object travels d summary flow ttl travel x =
-    wrong_line d summary (found_travel travels flow ttl travel) x
+wrong_object travels domain summary flow ttl travel explanation =
+    wrong_line domain summary (found_travel travels flow ttl travel) explanation

@@ -38,12 +38,12 @@ use Rattle.mc_run.specs.declared.audit.reasons.Reasons.{Reasons}
 
 -- an audited domain as a value
 abbrev pub audited_value : AuditedDomain → AuditedValue
-audited_value a = record {
-  domain = a.domain.now;
-  summary = a.summary.now;
-  asked = a.asked.now;
-  without = map (λ name. name.now) a.without.now;
-  ignored = a.ignored.now;
+audited_value audited = record {
+  domain = audited.domain.now;
+  summary = audited.summary.now;
+  asked = audited.asked.now;
+  without = map (λ name. name.now) audited.without.now;
+  ignored = audited.ignored.now;
 }
 
 -- what is audited of the domain of a folder's files, with what is left out
@@ -57,9 +57,9 @@ audited_without left read = record {
 }
 
 -- The interfaces that are kept are those of the domain's LANs, and the marks those of its excluded routers.
-pub record HasItsMarksAndInterfaces (a : AuditedDomain) : Type 0 where
-  pub interfaces : a.interfaces.now ≡ interfaces_on_lans (facts a.domain.now)
-  pub excluded : a.excluded.now ≡ excluded (audited_value a)
+pub record HasItsMarksAndInterfaces (audited : AuditedDomain) : Type 0 where
+  pub interfaces : audited.interfaces.now ≡ interfaces_on_lans (facts audited.domain.now)
+  pub excluded : audited.excluded.now ≡ excluded (audited_value audited)
 
 -- the other LANs that the packet of a finished travel missed, beside that of its finding
 abbrev pub also_missed_of : FinishedTravel → List ℕ
@@ -87,140 +87,161 @@ explanation_in whole ended printed search behind shown_by = record {
 
 -- The lines of a flow were appended, after those of earlier flows, which have printed the trees `printed`;
 -- this is the flow's status, and `new_printed` are the trees that are printed then.
-pub record IsFlowPushed (v : AuditedValue) (o : AuditOptions) (flow : ℕ) (flow_status : FlowStatus)
-    (printed new_printed : List Tree) (old new : List ℕ) : Type 0 where
+pub record IsFlowPushed (audited : AuditedValue) (options : AuditOptions) (flow : ℕ)
+    (flow_status : FlowStatus) (printed new_printed : List Tree) (old new : List ℕ) : Type 0 where
   pub answer : FlowAnswer
-  pub is : IsFlowAnswer v o printed flow answer
-  pub matches : flow_status ≡ status_of (is_whole v) answer.examined is.explanation.certainty.known
+  pub is : IsFlowAnswer audited options printed flow answer
+  pub matches : flow_status ≡ status_of (is_whole audited) answer.examined is.explanation.certainty.known
       answer.wanted
-  pub shown_trees : new_printed ≡ shown_trees_with o answer.net printed answer.examined answer.wanted
+  pub shown_trees : new_printed ≡ shown_trees_with options answer.net printed answer.examined answer.wanted
   pub spelled : new ≡ old ++ answer.lines
 
--- The lines of the first k flows were appended; these are the counts of these flows, and the trees that they
--- have printed.
-pub record AreFlowsPushed (v : AuditedValue) (o : AuditOptions) (k : ℕ) (s : FlowCounts)
-    (printed : List Tree) (old new : List ℕ) : Type 0 where
+-- The lines of this number of flows, from the first on, were appended; these are the counts of these flows,
+-- and the trees that they have printed.
+pub record AreFlowsPushed (audited : AuditedValue) (options : AuditOptions) (pushed : ℕ)
+    (flow_counts : FlowCounts) (printed : List Tree) (old new : List ℕ) : Type 0 where
   pub answers : List FlowAnswer
-  pub count_is : length answers ≡ k
-  pub each : (flow : ℕ) (a : FlowAnswer) → slice_get answers flow ≡ Some a
-      → IsFlowAnswer v o (trees_shown o (take flow answers)) flow a
-  pub right : s.right ≡ count is_right answers
-  pub wrong : s.wrong ≡ count is_wrong answers
-  pub unknown : s.unknown ≡ count is_unknown answers
-  pub unwanted : s.unwanted ≡ count is_unwanted answers
-  pub shown_trees : printed ≡ trees_shown o answers
-  pub spelled : new ≡ old ++ flat_map (λ a. a.lines) answers
+  pub count_is : length answers ≡ pushed
+  pub each : (flow : ℕ) (answer : FlowAnswer) → slice_get answers flow ≡ Some answer
+      → IsFlowAnswer audited options (trees_shown options (take flow answers)) flow answer
+  pub right : flow_counts.right ≡ count is_right answers
+  pub wrong : flow_counts.wrong ≡ count is_wrong answers
+  pub unknown : flow_counts.unknown ≡ count is_unknown answers
+  pub unwanted : flow_counts.unwanted ≡ count is_unwanted answers
+  pub shown_trees : printed ≡ trees_shown options answers
+  pub spelled : new ≡ old ++ flat_map (λ answer. answer.lines) answers
 
 -- The lines of all flows were appended, and these are their counts.
 abbrev pub AreAllFlowsPushed : AuditedDomain → FlowCounts → (old new : List ℕ) → Type 0
-AreAllFlowsPushed a flow_counts old new = (printed : List Tree)
-    × AreFlowsPushed (audited_value a) a.options (length (audited_value a).domain.topology.flows)
+AreAllFlowsPushed audited flow_counts old new = (printed : List Tree)
+    × AreFlowsPushed (audited_value audited) audited.options
+    (length (audited_value audited).domain.topology.flows)
     flow_counts printed old new
 
 -- ---- the lines of one flow, as they are appended
 
 -- the LANs that want the flow with this number
 abbrev pub lans_wanting_flow : AuditedDomain → (flow : ℕ) → List ℕ
-lans_wanting_flow a flow = lans_wanting (facts (audited_value a).domain) flow
+lans_wanting_flow audited flow = lans_wanting (facts (audited_value audited).domain) flow
 
 -- the status of a flow without a finding
 abbrev pub status_of_right_flow : AuditedDomain → (flow : ℕ) → FlowStatus
-status_of_right_flow a flow = status_of_right (is_whole (audited_value a)) (lans_wanting_flow a flow)
+status_of_right_flow audited flow = status_of_right (is_whole (audited_value audited))
+    (lans_wanting_flow audited flow)
 
 -- the lines of a right flow as text, with its number of copies
 abbrev pub right_lines_of : AuditedDomain → (flow copies : ℕ) → (wanted : List ℕ) → List ℕ
-right_lines_of a flow copies wanted =
-    right_lines (is_whole (audited_value a)) (audited_value a).domain.topology flow copies wanted
+right_lines_of audited flow copies wanted =
+    right_lines (is_whole (audited_value audited)) (audited_value audited).domain.topology flow copies
+    wanted
 
 -- the key of a flow's tree
 abbrev pub key_of_shown_tree : AuditedDomain → (flow : ℕ) → Tree → Tree
-key_of_shown_tree a flow es = key_of_tree (facts (audited_value a).domain) flow es
+key_of_shown_tree audited flow tree = key_of_tree (facts (audited_value audited).domain) flow tree
 
 -- the lines of a right flow in JSON
 abbrev pub right_objects_of : AuditedDomain → (printed : List Tree) → (flow : ℕ) → Tree → (wanted : List ℕ)
     → List ℕ
-right_objects_of a printed flow es wanted =
-    right_objects (is_whole (audited_value a)) (facts (audited_value a).domain) printed flow es wanted
+right_objects_of audited printed flow tree wanted =
+    right_objects (is_whole (audited_value audited)) (facts (audited_value audited).domain) printed flow
+    tree wanted
 
 -- the lines of a right flow as the options ask
 abbrev pub right_flow_lines_of : AuditedDomain → (printed : List Tree) → (flow : ℕ) → Tree → List ℕ
-right_flow_lines_of a printed flow es = right_flow_lines a.options (is_whole (audited_value a))
-    (facts (audited_value a).domain) printed flow es (lans_wanting_flow a flow)
+right_flow_lines_of audited printed flow tree =
+    right_flow_lines audited.options (is_whole (audited_value audited))
+    (facts (audited_value audited).domain) printed flow tree (lans_wanting_flow audited flow)
 
 -- the printed trees after the lines of a right flow
 abbrev pub shown_trees_with_right : AuditedDomain → (printed : List Tree) → (flow : ℕ) → Tree → List Tree
-shown_trees_with_right a printed flow es = with_shown_tree a.options.json
-    (is_hidden a.options.faults (lans_wanting_flow a flow)) printed (key_of_shown_tree a flow es)
+shown_trees_with_right audited printed flow tree = with_shown_tree audited.options.json
+    (is_hidden audited.options.faults (lans_wanting_flow audited flow)) printed
+    (key_of_shown_tree audited flow tree)
 
 -- what the search reads for the LAN that the packet of a finished travel missed
 abbrev pub search_context_of : AuditedDomain → (flow : ℕ) → FinishedTravel → Search
-search_context_of a flow ended = search_context (facts (audited_value a).domain) (audited_value a).summary
-    (excluded (audited_value a)) flow ended.flight.flight.carried
+search_context_of audited flow ended = search_context (facts (audited_value audited).domain)
+    (audited_value audited).summary
+    (excluded (audited_value audited)) flow ended.flight.flight.carried
 
 -- the lines of a search, if there was one
 abbrev pub searched_lines_of : AuditedDomain → (flow : ℕ) → Option LanSearch → List ℕ
-searched_lines_of a flow search =
-    searched_lines (facts (audited_value a).domain) (audited_value a).summary flow search
+searched_lines_of audited flow search =
+    searched_lines (facts (audited_value audited).domain) (audited_value audited).summary flow search
 
 -- the lines of a second copy behind a stray, if there is one
 abbrev pub second_behind_of : AuditedDomain → (flow : ℕ) → Behind → List ℕ
-second_behind_of a flow b = second_behind_text (facts (audited_value a).domain) (audited_value a).summary flow
-    b.causes.items b.shown_from b.finding
+second_behind_of audited flow behind = second_behind_text (facts (audited_value audited).domain)
+    (audited_value audited).summary flow
+    behind.causes.items behind.shown_from behind.finding
 
 -- the lines of what is behind a stray, if the finding is one
 abbrev pub behind_lines_of : AuditedDomain → (flow : ℕ) → Option Behind → List ℕ
-behind_lines_of a flow behind = behind_text (facts (audited_value a).domain)
-    (audited_value a).summary flow behind
+behind_lines_of audited flow behind = behind_text (facts (audited_value audited).domain)
+    (audited_value audited).summary flow behind
 
 -- the lines of an explanation
 abbrev pub explanation_lines_of : AuditedDomain → (flow : ℕ) → ExplanationValue → List ℕ
-explanation_lines_of a flow x =
-    explanation_lines (facts (audited_value a).domain) (audited_value a).summary flow x
+explanation_lines_of audited flow explanation =
+    explanation_lines (facts (audited_value audited).domain) (audited_value audited).summary flow
+    explanation
 
 -- the lines as text of a flow with a finding, by the travel that shows the finding
 abbrev pub wrong_lines_of : AuditedDomain → (flow : ℕ) → Travel → ExplanationValue → List ℕ
-wrong_lines_of a flow travel x =
-    wrong_lines a.options.travels (facts (audited_value a).domain) (audited_value a).summary flow travel x
+wrong_lines_of audited flow travel explanation =
+    wrong_lines audited.options.travels (facts (audited_value audited).domain)
+    (audited_value audited).summary flow travel explanation
 
 -- the line in JSON of such a flow, by the travel and the TTL of its packet
 abbrev pub wrong_object_of : AuditedDomain → (flow ttl : ℕ) → Travel → ExplanationValue → List ℕ
-wrong_object_of a flow ttl travel x =
-    wrong_object a.options.travels (facts (audited_value a).domain) (audited_value a).summary
-    flow ttl travel x
+wrong_object_of audited flow ttl travel explanation =
+    wrong_object audited.options.travels (facts (audited_value audited).domain)
+    (audited_value audited).summary
+    flow ttl travel explanation
 
 -- the lines of such a flow as the options ask
 abbrev pub explained_lines_of : AuditedDomain → (flow ttl : ℕ) → FinishedTravel → ExplanationValue → List ℕ
-explained_lines_of a flow ttl ended x = wrong_flow_lines a.options (facts (audited_value a).domain)
-    (audited_value a).summary flow ttl ended.travel x
+explained_lines_of audited flow ttl ended explanation =
+    wrong_flow_lines audited.options (facts (audited_value audited).domain)
+    (audited_value audited).summary flow ttl ended.travel explanation
 
 -- the lines of such a flow as the options ask, by the parts of the explanation
 abbrev pub wrong_flow_lines_of : AuditedDomain → (flow ttl : ℕ) → FinishedTravel → Reasons → List ℕ
-wrong_flow_lines_of a flow ttl ended reasons = explained_lines_of a flow ttl ended
-    (explanation_in (is_whole (audited_value a)) ended reasons.causes.items reasons.search reasons.behind
+wrong_flow_lines_of audited flow ttl ended reasons = explained_lines_of audited flow ttl ended
+    (explanation_in (is_whole (audited_value audited)) ended reasons.causes.items reasons.search
+    reasons.behind
     reasons.shown_by)
 
 -- the status of a flow with a finding, by the search for the LAN that its packet missed, if there was one
 abbrev pub status_of_wrong_flow : AuditedDomain → Option LanSearch → FlowStatus
-status_of_wrong_flow a search = status_of_wrong (is_known_wrong (is_whole (audited_value a)) search)
+status_of_wrong_flow audited search = status_of_wrong
+    (is_known_wrong (is_whole (audited_value audited)) search)
 
 -- ---- the lines after the flows, with these counts
 
 -- the lines after the flows, as text; `all` is true where the verdict is yes
 abbrev pub end_text_of : AuditedDomain → FlowCounts → (all : Bool) → List ℕ
-end_text_of a s all = end_text a.options (audited_value a).domain.topology (audited_value a).summary
-    (audited_value a).asked a.excluded.now (is_whole (audited_value a)) all
-    (length (audited_value a).domain.topology.flows) s.right s.wrong s.unknown s.unwanted
+end_text_of audited flow_counts all = end_text audited.options (audited_value audited).domain.topology
+    (audited_value audited).summary
+    (audited_value audited).asked audited.excluded.now (is_whole (audited_value audited)) all
+    (length (audited_value audited).domain.topology.flows) flow_counts.right flow_counts.wrong
+    flow_counts.unknown flow_counts.unwanted
 
 -- the lines after the flows, in JSON
 abbrev pub end_objects_of : AuditedDomain → FlowCounts → List ℕ
-end_objects_of a s = end_objects a.options (audited_value a).domain.topology (audited_value a).summary
-    (audited_value a).asked a.excluded.now (is_whole (audited_value a)) s.right s.wrong s.unknown s.unwanted
+end_objects_of audited flow_counts = end_objects audited.options (audited_value audited).domain.topology
+    (audited_value audited).summary
+    (audited_value audited).asked audited.excluded.now (is_whole (audited_value audited)) flow_counts.right
+    flow_counts.wrong flow_counts.unknown flow_counts.unwanted
 
 -- the lines after the flows, as the options ask
 abbrev pub end_text_or_objects_of : AuditedDomain → FlowCounts → (all : Bool) → List ℕ
-end_text_or_objects_of a s all = end_text_or_objects a.options (audited_value a).domain.topology
-    (audited_value a).summary (audited_value a).asked a.excluded.now (is_whole (audited_value a)) all
-    (length (audited_value a).domain.topology.flows) s.right s.wrong s.unknown s.unwanted
+end_text_or_objects_of audited flow_counts all =
+    end_text_or_objects audited.options (audited_value audited).domain.topology
+    (audited_value audited).summary (audited_value audited).asked audited.excluded.now
+    (is_whole (audited_value audited)) all
+    (length (audited_value audited).domain.topology.flows) flow_counts.right flow_counts.wrong
+    flow_counts.unknown flow_counts.unwanted
 
 -- ---- the output and the answer of an audit
 

@@ -27,14 +27,14 @@ use Rattle.mc_run.specs.VerdictText.{flow_line, flow_words}
 -- the first line of a right flow, with the number of copies; where a router is excluded it says that no fault
 -- is known
 abbrev pub right_line : (whole : Bool) → TopologyValue → Flow → (copies : ℕ) → List ℕ
-right_line true t f copies = flow_line t f (Yes copies)
-right_line false t f copies =
-    flow_words f ++ (codes " no fault known copies " ++ (decimal copies ++ codes "\n"))
+right_line true topology flow copies = flow_line topology flow (Yes copies)
+right_line false topology flow copies =
+    flow_words flow ++ (codes " no fault known copies " ++ (decimal copies ++ codes "\n"))
 
 -- the lines of the right flow with this number: the first one, and that of the LANs that want it
 abbrev pub right_lines : (whole : Bool) → TopologyValue → (flow copies : ℕ) → (wanted : List ℕ) → List ℕ
-right_lines whole t flow copies wanted =
-    right_line whole t (flow_at t flow) copies ++ wanted_text t wanted
+right_lines whole topology flow copies wanted =
+    right_line whole topology (flow_at topology flow) copies ++ wanted_text topology wanted
 
 -- ---- a flow with a finding
 
@@ -45,8 +45,8 @@ known_word false = codes "unknown"
 
 -- the first line of a flow with a finding
 abbrev pub found_flow_line : TopologyValue → Flow → (known : Bool) → Finding → List ℕ
-found_flow_line t f known finding = flow_words f
-    ++ (codes " " ++ (known_word known ++ (codes ": " ++ (finding_text t finding ++ codes "\n"))))
+found_flow_line topology flow known finding = flow_words flow
+    ++ (codes " " ++ (known_word known ++ (codes ": " ++ (finding_text topology finding ++ codes "\n"))))
 
 -- the line that gives the TTL from which on packets show the finding; nothing where none is given
 abbrev pub shown_from_text : Option ℕ → List ℕ
@@ -56,19 +56,19 @@ shown_from_text (Some ttl) =
 
 -- the line that gives what is found of a packet with the flow's own TTL; nothing where none is given
 abbrev pub at_flow_ttl_text : TopologyValue → (ttl : ℕ) → Option Finding → List ℕ
-at_flow_ttl_text t ttl None = []
-at_flow_ttl_text t ttl (Some finding) = codes "  with this flow's ttl "
-    ++ (decimal ttl ++ (codes ": " ++ (finding_text t finding ++ codes "\n")))
+at_flow_ttl_text topology ttl None = []
+at_flow_ttl_text topology ttl (Some finding) = codes "  with this flow's ttl "
+    ++ (decimal ttl ++ (codes ": " ++ (finding_text topology finding ++ codes "\n")))
 
 -- these two lines, of a flow with this TTL
 abbrev pub shown_by_text : TopologyValue → (ttl : ℕ) → ShownBy → List ℕ
-shown_by_text t ttl shown_by =
-    shown_from_text shown_by.from ++ at_flow_ttl_text t ttl shown_by.at_flow_ttl
+shown_by_text topology ttl shown_by =
+    shown_from_text shown_by.from ++ at_flow_ttl_text topology ttl shown_by.at_flow_ttl
 
 -- the lines of the search, if there was one
 abbrev pub searched_lines : DomainFacts → List SummaryValue → (flow : ℕ) → Option LanSearch → List ℕ
-searched_lines d summary flow None = []
-searched_lines d summary flow (Some found) = search_text d summary flow found
+searched_lines domain summary flow None = []
+searched_lines domain summary flow (Some found) = search_text domain summary flow found
 
 -- the line `shown by` after four spaces; nothing where no TTL is given
 abbrev pub deeper_shown_from_text : Option ℕ → List ℕ
@@ -79,35 +79,38 @@ deeper_shown_from_text (Some ttl) = codes "  " ++ shown_from_text (Some ttl)
 -- and the line `shown by`
 abbrev pub second_behind_text : DomainFacts → List SummaryValue → (flow : ℕ) → List Cause → Option ℕ
     → Option Finding → List ℕ
-second_behind_text d summary flow causes shown_from None = []
-second_behind_text d summary flow causes shown_from (Some finding) =
-    codes "  behind it: " ++ (finding_text d.topology finding ++ (codes "\n"
-    ++ (deeper_causes_text d summary flow causes ++ deeper_shown_from_text shown_from)))
+second_behind_text domain summary flow causes shown_from None = []
+second_behind_text domain summary flow causes shown_from (Some finding) =
+    codes "  behind it: " ++ (finding_text domain.topology finding ++ (codes "\n"
+    ++ (deeper_causes_text domain summary flow causes ++ deeper_shown_from_text shown_from)))
 
 -- the lines of what is behind a stray, if the finding is one
 abbrev pub behind_text : DomainFacts → List SummaryValue → (flow : ℕ) → Option Behind → List ℕ
-behind_text d summary flow None = []
-behind_text d summary flow (Some b) =
-    second_behind_text d summary flow b.causes.items b.shown_from b.finding
-    ++ leaks_behind_text d b.strays.items b.open_routers.items b.missed.items
+behind_text domain summary flow None = []
+behind_text domain summary flow (Some behind) =
+    second_behind_text domain summary flow behind.causes.items behind.shown_from behind.finding
+    ++ leaks_behind_text domain behind.strays.items behind.open_routers.items behind.missed.items
 
 -- the lines that explain a finding, but those of which packets show it
 abbrev pub explanation_lines : DomainFacts → List SummaryValue → (flow : ℕ) → ExplanationValue → List ℕ
-explanation_lines d summary flow x =
-    causes_text d summary flow x.printed
-    ++ (searched_lines d summary flow x.search
-    ++ (also_missed_text d.topology x.also ++ behind_text d summary flow x.behind))
+explanation_lines domain summary flow explanation =
+    causes_text domain summary flow explanation.printed
+    ++ (searched_lines domain summary flow explanation.search
+    ++ (also_missed_text domain.topology explanation.also
+    ++ behind_text domain summary flow explanation.behind))
 
 -- the lines of a travel's events, if travels are to be printed
 abbrev pub events_if_shown : (travels : Bool) → TopologyValue → Travel → List ℕ
-events_if_shown true t travel = event_lines t travel.events.items
-events_if_shown false t travel = []
+events_if_shown true topology travel = event_lines topology travel.events.items
+events_if_shown false topology travel = []
 
 -- the lines of a flow with a finding: the finding, which packets show it, the explanation, and with the
 -- option travel the events
 abbrev pub wrong_lines : (travels : Bool) → DomainFacts → List SummaryValue → (flow : ℕ) → Travel
     → ExplanationValue → List ℕ
-wrong_lines travels d summary flow travel x =
-    found_flow_line d.topology (flow_at d.topology flow) x.certainty.known travel.finding
-    ++ (shown_by_text d.topology (flow_at d.topology flow).ttl x.certainty.shown_by
-    ++ (explanation_lines d summary flow x ++ events_if_shown travels d.topology travel))
+wrong_lines travels domain summary flow travel explanation =
+    found_flow_line domain.topology (flow_at domain.topology flow) explanation.certainty.known
+    travel.finding
+    ++ (shown_by_text domain.topology (flow_at domain.topology flow).ttl explanation.certainty.shown_by
+    ++ (explanation_lines domain summary flow explanation
+    ++ events_if_shown travels domain.topology travel))

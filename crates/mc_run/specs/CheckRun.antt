@@ -15,18 +15,19 @@ use Rattle.mc_run.specs.VerdictText.{AreVerdicts, are_yes, check_text}
 
 -- This is the text of the verdicts on a domain's flows by the lists of a certificate, and the answer is
 -- whether all verdicts are yes.
-pub record IsTextOfVerdicts (d : DomainValue) (lists : List Tree) (all : Bool) (written : List ℕ)
-    : Type 0 where
+pub record IsTextOfVerdicts (domain : DomainValue) (lists : List Tree) (all : Bool)
+    (written : List ℕ) : Type 0 where
   pub verdicts : List Verdict
-  pub are_verdicts : AreVerdicts d lists verdicts
+  pub are_verdicts : AreVerdicts domain lists verdicts
   pub answer : all ≡ are_yes verdicts
-  pub spelled : written ≡ check_text d.topology verdicts
+  pub spelled : written ≡ check_text domain.topology verdicts
 
 -- The bundle means a domain with a certificate, and this is the text of the verdicts; the answer is whether
 -- all are yes.
 abbrev pub IsVerdictText : List ℕ → Bool → List ℕ → Type 0
 IsVerdictText text all written =
-    MeansDomainWhere MeansWithLists (λ c. IsTextOfVerdicts c.domain c.lists all written) text
+    MeansDomainWhere MeansWithLists (λ certified. IsTextOfVerdicts certified.domain certified.lists all
+    written) text
 
 -- ---- the headline
 
@@ -53,10 +54,11 @@ SaysYes result old new = (result ≡ Ok true) ⊎ WroteYes old new
 -- domain, no more copies are made than the certificate names, and, if none was lost, once none
 -- waits each wanting LAN has carried exactly one.
 abbrev pub KeepsHeadline : DomainValue → List Tree → Type 0
-KeepsHeadline d lists =
-    (flow : ℕ) → flow < length d.topology.flows
-    → HeadlineHolds (net_of d flow) (length (tree_at lists flow))
+KeepsHeadline domain lists =
+    (flow : ℕ) → flow < length domain.topology.flows
+    → HeadlineHolds (net_of domain flow) (length (tree_at lists flow))
 
 -- The bundle means a domain and a certificate for which the headline holds.
 abbrev pub BundleKeepsHeadline : List ℕ → Type 0
-BundleKeepsHeadline = MeansDomainWhere MeansWithLists (λ c. KeepsHeadline c.domain c.lists)
+BundleKeepsHeadline = MeansDomainWhere MeansWithLists
+    (λ certified. KeepsHeadline certified.domain certified.lists)

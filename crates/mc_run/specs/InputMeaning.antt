@@ -42,8 +42,8 @@ MeansWithLists text c = MeansCertified text c.domain c.lists
 -- All parts but the certificate are valid, and this is the certificate's first fault.
 abbrev pub HasBadCertificate : List ℕ → CertFault → Type 0
 HasBadCertificate text fault =
-    (certificate : List ℕ) × (d : DomainValue) × MeansDomain text (Some certificate) d
-    × (parse_certificate d.topology certificate ≡ Err fault)
+    (certificate : List ℕ) × (domain : DomainValue) × MeansDomain text (Some certificate) domain
+    × (parse_certificate domain.topology certificate ≡ Err fault)
 
 -- This is the fault of a run that reads the bundle, with a certificate or without: the bundle's first one,
 -- where the parts are judged in their order, and the certificate last. A device's fault and lack of memory

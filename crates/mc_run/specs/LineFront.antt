@@ -10,7 +10,7 @@ use Rattle.mc_run.specs.declared.refusals.line_front.LineFront.{LineFront}
 -- the bytes of the line that comes after so many line feeds, without the line feed that ends it; no bytes if
 -- there is no such line
 abbrev pub line_after_feeds : (feeds : ℕ) → List ℕ → List ℕ
-line_after_feeds feeds text = slice_index_or (slice_split (λ b. b == 10) text) feeds []
+line_after_feeds feeds text = slice_index_or (slice_split (λ byte. byte == 10) text) feeds []
 
 -- the first 100 of these bytes, which is how many are printed at most
 abbrev pub first_100_bytes : List ℕ → List ℕ

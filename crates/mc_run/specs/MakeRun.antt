@@ -26,93 +26,97 @@ use Rattle.mc_run.specs.VerdictText.{flow_words}
 
 -- This is the result of examining a flow: entries that certify it, or a travel that shows a fault of it, with
 -- the TTL of the travel's packet.
-pub record IsExamined (d : DomainValue) (flow : ℕ) (x : Examined) : Type 0 where
+pub record IsExamined (domain : DomainValue) (flow : ℕ) (examination : Examined) : Type 0 where
   -- If the flow is certified, its entries are accepted;
-  pub accepted : IfCertified (IsAccepted (net_of d flow)) x
+  pub accepted : IfCertified (IsAccepted (net_of domain flow)) examination
   -- they are in ascending order of their LANs;
-  pub ascending : IfCertified (λ es. IsStrictlyIncreasing (map (λ e. e.lan) es)) x
+  pub ascending : IfCertified (λ entries. IsStrictlyIncreasing (map (λ entry. entry.lan) entries))
+      examination
   -- they are of the topology;
-  pub listed : IfCertified (All (IsEntryOf d.topology)) x
+  pub listed : IfCertified (All (IsEntryOf domain.topology)) examination
   -- a certificate can hold them;
-  pub writable : IfCertified IsWritableTree x
+  pub writable : IfCertified IsWritableTree examination
   -- and they are those of the copies that the travel at TTL 255 carried.
-  pub made : IfCertified (AreEntriesOfCleanTravel d flow) x
+  pub made : IfCertified (AreEntriesOfCleanTravel domain flow) examination
   -- If a fault is found, the travel is the one at its TTL in which the first waiting copy is handled each
   -- time;
-  pub travel : IfFound (IsFirstPickTravel d flow) x
+  pub travel : IfFound (IsFirstPickTravel domain flow) examination
   -- it shows a fault;
-  pub fault : IfFound (λ ttl travel. FindsFault travel) x
+  pub fault : IfFound (λ ttl travel. FindsFault travel) examination
   -- and the TTL is 255 if a fault is found there, and otherwise the flow's.
-  pub ttl : IfFound (λ ttl travel. IsTtlOfFault d flow ttl) x
+  pub ttl : IfFound (λ ttl travel. IsTtlOfFault domain flow ttl) examination
   -- The flow is certified exactly if it is right.
-  pub right : IsTrue (is_certified x) ↔ IsRight (net_of d flow)
+  pub right : IsTrue (is_certified examination) ↔ IsRight (net_of domain flow)
 
 -- There is such a result for each flow of the domain's topology, in order.
-pub record AreExamined (d : DomainValue) (xs : List Examined) : Type 0 where
-  pub count : length xs ≡ length d.topology.flows
-  pub each : (flow : ℕ) (x : Examined) → slice_get xs flow ≡ Some x → IsExamined d flow x
+pub record AreExamined (domain : DomainValue) (examinations : List Examined) : Type 0 where
+  pub count : length examinations ≡ length domain.topology.flows
+  pub each : (flow : ℕ) (examination : Examined) → slice_get examinations flow ≡ Some examination
+      → IsExamined domain flow examination
 
 -- ---- the text
 
 -- the lists of entries of the flows that are certified, in order
 abbrev pub certified_lists : List Examined → List Tree
 certified_lists [] = []
-certified_lists (Certified entries ∷ xs) = entries.items ∷ certified_lists xs
-certified_lists (Found ttl travel ∷ xs) = certified_lists xs
+certified_lists (Certified entries ∷ examinations) = entries.items ∷ certified_lists examinations
+certified_lists (Found ttl travel ∷ examinations) = certified_lists examinations
 
 -- the first line of a flow that isn't right
 abbrev pub no_certificate_line : Flow → List ℕ
-no_certificate_line f = flow_words f ++ codes " no certificate\n"
+no_certificate_line flow = flow_words flow ++ codes " no certificate\n"
 
 -- the second line of a flow that isn't right: what is found of a packet with this TTL
 abbrev pub found_line : TopologyValue → ℕ → Finding → List ℕ
-found_line t ttl finding =
-    codes "found ttl " ++ (decimal ttl ++ (codes " " ++ (finding_text t finding ++ codes "\n")))
+found_line topology ttl finding =
+    codes "found ttl " ++ (decimal ttl ++ (codes " " ++ (finding_text topology finding ++ codes "\n")))
 
 -- the two lines of a flow that isn't right
 abbrev pub found_lines : TopologyValue → Flow → ℕ → Finding → List ℕ
-found_lines t f ttl finding = no_certificate_line f ++ found_line t ttl finding
+found_lines topology flow ttl finding = no_certificate_line flow ++ found_line topology ttl finding
 
 -- the lines of a flow; none if it is certified
 abbrev pub found_lines_if_any : TopologyValue → Flow → Examined → List ℕ
-found_lines_if_any t f (Certified entries) = []
-found_lines_if_any t f (Found ttl travel) = found_lines t f ttl travel.finding
+found_lines_if_any topology flow (Certified entries) = []
+found_lines_if_any topology flow (Found ttl travel) = found_lines topology flow ttl travel.finding
 
 -- the lines of flows, in order
 abbrev pub found_lines_of_flows : TopologyValue → List Flow → List Examined → List ℕ
-found_lines_of_flows t (f ∷ fs) (x ∷ xs) = found_lines_if_any t f x ++ found_lines_of_flows t fs xs
-found_lines_of_flows t _ _ = []
+found_lines_of_flows topology (flow ∷ flows) (examination ∷ examinations) =
+    found_lines_if_any topology flow examination ++ found_lines_of_flows topology flows examinations
+found_lines_of_flows topology _ _ = []
 
 -- whether every flow is certified
 abbrev pub are_certified : List Examined → Bool
-are_certified xs = list_all is_certified xs
+are_certified examinations = list_all is_certified examinations
 
 -- the text: a certificate and a line feed if every flow is certified, and otherwise the lines of the flows
 abbrev pub made_text : (certified : Bool) → TopologyValue → List Examined → List ℕ
-made_text true t xs = certificate_json t (certified_lists xs) ++ codes "\n"
-made_text false t xs = found_lines_of_flows t t.flows xs
+made_text true topology examinations = certificate_json topology (certified_lists examinations)
+    ++ codes "\n"
+made_text false topology examinations = found_lines_of_flows topology topology.flows examinations
 
 -- These are the lists and the lines that are made for a domain's flows.
-pub record AreMadeListsAndLines (d : DomainValue) (lists : List Tree) (lines : List ℕ) : Type 0 where
+pub record AreMadeListsAndLines (domain : DomainValue) (lists : List Tree) (lines : List ℕ) : Type 0 where
   pub examined : List Examined
-  pub are_examined : AreExamined d examined
+  pub are_examined : AreExamined domain examined
   pub lists_are : lists ≡ certified_lists examined
-  pub lines_are : lines ≡ found_lines_of_flows d.topology d.topology.flows examined
+  pub lines_are : lines ≡ found_lines_of_flows domain.topology domain.topology.flows examined
 
 -- ---- answers
 
 -- This is the text for a domain, by the results of examining its flows; `certified` says whether it is a
 -- certificate.
-pub record IsMakeOutput (d : DomainValue) (certified : Bool) (written : List ℕ) : Type 0 where
+pub record IsMakeOutput (domain : DomainValue) (certified : Bool) (written : List ℕ) : Type 0 where
   pub examined : List Examined
-  pub are_examined : AreExamined d examined
+  pub are_examined : AreExamined domain examined
   pub answer : certified ≡ are_certified examined
-  pub spelled : written ≡ made_text certified d.topology examined
+  pub spelled : written ≡ made_text certified domain.topology examined
 
 -- The bundle means a domain, and this is the text for it; `certified` says whether that is a certificate.
 abbrev pub IsMadeText : List ℕ → Bool → List ℕ → Type 0
 IsMadeText text certified written =
-    MeansDomainWhere MeansUncertifiedDomain (λ d. IsMakeOutput d certified written) text
+    MeansDomainWhere MeansUncertifiedDomain (λ domain. IsMakeOutput domain certified written) text
 
 -- P holds of each bundle that has, as one part more, the certificate that is made for the others.
 abbrev pub ForEachBundleWithMadeCertificate : ((bundle : List ℕ) → Type 0) → Type 0
@@ -122,9 +126,9 @@ ForEachBundleWithMadeCertificate P = (text written bundle : List ℕ) (parts : L
 
 -- The answer is whether every flow that the domain's topology lists is right.
 abbrev pub AreRight : DomainValue → Bool → Type 0
-AreRight d all =
-    IsTrue all ↔ ((flow : ℕ) → flow < length d.topology.flows → IsRight (net_of d flow))
+AreRight domain all =
+    IsTrue all ↔ ((flow : ℕ) → flow < length domain.topology.flows → IsRight (net_of domain flow))
 
 -- The bundle means a domain for which that is the answer.
 abbrev pub SaysAllRight : List ℕ → Bool → Type 0
-SaysAllRight text all = MeansDomainWhere MeansUncertifiedDomain (λ d. AreRight d all) text
+SaysAllRight text all = MeansDomainWhere MeansUncertifiedDomain (λ domain. AreRight domain all) text

@@ -23,28 +23,29 @@ use Rattle.mc_run.specs.InputMeaning.{IsRefusedFor}
 
 -- the line of an event
 abbrev pub event_line : TopologyValue → Event → List ℕ
-event_line t e = codes "event " ++ (event_text t e ++ codes "\n")
+event_line topology event = codes "event " ++ (event_text topology event ++ codes "\n")
 
 -- the lines of these events, in order
 abbrev pub event_lines : TopologyValue → List Event → List ℕ
-event_lines t [] = []
-event_lines t (e ∷ es) = event_line t e ++ event_lines t es
+event_lines topology [] = []
+event_lines topology (event ∷ events) = event_line topology event ++ event_lines topology events
 
 -- the first line, with the TTL of the packet
 abbrev pub replay_line : Flow → ℕ → List ℕ
-replay_line f ttl =
+replay_line flow ttl =
     codes "replay "
-    ++ (dotted f.source
-    ++ (codes " " ++ (dotted f.group ++ (codes " ttl " ++ (decimal ttl ++ codes "\n")))))
+    ++ (dotted flow.source
+    ++ (codes " " ++ (dotted flow.group ++ (codes " ttl " ++ (decimal ttl ++ codes "\n")))))
 
 -- the last line
 abbrev pub finding_line : TopologyValue → Finding → List ℕ
-finding_line t x = codes "finding " ++ (finding_text t x ++ codes "\n")
+finding_line topology finding = codes "finding " ++ (finding_text topology finding ++ codes "\n")
 
 -- the whole text of a travel
 abbrev pub replay_text : TopologyValue → Flow → ℕ → Travel → List ℕ
-replay_text t f ttl travel =
-    replay_line f ttl ++ (event_lines t travel.events.items ++ finding_line t travel.finding)
+replay_text topology flow ttl travel =
+    replay_line flow ttl ++ (event_lines topology travel.events.items
+    ++ finding_line topology travel.finding)
 
 -- whether the finding is `Clean`
 abbrev pub is_clean : Finding → Bool
@@ -59,33 +60,34 @@ is_clean (Missed lan) = false
 -- The domain's topology lists the flow with this number, counted from 1, and this is the text of the travel
 -- of a packet of that flow with this TTL, by the picker's choices. The answer is whether its finding is
 -- `Clean`.
-pub record IsTextOfTravel (d : DomainValue) (flow ttl : ℕ) (choices : Choices) (clean : Bool)
+pub record IsTextOfTravel (domain : DomainValue) (flow ttl : ℕ) (choices : Choices) (clean : Bool)
     (written : List ℕ) : Type 0 where
   pub place : ℕ
   pub listed : Flow
   pub travel : Travel
   pub counted : flow ≡ place + 1
-  pub matches : slice_get d.topology.flows place ≡ Some listed
-  pub runs : IsRunOfChoices (replay_of d place ttl choices) travel
+  pub matches : slice_get domain.topology.flows place ≡ Some listed
+  pub runs : IsRunOfChoices (replay_of domain place ttl choices) travel
   pub answer : clean ≡ is_clean travel.finding
-  pub spelled : written ≡ replay_text d.topology listed ttl travel
+  pub spelled : written ≡ replay_text domain.topology listed ttl travel
 
 -- The domain's topology lists no flow with this number, counted from 1, or memory ran out.
 abbrev pub HasNoTravel : DomainValue → (flow : ℕ) → RunFault → Type 0
-HasNoTravel d flow fault =
-    ((fault ≡ NoSuchFlow flow) × ((flow ≡ 0) ⊎ (length d.topology.flows < flow)))
+HasNoTravel domain flow fault =
+    ((fault ≡ NoSuchFlow flow) × ((flow ≡ 0) ⊎ (length domain.topology.flows < flow)))
     ⊎ (fault ≡ Memory)
 
 -- The bundle means a domain, and this is the text of that travel in it. The answer is whether its finding is
 -- `Clean`.
 abbrev pub IsTravelText : (flow ttl : ℕ) → Choices → List ℕ → Bool → List ℕ → Type 0
 IsTravelText flow ttl choices text clean written =
-    MeansDomainWhere MeansUncertifiedDomain (λ d. IsTextOfTravel d flow ttl choices clean written) text
+    MeansDomainWhere MeansUncertifiedDomain (λ domain. IsTextOfTravel domain flow ttl choices clean
+    written) text
 
 -- The bundle means a domain whose topology lists no flow with this number, counted from 1.
 abbrev pub HasNoFlow : (flow : ℕ) → List ℕ → Type 0
 HasNoFlow flow =
-    MeansDomainWhere MeansUncertifiedDomain (λ d. (flow ≡ 0) ⊎ (length d.topology.flows < flow))
+    MeansDomainWhere MeansUncertifiedDomain (λ domain. (flow ≡ 0) ⊎ (length domain.topology.flows < flow))
 
 -- This is the bundle's first fault, or the topology lists no such flow.
 abbrev pub IsReplayRefused : (flow : ℕ) → List ℕ → RunFault → Type 0

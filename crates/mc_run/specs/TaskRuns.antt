@@ -42,8 +42,8 @@ pub record IsRunResult {X : Type 0} (Says : X → Bool → List ℕ → Type 0) 
 -- ---- tasks that read the input
 
 -- `wants` answers whether the LAN of the input's report list wants what the source sends to the group.
-pub record IsWantsRun (group source : ℕ) (remaining left : Option (List ℕ))
-    (result : Result Bool RunFault) (old new : Option (List ℕ)) : Type 0 where
+pub record IsWantsRun (group source : ℕ) (remaining left : Option (List ℕ)) (result : Result Bool RunFault)
+    (old new : Option (List ℕ)) : Type 0 where
   pub answer : IfSome remaining (λ text. AnswersWants text group source result)
   pub written : IfOk result (λ wanted. Appends old new (answer_line wanted))
   pub part : result ≡ Err Write → WritesPartOfLine remaining group source old new
@@ -118,29 +118,29 @@ left_out_by words = record {
 }
 
 -- This is the result of an audit of the files, with these options and without what is left out.
-pub record IsAuditResult (o : AuditOptions) (left : LeftOutValue) (contents : Option (List FileText))
+pub record IsAuditResult (options : AuditOptions) (left : LeftOutValue) (contents : Option (List FileText))
     (audited : Result AuditAnswer RunFault) (old new : Option (List ℕ)) : Type 0 where
   -- The answer is that of an audit of the files, or the files are refused for this fault.
   pub answer : IfSome contents
-      (λ files. Answers (IsAuditText o left) (AreRefusedWithout left.routers) files (yes_of audited))
+      (λ files. Answers (IsAuditText options left) (AreRefusedWithout left.routers) files (yes_of audited))
   -- After an answer the text of the audit was written whole,
-  pub written : IsWrittenWhole (IsAuditText o left) contents (yes_of audited) old new
+  pub written : IsWrittenWhole (IsAuditText options left) contents (yes_of audited) old new
   -- or a proper part of it where the output failed.
   pub part : audited ≡ Err Write
-      → IfSome contents (λ files. WritesPart (IsAuditText o left) files old new)
+      → IfSome contents (λ files. WritesPart (IsAuditText options left) files old new)
   -- The text says of each flow whether it is right.
-  pub right : IsWrittenWhole (SaysWhichAreRight o left) contents (yes_of audited) old new
+  pub right : IsWrittenWhole (SaysWhichAreRight options left) contents (yes_of audited) old new
   -- The counts are those of the audited flows and wants.
   pub counts : IfOk audited (λ answer. IfSome contents
-      (MeansDomainWhere (MeansAudited o left) (λ v. HasCounts v o answer.counts)))
+      (MeansDomainWhere (MeansAudited options left) (λ audited. HasCounts audited options answer.counts)))
   -- The text says yes to each flow, or gives what is found of it, and what it says is true;
-  pub each : IsWrittenWhole (SaysOfEach o left) contents (yes_of audited) old new
+  pub each : IsWrittenWhole (SaysOfEach options left) contents (yes_of audited) old new
   -- a part of such a text was written where the output failed.
   pub each_in_part : audited ≡ Err Write
-      → IfSome contents (λ files. WritesPart (SaysOfEach o left) files old new)
+      → IfSome contents (λ files. WritesPart (SaysOfEach options left) files old new)
   -- Where routers are excluded, a second copy or a stray that is found makes the flow wrong in the whole
   -- domain, too.
-  pub excluded : IsWrittenWhole (AreFoundInWhole o left) contents (yes_of audited) old new
+  pub excluded : IsWrittenWhole (AreFoundInWhole options left) contents (yes_of audited) old new
   -- The fault is one that an audit can return.
   pub faults : IfErr audited IsFaultOfAudit
   -- After a yes the headline holds for each flow.
@@ -157,8 +157,8 @@ pub record IsAuditRun (words : AuditWords) (contents : Option (List FileText))
 -- ---- tasks that read nothing
 
 -- `--version` and `help` write a text, and answer yes.
-pub record IsTextRun (text : List ℕ) (result : Result Bool RunFault) (old new : Option (List ℕ))
-    : Type 0 where
+pub record IsTextRun (text : List ℕ) (result : Result Bool RunFault)
+    (old new : Option (List ℕ)) : Type 0 where
   pub yes : IfOk result (λ yes. yes ≡ true)
   pub written : OnOk result (Appends old new text)
   pub part : OnErr result (AppendsProperPrefix old new text)

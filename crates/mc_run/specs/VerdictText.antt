@@ -22,37 +22,38 @@ use Rattle.mc_check.specs.declared.verdict.Verdict.TheVariants.{Yes, No}
 -- The verdict is yes with the number of entries if the list is accepted, and otherwise no with the first
 -- reason.
 abbrev pub IsVerdict : (lans : ℕ) → Net → List Entry → Verdict → Type 0
-IsVerdict lans n es (Yes copies) = IsAccepted n es × (copies ≡ length es)
-IsVerdict lans n es (No reason) = first_reason n lans es ≡ Some (reason_value reason)
+IsVerdict lans net entries (Yes copies) = IsAccepted net entries × (copies ≡ length entries)
+IsVerdict lans net entries (No reason) = first_reason net lans entries ≡ Some (reason_value reason)
 
 -- There is such a verdict for each flow of the domain's topology, in order.
-pub record AreVerdicts (d : DomainValue) (lists : List Tree) (verdicts : List Verdict)
-    : Type 0 where
-  pub count : length verdicts ≡ length d.topology.flows
-  pub each : (flow : ℕ) (es : List Entry) (v : Verdict) → slice_get lists flow ≡ Some es
-      → slice_get verdicts flow ≡ Some v
-      → IsVerdict (length d.topology.lans) (net_of d flow) es v
+pub record AreVerdicts (domain : DomainValue) (lists : List Tree) (verdicts : List Verdict) : Type 0 where
+  pub count : length verdicts ≡ length domain.topology.flows
+  pub each : (flow : ℕ) (entries : List Entry) (verdict : Verdict) → slice_get lists flow ≡ Some entries
+      → slice_get verdicts flow ≡ Some verdict
+      → IsVerdict (length domain.topology.lans) (net_of domain flow) entries verdict
 
 -- ---- the text
 
 -- the words at the start of a flow's line: its source, its group and its TTL
 abbrev pub flow_words : Flow → List ℕ
-flow_words f =
+flow_words flow =
     codes "flow "
-    ++ (dotted f.source ++ (codes " " ++ (dotted f.group ++ (codes " ttl " ++ decimal f.ttl))))
+    ++ (dotted flow.source ++ (codes " " ++ (dotted flow.group ++ (codes " ttl " ++ decimal flow.ttl))))
 
 -- the line of a flow and its verdict
 abbrev pub flow_line : TopologyValue → Flow → Verdict → List ℕ
-flow_line t f v = flow_words f ++ (codes " " ++ (verdict_text t v ++ codes "\n"))
+flow_line topology flow verdict = flow_words flow
+    ++ (codes " " ++ (verdict_text topology verdict ++ codes "\n"))
 
 -- the lines of these flows and their verdicts, in order
 abbrev pub flow_lines : TopologyValue → List Flow → List Verdict → List ℕ
-flow_lines t (f ∷ fs) (v ∷ vs) = flow_line t f v ++ flow_lines t fs vs
-flow_lines t _ _ = []
+flow_lines topology (flow ∷ flows) (verdict ∷ verdicts) =
+    flow_line topology flow verdict ++ flow_lines topology flows verdicts
+flow_lines topology _ _ = []
 
 -- whether every verdict is yes
 abbrev pub are_yes : List Verdict → Bool
-are_yes vs = list_all is_yes vs
+are_yes verdicts = list_all is_yes verdicts
 
 -- the last line
 abbrev pub last_line : Bool → List ℕ
@@ -61,4 +62,4 @@ last_line false = codes "verdict no\n"
 
 -- the whole text
 abbrev pub check_text : TopologyValue → List Verdict → List ℕ
-check_text t vs = flow_lines t t.flows vs ++ last_line (are_yes vs)
+check_text topology verdicts = flow_lines topology topology.flows verdicts ++ last_line (are_yes verdicts)

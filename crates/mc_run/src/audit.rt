@@ -139,7 +139,7 @@ fn audit_files<F: PieceSource>(
         (string_bytes audit.run_output.text))) }
     ensures counts { IfOk result (λ audit. IfSome (F.contents files.old)
         (MeansDomainWhere (MeansAudited options (left_out left.now))
-        (λ v. HasCounts v options audit.counts))) }
+        (λ audited. HasCounts audited options audit.counts))) }
     ensures refused { IfErr result (λ fault. IfSome (F.contents files.old) (λ files.
         AreRefusedWithout (left_out left.now).routers files fault)) }
     ensures no_write { IfErr result (λ fault. is_write fault ≡ false) }
@@ -215,7 +215,7 @@ pub fn run_audit<F: PieceSource, W: Output>(
     // of LANs that no flow answers.
     ensures counts { IfOk result (λ answer. IfSome (F.contents files.old)
         (MeansDomainWhere (MeansAudited options (left_out left.now))
-        (λ v. HasCounts v options answer.counts))) }
+        (λ audited. HasCounts audited options answer.counts))) }
     // After a `Write` fault, a proper part of a right text was written, from its front.
     ensures part { result ≡ Err RunFault.Write → IfSome (F.contents files.old) (λ contents.
         WritesPart (IsAuditText options (left_out left.now)) contents

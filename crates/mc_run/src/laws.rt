@@ -27,8 +27,8 @@ pub fn check_accepts_made_certificates()
         parse_certificate made.domain.topology written ≡ Ok (certified_lists made.holds.examined) }
     // Each of the lists is accepted.
     ensures accepted { (text written : List ℕ) (made : IsMadeText text true written)
-        (flow : ℕ) (es : Tree) → slice_get (certified_lists made.holds.examined) flow ≡ Some es →
-        IsAccepted (net_of made.domain flow) es }
+        (flow : ℕ) (tree : Tree) → slice_get (certified_lists made.holds.examined) flow ≡ Some tree →
+        IsAccepted (net_of made.domain flow) tree }
     // The same bundle with the certificate as one more part has a verdict text that says yes.
     ensures yes { ForEachBundleWithMadeCertificate (λ bundle.
         (printed : List ℕ) × IsVerdictText bundle true printed) }
@@ -40,21 +40,25 @@ pub fn check_accepts_made_certificates()
 /// The text of a bundle, and the files of a folder, mean at most one domain.
 pub fn input_means_one_domain_at_most()
     // A bundle, with or without a certificate, determines the domain and the certificate's text.
-    ensures bundle { (text : List ℕ) (a b : Option (List ℕ)) (d e : DomainValue)
-        → is_some b ≡ is_some a → MeansDomain text a d → MeansDomain text b e → (d ≡ e) × (a ≡ b) }
+    ensures bundle { (text : List ℕ) (certificate other_certificate : Option (List ℕ))
+        (domain other : DomainValue)
+        → is_some other_certificate ≡ is_some certificate → MeansDomain text certificate domain
+        → MeansDomain text other_certificate other → (domain ≡ other)
+        × (certificate ≡ other_certificate) }
     // A bundle with a certificate determines the domain and the lists that the certificate denotes.
-    ensures certified { (text : List ℕ) (d e : DomainValue) (xs ys : List Tree)
-        → MeansCertified text d xs → MeansCertified text e ys → (d ≡ e) × (xs ≡ ys) }
+    ensures certified { (text : List ℕ) (domain other : DomainValue) (lists other_lists : List Tree)
+        → MeansCertified text domain lists → MeansCertified text other other_lists → (domain ≡ other)
+        × (lists ≡ other_lists) }
     // The files of a folder determine the domain.
-    ensures files { (files : List FileText) (d e : DomainValue)
-        → FilesMeanDomain files d → FilesMeanDomain files e → d ≡ e }
+    ensures files { (files : List FileText) (domain other : DomainValue)
+        → FilesMeanDomain files domain → FilesMeanDomain files other → domain ≡ other }
 {}
 
 /// `audit` is a function of the folder's files and of its options: the same files and options give the
 /// same answer and the same text, down to each line that explains a fault.
 pub fn audit_of_same_files_is_the_same()
-    ensures { (left : LeftOutValue) (files : List FileText) (o : AuditOptions)
-        → HasOneOutput (IsAuditText o left files) }
+    ensures { (left : LeftOutValue) (files : List FileText) (options : AuditOptions)
+        → HasOneOutput (IsAuditText options left files) }
 {
     summaries_are_unique();
     asked_is_unique();
@@ -72,14 +76,14 @@ pub fn verdict_yes_line_only_where_all_right()
         → written ≡ front ++ (codes "verdict yes" ++ rest)
         → (all ≡ true) × (rest ≡ codes "\n") }
     // The same holds for `audit`, whose line in JSON is an object.
-    ensures audit_has_line { (left : LeftOutValue) (files : List FileText) (o : AuditOptions)
-        (written old : List ℕ) → IsAuditText o left files true written
-        → WroteAtStart (yes_words o.json) (Some old) (Some (old ++ written)) }
+    ensures audit_has_line { (left : LeftOutValue) (files : List FileText) (options : AuditOptions)
+        (written old : List ℕ) → IsAuditText options left files true written
+        → WroteAtStart (yes_words options.json) (Some old) (Some (old ++ written)) }
     // That line is the last one, and no line starts with the words of the other form.
-    ensures audit_last { (left : LeftOutValue) (files : List FileText) (o : AuditOptions)
-        (all : Bool) (written : List ℕ) → IsAuditText o left files all written
-        → IsYesLineLast o.json all written }
+    ensures audit_last { (left : LeftOutValue) (files : List FileText) (options : AuditOptions)
+        (all : Bool) (written : List ℕ) → IsAuditText options left files all written
+        → IsYesLineLast options.json all written }
     // With an excluded router, an audit has no such line.
-    ensures audit_whole { (left : LeftOutValue) (files : List FileText) (o : AuditOptions)
-        (written : List ℕ) → IsAuditText o left files true written → left.routers ≡ [] }
+    ensures audit_whole { (left : LeftOutValue) (files : List FileText) (options : AuditOptions)
+        (written : List ℕ) → IsAuditText options left files true written → left.routers ≡ [] }
 {}

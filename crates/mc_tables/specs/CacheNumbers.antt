@@ -54,7 +54,8 @@ IsPlaceOf keys key place = (place < length keys) × (get_or keys place key ≡ k
 -- `more` has the numbers, and that of one more key
 abbrev pub AddsNumber : (key : ℕ × ℕ) (number : ℕ) (numbers more : List ((ℕ × ℕ) × ℕ)) → Type 0
 AddsNumber key number numbers more =
-    (q : ℕ × ℕ) → number_of_key more q ≡ cond (is_at (key_cmp key) q) (Some number) (number_of_key numbers q)
+    (pair : ℕ × ℕ) → number_of_key more pair ≡ cond (is_at (key_cmp key) pair) (Some number)
+    (number_of_key numbers pair)
 
 -- What the answer says of the insertion of a key's number: `New`, the listed key had none and has
 -- it now; `Repeated`, it had one already; `Unlisted`, the key isn't listed. But for the first

@@ -36,7 +36,7 @@ oif_in_parts parts = Err BadOif
 
 -- the vif and the threshold of a word `n:t`
 abbrev pub oif_in : List ℕ → Result (ℕ × ℕ) TableFaultKind
-oif_in word = oif_in_parts (slice_split (λ b. b == 58) word)
+oif_in word = oif_in_parts (slice_split (λ byte. byte == 58) word)
 
 -- whether an earlier word has the vif
 abbrev pub oif_repeats : List (ℕ × ℕ) → ℕ × ℕ → Bool

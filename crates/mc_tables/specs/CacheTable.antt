@@ -31,7 +31,7 @@ pub record WordDenotesOif (word : List ℕ) (oif : ℕ × ℕ) : Type 0 where
 
 -- a vif and a threshold, as an outgoing vif
 abbrev pub to_oif : ℕ × ℕ → Oif
-to_oif o = record { vif = o.0; threshold = o.1 }
+to_oif pair = record { vif = pair.0; threshold = pair.1 }
 
 -- vifs, each with its threshold, as outgoing vifs in ascending order
 abbrev pub oifs_by_vif : map.FinMap nat_cmp ℕ → List Oif
@@ -81,7 +81,7 @@ pub record LineDenotesRow (order : Order) (line : LineText) (row : RowValue) : T
 
 -- a key is a source and a group; keys are ordered by source and then by group
 abbrev pub key_cmp : ℕ × ℕ → ℕ × ℕ → Ordering
-key_cmp x y = ordering_then (nat_cmp x.0 y.0) (nat_cmp x.1 y.1)
+key_cmp pair y = ordering_then (nat_cmp pair.0 y.0) (nat_cmp pair.1 y.1)
 
 -- whether two keys are equal
 abbrev pub same_key : ℕ × ℕ → ℕ × ℕ → Bool
@@ -150,14 +150,14 @@ pub record DenotesCache (order : Order) (text : List ℕ) (table : CacheValue) :
 -- an outgoing vif is stored as its fields
 abbrev pub oif_code : Coded Oif
 oif_code =
-    code_by (ℕ × ℕ) (coded× coded_ℕ coded_ℕ) (λ o. (o.vif, o.threshold))
-    (λ p. record { vif = p.0; threshold = p.1 }) (λ _. refl)
+    code_by (ℕ × ℕ) (coded× coded_ℕ coded_ℕ) (λ oif. (oif.vif, oif.threshold))
+    (λ stored. record { vif = stored.0; threshold = stored.1 }) (λ _. refl)
 
 -- an entry is stored as its fields
 abbrev pub entry_code : Coded EntryValue
 entry_code =
-    code_by (ℕ × List Oif) (coded× coded_ℕ (coded_list oif_code)) (λ e. (e.iif, e.oifs))
-    (λ p. record { iif = p.0; oifs = p.1 }) (λ _. refl)
+    code_by (ℕ × List Oif) (coded× coded_ℕ (coded_list oif_code)) (λ entry. (entry.iif, entry.oifs))
+    (λ stored. record { iif = stored.0; oifs = stored.1 }) (λ _. refl)
 
 -- a table is stored as its fields
 abbrev pub cache_code : Coded CacheValue
@@ -165,5 +165,5 @@ cache_code =
     code_by (map.FinMap key_cmp EntryValue × (List EntryValue × set.FinSet nat_cmp))
     (coded× (map.code (coded× coded_ℕ coded_ℕ) entry_code)
     (coded× (coded_list entry_code) (set.code coded_ℕ)))
-    (λ t. (t.entries, (t.numbered, t.wildcards)))
-    (λ p. record { entries = p.0; numbered = p.1.0; wildcards = p.1.1 }) (λ _. refl)
+    (λ table. (table.entries, (table.numbered, table.wildcards)))
+    (λ stored. record { entries = stored.0; numbered = stored.1.0; wildcards = stored.1.1 }) (λ _. refl)

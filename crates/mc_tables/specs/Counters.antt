@@ -25,7 +25,7 @@ AreMarks passes bytes marks =
 -- the bytes that are marked as digits are digits, and those that are marked as spaces are spaces
 pub record IsMarked (line : MarkedLine) : Type 0 where
   pub digits : AreMarks is_ascii_digit line.bytes.now line.digits
-  pub spaces : AreMarks (λ b. b == 32) line.bytes.now line.spaces
+  pub spaces : AreMarks (λ byte. byte == 32) line.bytes.now line.spaces
 
 -- the bits of `ends` mark the digits that have a space after them
 abbrev pub AreLastDigits : ℕ → ℕ → ℕ → Type 0

@@ -40,7 +40,7 @@ with_begun lines size bytes =
 abbrev pub TakesToLineFeed : (old : LinesSoFar) (bytes : List ℕ) (new : LinesSoFar) → Option ℕ → Type 0
 TakesToLineFeed old bytes new place =
     MatchOption place (HasNoLineFeed bytes × (new ≡ with_begun old (length bytes) bytes))
-    (λ end. (position (λ b. b == 10) bytes ≡ Some end)
+    (λ end. (position (λ byte. byte == 10) bytes ≡ Some end)
     × (new ≡ with_begun old (end + 1) (take end bytes)))
 
 -- the state when the line that has begun has ended

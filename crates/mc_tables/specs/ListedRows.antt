@@ -19,7 +19,7 @@ Listed = Option (List (ℕ × ℕ))
 -- whether the key is listed
 abbrev pub is_listed : Listed → ℕ × ℕ → Bool
 is_listed None key = true
-is_listed (Some keys) key = list_any (λ k. (k.0 == key.0) && (k.1 == key.1)) keys
+is_listed (Some keys) key = list_any (λ listed. (listed.0 == key.0) && (listed.1 == key.1)) keys
 
 -- whether a row of this key is kept: it has none, or its key is listed
 abbrev pub is_kept_key : Listed → Option (ℕ × ℕ) → Bool

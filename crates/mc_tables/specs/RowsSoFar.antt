@@ -34,8 +34,8 @@ abbrev pub rows_code : Coded RowsSoFar
 rows_code =
     code_by (CacheValue × (List UnlistedRow × ℕ))
     (coded× cache_code (coded× (coded_list (coded× (coded× coded_ℕ coded_ℕ) coded_ℕ)) coded_ℕ))
-    (λ r. (r.table, (r.others, r.count)))
-    (λ p. record { table = p.0; others = p.1.0; count = p.1.1 }) (λ _. refl)
+    (λ rows. (rows.table, (rows.others, rows.count)))
+    (λ stored. record { table = stored.0; others = stored.1.0; count = stored.1.1 }) (λ _. refl)
 
 -- the rows with one more that isn't kept; an earlier one may have its key
 abbrev pub unlisted_added : RowsSoFar → ℕ × ℕ → ℕ → RowsSoFar

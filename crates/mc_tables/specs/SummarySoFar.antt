@@ -51,18 +51,18 @@ with_entry_if_new kept key entry =
 
 -- ---- the lowest pairs
 
--- The ascending pairs p and ps with one more pair, which is less than p, equal to it or greater. It
--- comes first if it is less, and changes nothing if it is equal; if it is greater, `put` has it
--- among ps.
-abbrev pub put_at : Ordering → (pair p : ℕ × ℕ) (ps put : List (ℕ × ℕ)) → List (ℕ × ℕ)
-put_at Less pair p ps put = pair ∷ p ∷ ps
-put_at Equal pair p ps put = p ∷ ps
-put_at Greater pair p ps put = p ∷ put
+-- The ascending pairs, of which `first` comes before the others, with one more pair, which is less than
+-- `first`, equal to it or greater. It comes first if it is less, and changes nothing if it is equal; if it is
+-- greater, `put` has it among the others.
+abbrev pub put_at : Ordering → (pair first : ℕ × ℕ) (others put : List (ℕ × ℕ)) → List (ℕ × ℕ)
+put_at Less pair first others put = pair ∷ first ∷ others
+put_at Equal pair first others put = first ∷ others
+put_at Greater pair first others put = first ∷ put
 
 -- ascending pairs with one more at its place, if it isn't among them
 abbrev pub put_pair : ℕ × ℕ → List (ℕ × ℕ) → List (ℕ × ℕ)
 put_pair pair [] = pair ∷ []
-put_pair pair (p ∷ ps) = put_at (key_cmp pair p) pair p ps (put_pair pair ps)
+put_pair pair (first ∷ others) = put_at (key_cmp pair first) pair first others (put_pair pair others)
 
 -- whether all pairs are kept or only the lowest 20, and those that are kept, in ascending order,
 -- each of them once
@@ -161,7 +161,7 @@ finished_summary summary = record {
 -- first (*,G) rows; how many (S,G) rows have unlisted keys, and which of these are kept.
 abbrev pub summary_of_parts : List ((ℕ × ℕ) × ℕ) → KeptRowsValue → ℕ → List (ℕ × ℕ) → SummaryValue
 summary_of_parts numbers first unlisted lowest = record {
-  unresolved = set.from_list (map_list (λ p. p.0) numbers);
+  unresolved = set.from_list (map_list (λ pair. pair.0) numbers);
   for_every_source = first.table.entries;
   unlisted = unlisted;
   lowest = lowest;

@@ -32,9 +32,9 @@ is_hexadecimal least most word =
 
 -- ---- numbers
 
--- the word denotes the number n, which is `least` to `most`, in decimal
+-- the word denotes this number, which is `least` to `most`, in decimal
 abbrev pub WordDenotesNumber : ℕ → ℕ → List ℕ → ℕ → Type 0
-WordDenotesNumber least most word n = IsDecimal word n × (least ≤ n) × (n ≤ most)
+WordDenotesNumber least most word number = IsDecimal word number × (least ≤ number) × (number ≤ most)
 
 -- whether the word has one decimal digit or more, and nothing else
 abbrev pub is_decimal_word : List ℕ → Bool

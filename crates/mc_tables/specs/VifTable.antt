@@ -24,8 +24,8 @@ pub record VifValue : Type 0 where
 abbrev pub vif_code : Coded VifValue
 vif_code =
     code_by (List ℕ × (Bool × Bool)) (coded× (coded_list coded_ℕ) (coded× coded_bool coded_bool))
-    (λ v. (v.device, (v.tunnel, v.register)))
-    (λ p. record { device = p.0; tunnel = p.1.0; register = p.1.1 }) (λ _. refl)
+    (λ vif. (vif.device, (vif.tunnel, vif.register)))
+    (λ stored. record { device = stored.0; tunnel = stored.1.0; register = stored.1.1 }) (λ _. refl)
 
 -- whether the flags of a vif have VIFF_TUNNEL, 0x1 (include/uapi/linux/mroute.h)
 abbrev pub is_tunnel : ℕ → Bool

@@ -27,10 +27,10 @@ pub fn reading_gives_denoted_table()
 
 /// A text denotes at most one table.
 pub fn text_denotes_one_table()
-    ensures vifs { (text : List ℕ) (a b : FinMap nat_cmp VifValue) →
-        DenotesVifs text a → DenotesVifs text b → a ≡ b }
-    ensures cache { (order : Order) (text : List ℕ) (a b : CacheValue) →
-        DenotesCache order text a → DenotesCache order text b → a ≡ b }
+    ensures vifs { (text : List ℕ) (vifs others : FinMap nat_cmp VifValue) →
+        DenotesVifs text vifs → DenotesVifs text others → vifs ≡ others }
+    ensures cache { (order : Order) (text : List ℕ) (table other : CacheValue) →
+        DenotesCache order text table → DenotesCache order text other → table ≡ other }
 {}
 
 /// A table that a text denotes keeps the rules that each look-up ensures of its table.
@@ -44,8 +44,8 @@ pub fn denoted_tables_are_valid()
 /// A device other than `none` has at most one vif.
 pub fn devices_have_one_vif()
     ensures { (text : List ℕ) (vifs : FinMap nat_cmp VifValue) → DenotesVifs text vifs →
-        (device : List ℕ) (i j : ℕ) → device ≢ no_device →
-        HasDevice vifs i device → HasDevice vifs j device → i ≡ j }
+        (device : List ℕ) (index j : ℕ) → device ≢ no_device →
+        HasDevice vifs index device → HasDevice vifs j device → index ≡ j }
 {}
 
 /// An index is found for a device exactly if its vif has that device, and the device isn't `none`.

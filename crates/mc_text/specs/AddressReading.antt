@@ -14,12 +14,12 @@ use Rattle.mc_text.specs.declared.text.addr.Order.TheVariants.{Little, Big}
 
 -- the numbers that the digits between the dots write in decimal
 abbrev pub numbers_between_dots : List ℕ → List ℕ
-numbers_between_dots text = map (digits_value 10) (slice_split (λ b. b == 46) text)
+numbers_between_dots text = map (digits_value 10) (slice_split (λ byte. byte == 46) text)
 
 -- the address with these octets, if they are four below 256 and the text is how they are written
 abbrev pub address_if_dotted : (text octets : List ℕ) → Option ℕ
 address_if_dotted text octets =
-    if (length octets == 4) && list_all (λ n. nat_lt n 256) octets
+    if (length octets == 4) && list_all (λ octet. nat_lt octet 256) octets
     && bytes_eq (ipv4_text octets) text
     then Some (from_be_bytes w32 octets) else None
 

@@ -34,7 +34,7 @@ cut_line rest None =
 
 -- the line at the front of the bytes, and the bytes after its line feed
 unfoldable pub line_at : List ℕ → Result (List ℕ × List ℕ) BundleFault
-line_at rest = cut_line rest (position (λ b. b == 10) (take max_line rest))
+line_at rest = cut_line rest (position (λ byte. byte == 10) (take max_line rest))
 
 -- whether the bytes are a part's name: 1 to 64 letters, digits, `-`, `_`, `.` and `/`
 abbrev pub is_part_name : List ℕ → Bool
@@ -54,7 +54,7 @@ cut_words words (Some place) = name_and_length (take place words) (drop (place +
 
 -- the name and the length in a part's line without its `part `, on both sides of the first space
 unfoldable pub parse_name_and_length : List ℕ → Option (List ℕ × ℕ)
-parse_name_and_length words = cut_words words (position (λ b. b == 32) words)
+parse_name_and_length words = cut_words words (position (λ byte. byte == 32) words)
 
 -- the name and the length in a line, if it is a part's line
 unfoldable pub parse_part_line : List ℕ → Option (List ℕ × ℕ)

@@ -7,7 +7,7 @@ use Rattle.std.specs.Prelude.{not, filter}
 
 -- none of the bytes is `byte`
 abbrev pub HasNoByte : ℕ → List ℕ → Type 0
-HasNoByte byte bytes = AllByRecursion (λ b. (b == byte) ≡ false) bytes
+HasNoByte byte bytes = AllByRecursion (λ each. (each == byte) ≡ false) bytes
 
 -- none of the bytes is a line feed
 abbrev pub HasNoLineFeed : List ℕ → Type 0

@@ -5,9 +5,9 @@ use Rattle.std.specs.Char.{is_ascii_digit}
 use Rattle.std.specs.List.{list_all}
 use Rattle.std.specs.Str.Parse.{IsNumeral, digits_value}
 
--- the word has one decimal digit or more, and nothing else, and its digits write the number n
+-- the word has one decimal digit or more, and nothing else, and its digits write this number
 abbrev pub IsDecimal : List ℕ → ℕ → Type 0
-IsDecimal word n = IsNumeral 10 word × (digits_value 10 word ≡ n)
+IsDecimal word number = IsNumeral 10 word × (digits_value 10 word ≡ number)
 
 -- whether the word has one decimal digit or more, and nothing else
 abbrev pub is_decimal : List ℕ → Bool

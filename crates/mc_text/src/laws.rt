@@ -33,29 +33,31 @@ pub fn lines_end_at_line_feeds()
 
 /// Addresses are ordered by their octets, the first octet first, and so are their numbers.
 pub fn addresses_are_ordered_by_octets()
-    ensures order { (a b : ℕ) → IsAddr a → IsAddr b
-        → ⟦<Addr as Ord>⟧.cmp a b ≡ slice_cmp nat_cmp (octets_of a) (octets_of b) }
-    ensures number { (a b : ℕ) → IsAddr a → IsAddr b
-        → nat_cmp a b ≡ slice_cmp nat_cmp (octets_of a) (octets_of b) }
+    ensures order { (first second : ℕ) → IsAddr first → IsAddr second
+        → ⟦<Addr as Ord>⟧.cmp first second ≡ slice_cmp nat_cmp (octets_of first) (octets_of second) }
+    ensures number { (first second : ℕ) → IsAddr first → IsAddr second
+        → nat_cmp first second ≡ slice_cmp nat_cmp (octets_of first) (octets_of second) }
 {}
 
 /// A dotted text is read as the address that it writes. No two addresses have the same text.
 pub fn dotted_texts_are_read()
-    ensures read { (text : List ℕ) (a : ℕ)
-        → (address_of_text text ≡ Some a) ↔ (IsAddr a × (text ≡ dotted a)) }
-    ensures one { (a b : ℕ) → IsAddr a → IsAddr b → dotted a ≡ dotted b → a ≡ b }
+    ensures read { (text : List ℕ) (address : ℕ)
+        → (address_of_text text ≡ Some address) ↔ (IsAddr address × (text ≡ dotted address)) }
+    ensures one { (first second : ℕ) → IsAddr first → IsAddr second → dotted first ≡ dotted second
+        → first ≡ second }
 {}
 
 /// An address word is read as the address that it shows. No word shows two addresses.
 pub fn address_words_are_read()
-    ensures read { (order : Order) (word : List ℕ) (a : ℕ)
-        → (address_of_word order word ≡ Some a) ↔ (IsAddr a × IsAddressWord order word a) }
-    ensures one { (order : Order) (word : List ℕ) (a b : ℕ) → IsAddr a → IsAddr b
-        → IsAddressWord order word a → IsAddressWord order word b → a ≡ b }
+    ensures read { (order : Order) (word : List ℕ) (address : ℕ)
+        → (address_of_word order word ≡ Some address)
+        ↔ (IsAddr address × IsAddressWord order word address) }
+    ensures one { (order : Order) (word : List ℕ) (first second : ℕ) → IsAddr first → IsAddr second
+        → IsAddressWord order word first → IsAddressWord order word second → first ≡ second }
 {}
 
 /// A word is read as the number that it writes in decimal, if that is in range.
 pub fn decimal_numbers_are_read()
-    ensures { (max : ℕ) (word : List ℕ) (n : ℕ)
-        → (number_up_to max word ≡ Some n) ↔ (IsDecimal word n × (n ≤ max)) }
+    ensures { (max : ℕ) (word : List ℕ) (number : ℕ)
+        → (number_up_to max word ≡ Some number) ↔ (IsDecimal word number × (number ≤ max)) }
 {}

@@ -26,34 +26,34 @@ use Rattle.mc_topology.specs.Topology.{interface_key, source_key, flow_key}
 
 -- under the key there is this text
 abbrev pub HasText : List ℕ → Members → List ℕ → Type 0
-HasText key ms text = get_member key ms ≡ Some (string text)
+HasText key members text = get_member key members ≡ Some (string text)
 
 -- under the key there is this whole number
 abbrev pub HasNumber : List ℕ → Members → ℕ → Type 0
-HasNumber key ms n = get_member key ms ≡ Some (integer (pos n))
+HasNumber key members number = get_member key members ≡ Some (integer (pos number))
 
 -- a value is a list of these rows; where there is no value, there are no rows
 abbrev pub AreRows : Option Data → List Data → Type 0
 AreRows None rows = rows ≡ []
-AreRows (Some d) rows = (items : Items) × (d ≡ array items) × (rows ≡ rows_in items)
+AreRows (Some value) rows = (items : Items) × (value ≡ array items) × (rows ≡ rows_in items)
 
 -- the value is a table with these members, and with no other keys than the known ones
-pub record IsTable (known : List (List ℕ)) (d : Data) (ms : Members) : Type 0 where
-  pub members : d ≡ table ms
+pub record IsTable (known : List (List ℕ)) (value : Data) (ms : Members) : Type 0 where
+  pub members : value ≡ table ms
   pub keys : IsTrue (has_only known ms)
 
 -- each row denotes its value, in order
 abbrev pub EachDenotes : {X : Type 0} → (Data → X → Type 0) → List Data → List X → Type 0
 EachDenotes Denotation [] [] = Unit {0}
 EachDenotes Denotation [] (x ∷ xs) = ⊥
-EachDenotes Denotation (d ∷ ds) [] = ⊥
-EachDenotes Denotation (d ∷ ds) (x ∷ xs) = Denotation d x × EachDenotes Denotation ds xs
+EachDenotes Denotation (value ∷ values) [] = ⊥
+EachDenotes Denotation (value ∷ values) (x ∷ xs) = Denotation value x × EachDenotes Denotation values xs
 
 -- ---- the rows
 
 -- a value denotes a LAN's name: a text that can be one
-pub record DenotesLan (d : Data) (name : List ℕ) : Type 0 where
-  pub text : d ≡ string name
+pub record DenotesLan (value : Data) (name : List ℕ) : Type 0 where
+  pub text : value ≡ string name
   pub fits : IsTrue (is_name name)
 
 -- the text of a byte order
@@ -64,62 +64,62 @@ order_text Big = codes "big"
 -- the text of a byte order denotes it; where there is none, it is little-endian
 abbrev pub DenotesOrder : Option Data → Order → Type 0
 DenotesOrder None order = order ≡ Little
-DenotesOrder (Some d) order = d ≡ string (order_text order)
+DenotesOrder (Some value) order = value ≡ string (order_text order)
 
 -- a value denotes a router: a table of its name, and maybe of its byte order
-pub record DenotesRouter (d : Data) (r : RouterRow) : Type 0 where
+pub record DenotesRouter (value : Data) (row : RouterRow) : Type 0 where
   pub members : Members
-  pub is_table : IsTable router_keys d members
-  pub name : HasText (codes "name") members r.name
-  pub order : DenotesOrder (get_member (codes "order") members) r.order
-  pub fits : IsTrue (is_name r.name)
+  pub is_table : IsTable router_keys value members
+  pub name : HasText (codes "name") members row.name
+  pub order : DenotesOrder (get_member (codes "order") members) row.order
+  pub fits : IsTrue (is_name row.name)
 
 -- a value denotes an interface: a table of a router's name, a device, and a LAN's name
-pub record DenotesInterface (lans : List (List ℕ)) (routers : List RouterRow) (d : Data)
-    (i : InterfaceRow) : Type 0 where
+pub record DenotesInterface (lans : List (List ℕ)) (routers : List RouterRow) (value : Data)
+    (row : InterfaceRow) : Type 0 where
   pub members : Members
   pub router_name : List ℕ
   pub lan_name : List ℕ
-  pub is_table : IsTable interface_keys d members
+  pub is_table : IsTable interface_keys value members
   pub router_text : HasText (codes "router") members router_name
-  pub device : HasText (codes "device") members i.device
+  pub device : HasText (codes "device") members row.device
   pub lan_text : HasText (codes "lan") members lan_name
-  pub router : router_no_of router_name routers ≡ Some i.router
-  pub fits : IsTrue (is_device i.device)
-  pub lan : index_of lan_name lans ≡ Some i.lan
+  pub router : router_no_of router_name routers ≡ Some row.router
+  pub fits : IsTrue (is_device row.device)
+  pub lan : index_of lan_name lans ≡ Some row.lan
 
 -- a value denotes a source: a table of the address of a host that may send, and of a LAN's name
-pub record DenotesSource (lans : List (List ℕ)) (d : Data) (s : SourceRow) : Type 0 where
+pub record DenotesSource (lans : List (List ℕ)) (value : Data) (row : SourceRow) : Type 0 where
   pub members : Members
   pub lan_name : List ℕ
-  pub is_table : IsTable source_keys d members
-  pub address : HasText (codes "address") members (dotted s.address)
+  pub is_table : IsTable source_keys value members
+  pub address : HasText (codes "address") members (dotted row.address)
   pub lan_text : HasText (codes "lan") members lan_name
-  pub is_address : IsAddr s.address
-  pub may_send : IsSource s.address
-  pub lan : index_of lan_name lans ≡ Some s.lan
+  pub is_address : IsAddr row.address
+  pub may_send : IsSource row.address
+  pub lan : index_of lan_name lans ≡ Some row.lan
 
 -- a value denotes a flow: a table of the address of one of the sources, of the address of a group
 -- that routers forward, and of a TTL of 1 to 255
-pub record DenotesFlow (sources : List SourceRow) (d : Data) (f : Flow) : Type 0 where
+pub record DenotesFlow (sources : List SourceRow) (value : Data) (flow : Flow) : Type 0 where
   pub members : Members
-  pub is_table : IsTable flow_keys d members
-  pub source : HasText (codes "source") members (dotted f.source)
-  pub group : HasText (codes "group") members (dotted f.group)
-  pub ttl : HasNumber (codes "ttl") members f.ttl
-  pub is_address : IsAddr f.source
-  pub may_send : IsSource f.source
-  pub lan : lan_of_source f.source sources ≡ Some f.lan
-  pub is_group : IsForwardedGroup f.group
-  pub ttl_from : 1 ≤ f.ttl
-  pub ttl_to : f.ttl ≤ 255
+  pub is_table : IsTable flow_keys value members
+  pub source : HasText (codes "source") members (dotted flow.source)
+  pub group : HasText (codes "group") members (dotted flow.group)
+  pub ttl : HasNumber (codes "ttl") members flow.ttl
+  pub is_address : IsAddr flow.source
+  pub may_send : IsSource flow.source
+  pub lan : lan_of_source flow.source sources ≡ Some flow.lan
+  pub is_group : IsForwardedGroup flow.group
+  pub ttl_from : 1 ≤ flow.ttl
+  pub ttl_to : flow.ttl ≤ 255
 
 -- ---- the text
 
 -- the key `lans`, which has to be there, has a list of at most 1,024 names, no two of them the same
-pub record DenotesLans (ms : Members) (lans : List (List ℕ)) : Type 0 where
+pub record DenotesLans (members : Members) (lans : List (List ℕ)) : Type 0 where
   pub items : Items
-  pub list : get_member (codes "lans") ms ≡ Some (array items)
+  pub list : get_member (codes "lans") members ≡ Some (array items)
   pub few : length (rows_in items) ≤ 1024
   pub each_row : EachDenotes DenotesLan (rows_in items) lans
   pub distinct : AreDistinctBy lan_key lans
@@ -127,35 +127,37 @@ pub record DenotesLans (ms : Members) (lans : List (List ℕ)) : Type 0 where
 -- the key `name` has a list of at most `most` rows, no two with the same key; it may be missing,
 -- and then there are no rows
 pub record DenotesSection {X K : Type 0} (name : List ℕ) (most : ℕ) (Denotation : Data → X → Type 0)
-    (key : X → K) (ms : Members) (xs : List X) : Type 0 where
+    (key : X → K) (members : Members) (xs : List X) : Type 0 where
   pub rows : List Data
-  pub list : AreRows (get_member name ms) rows
+  pub list : AreRows (get_member name members) rows
   pub few : length rows ≤ most
   pub each_row : EachDenotes Denotation rows xs
   pub distinct : AreDistinctBy key xs
 
 -- a table of version 1 denotes a topology, section by section; it has at least one flow
-pub record DenotesDocument (ms : Members) (t : TopologyValue) : Type 0 where
-  pub keys : IsTrue (has_only top_keys ms)
-  pub version : HasNumber (codes "version") ms 1
-  pub lans : DenotesLans ms t.lans
-  pub routers : DenotesSection (codes "router") 256 DenotesRouter router_key ms t.routers
-  pub interfaces : DenotesSection (codes "interface") 8192 (DenotesInterface t.lans t.routers)
-      interface_key ms t.interfaces
-  pub sources : DenotesSection (codes "source") 4096 (DenotesSource t.lans) source_key ms t.sources
-  pub flows : DenotesSection (codes "flow") 4096 (DenotesFlow t.sources) flow_key ms t.flows
-  pub some_flow : 0 < length t.flows
+pub record DenotesDocument (members : Members) (topology : TopologyValue) : Type 0 where
+  pub keys : IsTrue (has_only top_keys members)
+  pub version : HasNumber (codes "version") members 1
+  pub lans : DenotesLans members topology.lans
+  pub routers : DenotesSection (codes "router") 256 DenotesRouter router_key members topology.routers
+  pub interfaces : DenotesSection (codes "interface") 8192 (DenotesInterface topology.lans topology.routers)
+      interface_key members topology.interfaces
+  pub sources : DenotesSection (codes "source") 4096 (DenotesSource topology.lans) source_key members
+      topology.sources
+  pub flows : DenotesSection (codes "flow") 4096 (DenotesFlow topology.sources) flow_key members
+      topology.flows
+  pub some_flow : 0 < length topology.flows
 
 -- a text denotes a topology: it has at most 16,777,216 bytes, is UTF-8, and TOML's reader accepts
 -- it as a table that denotes the topology
-pub record DenotesTopology (text : List ℕ) (t : TopologyValue) : Type 0 where
+pub record DenotesTopology (text : List ℕ) (topology : TopologyValue) : Type 0 where
   pub document : Members
   pub few : length text ≤ max_text
   pub utf8 : IsUtf8 text
   pub reads : parse_document text ≡ Some document
-  pub denotes : DenotesDocument document t
+  pub denotes : DenotesDocument document topology
 
 -- a text denotes a topology, and is within the bounds of what is read as TOML
-pub record DenotesBoundedTopology (text : List ℕ) (t : TopologyValue) : Type 0 where
-  pub denotes : DenotesTopology text t
+pub record DenotesBoundedTopology (text : List ℕ) (topology : TopologyValue) : Type 0 where
+  pub denotes : DenotesTopology text topology
   pub bounded : IsTrue (is_bounded text)

@@ -17,11 +17,11 @@ keys_in (member key d ms) = key ∷ keys_in ms
 
 -- whether each key is one of the known ones
 abbrev pub are_known : List (List ℕ) → List (List ℕ) → Bool
-are_known known keys = list_all (λ key. list_any (λ k. bytes_eq k key) known) keys
+are_known known keys = list_all (λ key. list_any (λ known_key. bytes_eq known_key key) known) keys
 
 -- whether the table has no other keys than the known ones
 abbrev pub has_only : List (List ℕ) → Members → Bool
-has_only known ms = are_known known (keys_in ms)
+has_only known members = are_known known (keys_in members)
 
 -- the values of a list, in their order
 abbrev pub rows_in : Items → List Data
@@ -30,59 +30,59 @@ rows_in (item d ds) = d ∷ rows_in ds
 
 -- the text that a value has to be (else BadKind)
 abbrev pub text_of : Data → Result (List ℕ) TopologyFaultKind
-text_of d = ok_or (as_str d) BadKind
+text_of value = ok_or (as_str value) BadKind
 
 -- the whole number that a value has to be (else BadKind)
 abbrev pub number_of : Data → Result ℤ TopologyFaultKind
-number_of d = ok_or (as_integer d) BadKind
+number_of value = ok_or (as_integer value) BadKind
 
 -- the values of the list that a value has to be (else BadKind)
 abbrev pub list_of : Data → Result (List Data) TopologyFaultKind
-list_of d = ok_or (as_array d) BadKind >>= λ items. Ok (rows_in items)
+list_of value = ok_or (as_array value) BadKind >>= λ items. Ok (rows_in items)
 
 -- the table that a value has to be (else BadKind), with no other keys than the known ones
 -- (UnknownKey)
 unfoldable pub known_table : List (List ℕ) → Data → Result Members TopologyFaultKind
-known_table known d =
-    ok_or (as_table d) BadKind >>= λ ms.
-    if has_only known ms then Ok ms else Err UnknownKey
+known_table known value =
+    ok_or (as_table value) BadKind >>= λ members.
+    if has_only known members then Ok members else Err UnknownKey
 
 -- the value under a key, which has to be there (else MissingKey)
 abbrev pub at_key : List ℕ → Members → Result Data TopologyFaultKind
-at_key key ms = ok_or (get_member key ms) MissingKey
+at_key key members = ok_or (get_member key members) MissingKey
 
 -- the text under a key, which has to be there
 unfoldable pub text_at : List ℕ → Members → Result (List ℕ) TopologyFaultKind
-text_at key ms = at_key key ms >>= text_of
+text_at key members = at_key key members >>= text_of
 
 -- the whole number under a key, which has to be there
 unfoldable pub number_at : List ℕ → Members → Result ℤ TopologyFaultKind
-number_at key ms = at_key key ms >>= number_of
+number_at key members = at_key key members >>= number_of
 
 -- the list under a key, which has to be there
 unfoldable pub list_at : List ℕ → Members → Result (List Data) TopologyFaultKind
-list_at key ms = at_key key ms >>= list_of
+list_at key members = at_key key members >>= list_of
 
 -- the text that a value has to be, if there is a value
 abbrev pub text_or_none : Option Data → Result (Option (List ℕ)) TopologyFaultKind
 text_or_none None = Ok None
-text_or_none (Some d) = text_of d >>= λ text. Ok (Some text)
+text_or_none (Some value) = text_of value >>= λ text. Ok (Some text)
 
 -- the list that a value has to be; without a value the empty one
 abbrev pub list_or_empty : Option Data → Result (List Data) TopologyFaultKind
 list_or_empty None = Ok []
-list_or_empty (Some d) = list_of d
+list_or_empty (Some value) = list_of value
 
 -- the text under a key that may be missing
 unfoldable pub optional_text_at : List ℕ → Members → Result (Option (List ℕ)) TopologyFaultKind
-optional_text_at key ms = text_or_none (get_member key ms)
+optional_text_at key members = text_or_none (get_member key members)
 
 -- the list under a key; where the key is missing, the empty one
 unfoldable pub optional_list_at : List ℕ → Members → Result (List Data) TopologyFaultKind
-optional_list_at key ms = list_or_empty (get_member key ms)
+optional_list_at key members = list_or_empty (get_member key members)
 
 -- the list under a key that may be missing, which has at most `most` values (else TooMany)
 unfoldable pub rows_at : List ℕ → ℕ → Members → Result (List Data) TopologyFaultKind
-rows_at key most ms = do
-  rows ← optional_list_at key ms
+rows_at key most members = do
+  rows ← optional_list_at key members
   if nat_le (length rows) most then Ok rows else Err TooMany

@@ -28,7 +28,7 @@ ttl_of (negsuc n) = Err BadTtl
 
 -- whether a flow has the source and the group
 abbrev pub has_flow : ℕ → ℕ → List Flow → Bool
-has_flow source group flows = list_any (λ f. (f.source == source) && (f.group == group)) flows
+has_flow source group flows = list_any (λ flow. (flow.source == source) && (flow.group == group)) flows
 
 -- The flow of the three values. The first has to be the address of a host that may send (else
 -- BadAddress), and that of a source (UnknownName); the second the address of a group that routers
@@ -49,8 +49,8 @@ flow_of_values sources earlier source_text group_text ttl_number = do
 -- two as texts, and `ttl` as a whole number (BadKind). Then the values are checked, by
 -- `flow_of_values`.
 unfoldable pub flow_of : List SourceRow → List Flow → Data → Result Flow TopologyFaultKind
-flow_of sources earlier d = do
-  table ← known_table flow_keys d
+flow_of sources earlier value = do
+  table ← known_table flow_keys value
   source_text ← text_at (codes "source") table
   group_text ← text_at (codes "group") table
   ttl_number ← number_at (codes "ttl") table
@@ -59,14 +59,14 @@ flow_of sources earlier d = do
 -- The rows of the section. They have to be a list (else BadKind) of at least one flow (NoFlow) and
 -- at most 4,096 (TooMany), in this order.
 unfoldable pub flow_rows : Members → Result (List Data) TopologyFaultKind
-flow_rows ms = do
-  rows ← optional_list_at (codes "flow") ms
+flow_rows members = do
+  rows ← optional_list_at (codes "flow") members
   if length rows == 0 then Err NoFlow
       else if nat_le (length rows) 4096 then Ok rows else Err TooMany
 
 -- The flows: first the section, whose faults have the number 0, and then each flow from the front,
 -- whose faults have its number, counted from 1.
 unfoldable pub flows_in : List SourceRow → Members → Result (List Flow) TopologyFault
-flows_in sources ms = do
-  rows ← locate_fault section.Flow 0 (flow_rows ms)
+flows_in sources members = do
+  rows ← locate_fault section.Flow 0 (flow_rows members)
   each_row section.Flow (flow_of sources) [] rows

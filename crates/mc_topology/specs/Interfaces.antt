@@ -35,8 +35,8 @@ interface_of_values lans routers earlier router_name device lan_name = do
 -- as a text (BadKind). Then the values are checked, by `interface_of_values`.
 unfoldable pub interface_of : List (List ℕ) → List RouterRow → List InterfaceRow → Data
     → Result InterfaceRow TopologyFaultKind
-interface_of lans routers earlier d = do
-  table ← known_table interface_keys d
+interface_of lans routers earlier value = do
+  table ← known_table interface_keys value
   router_name ← text_at (codes "router") table
   device ← text_at (codes "device") table
   lan_name ← text_at (codes "lan") table
@@ -47,6 +47,6 @@ interface_of lans routers earlier d = do
 -- faults have its number, counted from 1.
 unfoldable pub interfaces_in : List (List ℕ) → List RouterRow → Members
     → Result (List InterfaceRow) TopologyFault
-interfaces_in lans routers ms = do
-  rows ← locate_fault section.Interface 0 (rows_at (codes "interface") 8192 ms)
+interfaces_in lans routers members = do
+  rows ← locate_fault section.Interface 0 (rows_at (codes "interface") 8192 members)
   each_row section.Interface (interface_of lans routers) [] rows

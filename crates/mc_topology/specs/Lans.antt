@@ -21,21 +21,21 @@ has_lan name lans = list_any (λ lan. bytes_eq lan name) lans
 -- A LAN's name. It has to be a text (else BadKind), then one that can be a name (BadName), and then
 -- one that no earlier LAN has (RepeatedName).
 unfoldable pub lan_name_of : List (List ℕ) → Data → Result (List ℕ) TopologyFaultKind
-lan_name_of earlier d = do
-  name ← text_of d
+lan_name_of earlier value = do
+  name ← text_of value
   if not (is_name name) then Err BadName
       else if has_lan name earlier then Err RepeatedName else Ok name
 
 -- The values of the list. It has to be there (else MissingKey), to be a list (BadKind), and to have
 -- at most 1,024 values (TooMany), in this order.
 unfoldable pub lan_rows : Members → Result (List Data) TopologyFaultKind
-lan_rows ms = do
-  rows ← list_at (codes "lans") ms
+lan_rows members = do
+  rows ← list_at (codes "lans") members
   if nat_le (length rows) 1024 then Ok rows else Err TooMany
 
 -- The LANs: first the list, whose faults have the number 0, and then each name from the front,
 -- whose faults have its number, counted from 1.
 unfoldable pub lans_in : Members → Result (List (List ℕ)) TopologyFault
-lans_in ms = do
-  rows ← locate_fault Lans 0 (lan_rows ms)
+lans_in members = do
+  rows ← locate_fault Lans 0 (lan_rows members)
   each_row Lans lan_name_of [] rows

@@ -8,15 +8,15 @@ use Rattle.mc_topology.specs.declared.interfaces.InterfaceKey.{InterfaceKey}
 
 -- whether a router has the name
 abbrev pub has_router : List ℕ → List RouterRow → Bool
-has_router name routers = list_any (λ r. bytes_eq r.name name) routers
+has_router name routers = list_any (λ row. bytes_eq row.name name) routers
 
 -- the number of the router with the name, counted from 0
 abbrev pub router_no_of : List ℕ → List RouterRow → Option ℕ
-router_no_of name routers = position (λ r. bytes_eq r.name name) routers
+router_no_of name routers = position (λ row. bytes_eq row.name name) routers
 
 -- whether the interface has this router and this device
 abbrev pub is_interface_of : ℕ → List ℕ → InterfaceRow → Bool
-is_interface_of router device i = (i.router == router) && bytes_eq i.device device
+is_interface_of router device row = (row.router == router) && bytes_eq row.device device
 
 -- whether an interface has this router and this device
 abbrev pub has_interface : ℕ → List ℕ → List InterfaceRow → Bool
@@ -25,12 +25,12 @@ has_interface router device interfaces = list_any (is_interface_of router device
 -- the LAN of the interface with this router and this device
 abbrev pub lan_of_interface : ℕ → List ℕ → List InterfaceRow → Option ℕ
 lan_of_interface router device interfaces =
-    option_map (λ i. i.lan) (find (is_interface_of router device) interfaces)
+    option_map (λ row. row.lan) (find (is_interface_of router device) interfaces)
 
 -- the interface with this router and device, and on this LAN
 abbrev pub interface_row : InterfaceKey × ℕ → InterfaceRow
-interface_row e = record { router = e.0.router; device = e.0.device.items; lan = e.1 }
+interface_row entry = record { router = entry.0.router; device = entry.0.device.items; lan = entry.1 }
 
 -- no device's name is longer than 15 bytes
 abbrev pub HaveShortDevices : List InterfaceRow → Type 0
-HaveShortDevices interfaces = All (λ i. length i.device ≤ 15) interfaces
+HaveShortDevices interfaces = All (λ row. length row.device ≤ 15) interfaces

@@ -30,7 +30,7 @@ require_utf8 text = if is_utf8 text then Ok text else Err NotToml
 
 -- the table of a text, which has to be UTF-8 and TOML (else NotToml)
 unfoldable pub parse_toml : List ℕ → Result Members TopologyFaultKind
-parse_toml text = require_utf8 text >>= λ t. ok_or (parse_document t) NotToml
+parse_toml text = require_utf8 text >>= λ utf8. ok_or (parse_document utf8) NotToml
 
 -- the table of a text, which has to have at most 16,777,216 bytes (else TooMany) and then to be
 -- TOML
@@ -52,22 +52,22 @@ top_keys =
 -- A topology's table has to have no other keys than these (else UnknownKey), and its `version` has
 -- to be there (MissingKey), to be a whole number (BadKind), and to be 1 (BadVersion).
 unfoldable pub check_version : Members → Result (Unit {0}) TopologyFaultKind
-check_version ms =
-    if has_only top_keys ms
-    then (number_at (codes "version") ms >>= λ version.
+check_version members =
+    if has_only top_keys members
+    then (number_at (codes "version") members >>= λ version.
     if int_eq version (pos 1) then Ok tt else Err BadVersion)
     else Err UnknownKey
 
 -- the topology of a table: first its keys and its version, whose faults are at `top` 0, and then
 -- the sections in this order, each with the ones before it that it names
 unfoldable pub topology_in : Members → Result TopologyValue TopologyFault
-topology_in ms = do
-  version ← locate_fault Top 0 (check_version ms)
-  lans ← lans_in ms
-  routers ← routers_in ms
-  interfaces ← interfaces_in lans routers ms
-  sources ← sources_in lans ms
-  flows ← flows_in sources ms
+topology_in members = do
+  version ← locate_fault Top 0 (check_version members)
+  lans ← lans_in members
+  routers ← routers_in members
+  interfaces ← interfaces_in lans routers members
+  sources ← sources_in lans members
+  flows ← flows_in sources members
   Ok (record {
     lans = lans;
     routers = routers;
@@ -81,17 +81,17 @@ topology_in ms = do
 -- the sources, each on one of these LANs, and the flows, each from one of the sources
 unfoldable pub sources_and_flows_in : List (List ℕ) → Members
     → Result (List SourceRow × List Flow) TopologyFault
-sources_and_flows_in lans ms = do
-  sources ← sources_in lans ms
-  flows ← flows_in sources ms
+sources_and_flows_in lans members = do
+  sources ← sources_in lans members
+  flows ← flows_in sources members
   Ok (sources, flows)
 
 -- the interfaces, the sources and the flows, after these LANs and routers
 unfoldable pub interfaces_and_flows_in : List (List ℕ) → List RouterRow → Members
     → Result (List InterfaceRow × List SourceRow × List Flow) TopologyFault
-interfaces_and_flows_in lans routers ms = do
-  interfaces ← interfaces_in lans routers ms
-  sourced ← sources_and_flows_in lans ms
+interfaces_and_flows_in lans routers members = do
+  interfaces ← interfaces_in lans routers members
+  sourced ← sources_and_flows_in lans members
   Ok (interfaces, sourced.0, sourced.1)
 
 -- ---- of a text

@@ -36,8 +36,8 @@ order_of (Some text) =
 -- have (BadName), and the order one of the two (BadKind). Last, no earlier router may have the name
 -- (RepeatedName).
 unfoldable pub router_of : List RouterRow → Data → Result RouterRow TopologyFaultKind
-router_of earlier d = do
-  table ← known_table router_keys d
+router_of earlier value = do
+  table ← known_table router_keys value
   name ← text_at (codes "name") table
   order_text ← optional_text_at (codes "order") table
   if not (is_name name) then Err BadName else do
@@ -48,6 +48,6 @@ router_of earlier d = do
 -- and whose faults have the number 0, and then each router from the front, whose faults have its
 -- number, counted from 1.
 unfoldable pub routers_in : Members → Result (List RouterRow) TopologyFault
-routers_in ms = do
-  rows ← locate_fault section.Router 0 (rows_at (codes "router") 256 ms)
+routers_in members = do
+  rows ← locate_fault section.Router 0 (rows_at (codes "router") 256 members)
   each_row section.Router router_of [] rows

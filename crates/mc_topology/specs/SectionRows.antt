@@ -27,7 +27,7 @@ router_row e = record { name = string_bytes e.0; order = e.1 }
 
 -- the source with this address, and on this LAN
 abbrev pub source_row : ℕ × ℕ → SourceRow
-source_row e = record { address = e.0; lan = e.1 }
+source_row pair = record { address = pair.0; lan = pair.1 }
 
 -- whether the byte order is big-endian
 abbrev pub is_big : Order → Bool
@@ -51,18 +51,18 @@ order_code = code_by Bool coded_bool is_big order_of_big order_of_big-is_big
 -- a router is stored as its fields
 abbrev pub router_code : Coded RouterRow
 router_code =
-    code_by (List ℕ × Order) (coded× (coded_list coded_ℕ) order_code) (λ r. (r.name, r.order))
-    (λ p. record { name = p.0; order = p.1 }) (λ _. refl)
+    code_by (List ℕ × Order) (coded× (coded_list coded_ℕ) order_code) (λ row. (row.name, row.order))
+    (λ stored. record { name = stored.0; order = stored.1 }) (λ _. refl)
 
 -- an interface is stored as its fields
 abbrev pub interface_code : Coded InterfaceRow
 interface_code =
     code_by (ℕ × (List ℕ × ℕ)) (coded× coded_ℕ (coded× (coded_list coded_ℕ) coded_ℕ))
-    (λ i. (i.router, (i.device, i.lan)))
-    (λ p. record { router = p.0; device = p.1.0; lan = p.1.1 })
+    (λ row. (row.router, (row.device, row.lan)))
+    (λ stored. record { router = stored.0; device = stored.1.0; lan = stored.1.1 })
     (λ _. refl)
 
 -- a source is stored as its fields
 abbrev pub source_code : Coded SourceRow
 source_code =
-    code_by (ℕ × ℕ) (coded× coded_ℕ coded_ℕ) (λ s. (s.address, s.lan)) source_row (λ _. refl)
+    code_by (ℕ × ℕ) (coded× coded_ℕ coded_ℕ) (λ row. (row.address, row.lan)) source_row (λ _. refl)

@@ -21,11 +21,11 @@ source_keys = codes "address" ∷ codes "lan" ∷ []
 
 -- whether a source has the address
 abbrev pub has_source : ℕ → List SourceRow → Bool
-has_source address sources = list_any (λ s. s.address == address) sources
+has_source address sources = list_any (λ row. row.address == address) sources
 
 -- the LAN of the source with the address
 abbrev pub lan_of_source : ℕ → List SourceRow → Option ℕ
-lan_of_source address sources = option_map (λ s. s.lan) (find (λ s. s.address == address) sources)
+lan_of_source address sources = option_map (λ row. row.lan) (find (λ row. row.address == address) sources)
 
 -- The source of the two values. The first has to be the address of a host that may send (else
 -- BadAddress), the second the name of a LAN (UnknownName). Last, no earlier source may have the
@@ -43,8 +43,8 @@ source_of_values lans earlier text lan_name = do
 -- (BadKind). Then the values are checked, by `source_of_values`.
 unfoldable pub source_of : List (List ℕ) → List SourceRow → Data
     → Result SourceRow TopologyFaultKind
-source_of lans earlier d = do
-  table ← known_table source_keys d
+source_of lans earlier value = do
+  table ← known_table source_keys value
   text ← text_at (codes "address") table
   lan_name ← text_at (codes "lan") table
   source_of_values lans earlier text lan_name
@@ -53,6 +53,6 @@ source_of lans earlier d = do
 -- and whose faults have the number 0, and then each source from the front, whose faults have its
 -- number, counted from 1.
 unfoldable pub sources_in : List (List ℕ) → Members → Result (List SourceRow) TopologyFault
-sources_in lans ms = do
-  rows ← locate_fault section.Source 0 (rows_at (codes "source") 4096 ms)
+sources_in lans members = do
+  rows ← locate_fault section.Source 0 (rows_at (codes "source") 4096 members)
   each_row section.Source (source_of lans) [] rows

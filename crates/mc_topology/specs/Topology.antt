@@ -21,16 +21,17 @@ pub record TopologyValue : Type 0 where
 
 -- the name of the LAN with this number; empty if there is none
 abbrev pub lan_name : TopologyValue → ℕ → List ℕ
-lan_name t lan = unwrap_or (slice_get t.lans lan) []
+lan_name topology lan = unwrap_or (slice_get topology.lans lan) []
 
 -- the name of the router with this number; empty if there is none
 abbrev pub router_name : TopologyValue → ℕ → List ℕ
-router_name t router = unwrap_or (option_map (λ r. r.name) (slice_get t.routers router)) []
+router_name topology router = unwrap_or (option_map (λ row. row.name) (slice_get topology.routers router))
+    []
 
 -- the flow with this number; one of zeros if there is none
 abbrev pub flow_at : TopologyValue → ℕ → Flow
-flow_at t flow =
-    unwrap_or (slice_get t.flows flow) (record { source = 0; lan = 0; group = 0; ttl = 0 })
+flow_at topology flow =
+    unwrap_or (slice_get topology.flows flow) (record { source = 0; lan = 0; group = 0; ttl = 0 })
 
 -- the key of a LAN, by which no two agree: its name
 abbrev pub lan_key : List ℕ → List ℕ
@@ -38,19 +39,19 @@ lan_key name = name
 
 -- the key of a router, by which no two agree: its name
 abbrev pub router_key : RouterRow → List ℕ
-router_key r = r.name
+router_key row = row.name
 
 -- the key of an interface, by which no two agree: its router and its device
 abbrev pub interface_key : InterfaceRow → ℕ × List ℕ
-interface_key i = (i.router, i.device)
+interface_key row = (row.router, row.device)
 
 -- the key of a source, by which no two agree: its address
 abbrev pub source_key : SourceRow → ℕ
-source_key s = s.address
+source_key row = row.address
 
 -- the key of a flow, by which no two agree: its source and its group
 abbrev pub flow_key : Flow → ℕ × ℕ
-flow_key f = (f.source, f.group)
+flow_key flow = (flow.source, flow.group)
 
 -- no two items of the list have the same key
 abbrev pub AreDistinctBy : {X K : Type 0} → (X → K) → List X → Type 0
@@ -59,66 +60,70 @@ AreDistinctBy {X} {K} key xs =
 
 -- the item is in the list
 abbrev pub IsIn : {X : Type 0} → List X → X → Type 0
-IsIn xs x = (n : ℕ) × (slice_get xs n ≡ Some x)
+IsIn xs x = (number : ℕ) × (slice_get xs number ≡ Some x)
 
 -- the topology has an interface with this router and this device, on this LAN
 abbrev pub HasInterface : TopologyValue → ℕ → List ℕ → ℕ → Type 0
-HasInterface t router device lan =
-    IsIn t.interfaces (record { router = router; device = device; lan = lan })
+HasInterface topology router device lan =
+    IsIn topology.interfaces (record { router = router; device = device; lan = lan })
 
 -- the rules of an interface: it is a device of one of the routers, on one of the LANs
-pub record IsValidInterface (t : TopologyValue) (i : InterfaceRow) : Type 0 where
-  pub router : i.router < length t.routers
-  pub device : IsTrue (is_device i.device)
-  pub lan : i.lan < length t.lans
+pub record IsValidInterface (topology : TopologyValue) (row : InterfaceRow) : Type 0 where
+  pub router : row.router < length topology.routers
+  pub device : IsTrue (is_device row.device)
+  pub lan : row.lan < length topology.lans
 
 -- the rules of a source: it has the address of a host that may send, and is on one of the LANs
-pub record IsValidSource (lans : List (List ℕ)) (s : SourceRow) : Type 0 where
-  pub is_address : IsAddr s.address
-  pub may_send : IsSource s.address
-  pub lan : s.lan < length lans
+pub record IsValidSource (lans : List (List ℕ)) (row : SourceRow) : Type 0 where
+  pub is_address : IsAddr row.address
+  pub may_send : IsSource row.address
+  pub lan : row.lan < length lans
 
 -- the rules of a flow: it is from a host that may send, on one of the LANs, to a group that routers
 -- forward, with a TTL of 1 to 255
-pub record IsValidFlow (lans : List (List ℕ)) (f : Flow) : Type 0 where
-  pub lan : f.lan < length lans
-  pub is_address : IsAddr f.source
-  pub may_send : IsSource f.source
-  pub is_group : IsForwardedGroup f.group
-  pub ttl_from : 1 ≤ f.ttl
-  pub ttl_to : f.ttl ≤ 255
+pub record IsValidFlow (lans : List (List ℕ)) (flow : Flow) : Type 0 where
+  pub lan : flow.lan < length lans
+  pub is_address : IsAddr flow.source
+  pub may_send : IsSource flow.source
+  pub is_group : IsForwardedGroup flow.group
+  pub ttl_from : 1 ≤ flow.ttl
+  pub ttl_to : flow.ttl ≤ 255
 
 -- The rules of a topology: at most 1,024 LANs and 256 routers, each with a name that it can have,
 -- no two LANs and no two routers with the same name; at most 8,192 interfaces, no two with the same
 -- router and device; at most 4,096 sources, no two with the same address; and 1 to 4,096 flows, no
 -- two with the same source and group. Each interface, source and flow keeps its own rules.
-pub record IsValidTopology (t : TopologyValue) : Type 0 where
-  pub few_lans : length t.lans ≤ 1024
-  pub few_routers : length t.routers ≤ 256
-  pub few_interfaces : length t.interfaces ≤ 8192
-  pub few_sources : length t.sources ≤ 4096
-  pub some_flow : 0 < length t.flows
-  pub few_flows : length t.flows ≤ 4096
-  pub lan_names : AreDistinctBy lan_key t.lans
-  pub router_names : AreDistinctBy router_key t.routers
-  pub distinct_interfaces : AreDistinctBy interface_key t.interfaces
-  pub distinct_sources : AreDistinctBy source_key t.sources
-  pub distinct_flows : AreDistinctBy flow_key t.flows
-  pub valid_lan_names : (n : ℕ) (name : List ℕ) → slice_get t.lans n ≡ Some name → IsTrue (is_name name)
-  pub valid_router_names : (n : ℕ) (r : RouterRow) → slice_get t.routers n ≡ Some r
-      → IsTrue (is_name r.name)
-  pub valid_interfaces : (n : ℕ) (i : InterfaceRow) → slice_get t.interfaces n ≡ Some i
-      → IsValidInterface t i
-  pub valid_sources : (n : ℕ) (s : SourceRow) → slice_get t.sources n ≡ Some s
-      → IsValidSource t.lans s
-  pub valid_flows : (n : ℕ) (f : Flow) → slice_get t.flows n ≡ Some f → IsValidFlow t.lans f
+pub record IsValidTopology (topology : TopologyValue) : Type 0 where
+  pub few_lans : length topology.lans ≤ 1024
+  pub few_routers : length topology.routers ≤ 256
+  pub few_interfaces : length topology.interfaces ≤ 8192
+  pub few_sources : length topology.sources ≤ 4096
+  pub some_flow : 0 < length topology.flows
+  pub few_flows : length topology.flows ≤ 4096
+  pub lan_names : AreDistinctBy lan_key topology.lans
+  pub router_names : AreDistinctBy router_key topology.routers
+  pub distinct_interfaces : AreDistinctBy interface_key topology.interfaces
+  pub distinct_sources : AreDistinctBy source_key topology.sources
+  pub distinct_flows : AreDistinctBy flow_key topology.flows
+  pub valid_lan_names : (number : ℕ) (name : List ℕ) → slice_get topology.lans number ≡ Some name
+      → IsTrue (is_name name)
+  pub valid_router_names : (number : ℕ) (row : RouterRow) → slice_get topology.routers number ≡ Some row
+      → IsTrue (is_name row.name)
+  pub valid_interfaces : (number : ℕ) (interface_row : InterfaceRow)
+      → slice_get topology.interfaces number ≡ Some interface_row
+      → IsValidInterface topology interface_row
+  pub valid_sources : (number : ℕ) (source_row : SourceRow)
+      → slice_get topology.sources number ≡ Some source_row
+      → IsValidSource topology.lans source_row
+  pub valid_flows : (number : ℕ) (flow : Flow) → slice_get topology.flows number ≡ Some flow
+      → IsValidFlow topology.lans flow
 
 -- a flow is stored as its fields
 abbrev pub flow_code : Coded Flow
 flow_code =
     code_by (ℕ × (ℕ × (ℕ × ℕ))) (coded× coded_ℕ (coded× coded_ℕ (coded× coded_ℕ coded_ℕ)))
-    (λ f. (f.source, (f.lan, (f.group, f.ttl))))
-    (λ p. record { source = p.0; lan = p.1.0; group = p.1.1.0; ttl = p.1.1.1 })
+    (λ flow. (flow.source, (flow.lan, (flow.group, flow.ttl))))
+    (λ stored. record { source = stored.0; lan = stored.1.0; group = stored.1.1.0; ttl = stored.1.1.1 })
     (λ _. refl)
 
 -- a topology is stored as its fields
@@ -127,12 +132,18 @@ topology_code =
     code_by (List (List ℕ) × (List RouterRow × (List InterfaceRow × (List SourceRow × List Flow))))
     (coded× (coded_list (coded_list coded_ℕ)) (coded× (coded_list router_code)
     (coded× (coded_list interface_code) (coded× (coded_list source_code) (coded_list flow_code)))))
-    (λ t. (t.lans, (t.routers, (t.interfaces, (t.sources, t.flows)))))
-    (λ p. record {
-      lans = p.0;
-      routers = p.1.0;
-      interfaces = p.1.1.0;
-      sources = p.1.1.1.0;
-      flows = p.1.1.1.1;
+    (λ topology. (
+      topology.lans,
+      (
+        topology.routers,
+        (topology.interfaces, (topology.sources, topology.flows)),
+      ),
+    ))
+    (λ stored. record {
+      lans = stored.0;
+      routers = stored.1.0;
+      interfaces = stored.1.1.0;
+      sources = stored.1.1.1.0;
+      flows = stored.1.1.1.1;
     })
     (λ _. refl)

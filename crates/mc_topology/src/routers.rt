@@ -67,7 +67,7 @@ impl Routers {
     /// The name of the router with this number.
     pub(crate) fn name(&self, router: RouterNo) -> &str
         requires known { router < length self.now }
-        ensures item { option_map (λ r. r.name) (slice_get self.now router) ≡ Some result.now }
+        ensures item { option_map (λ row. row.name) (slice_get self.now router) ≡ Some result.now }
     {
         let names = self.orders.keys();
         let name = &names.as_slice()[router.0 as usize];
@@ -77,7 +77,7 @@ impl Routers {
     /// The byte order of the router's machine.
     pub(crate) fn order(&self, router: RouterNo) -> Order
         requires known { router < length self.now }
-        ensures item { option_map (λ r. r.order) (slice_get self.now router) ≡ Some result }
+        ensures item { option_map (λ row. row.order) (slice_get self.now router) ≡ Some result }
     {
         self.orders[router.0 as usize]
     }

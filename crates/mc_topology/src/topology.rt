@@ -128,8 +128,8 @@ impl Topology {
         ensures found { IfOk result (DenotesTopology text.now) }
         // A text that denotes a topology and is within the bounds is read as that, unless memory runs
         // out.
-        ensures only { (t : TopologyValue) → DenotesTopology text.now t →
-            IsTrue (is_bounded text.now) → result ≢ Err out_of_memory → result ≡ Ok t }
+        ensures only { (topology : TopologyValue) → DenotesTopology text.now topology →
+            IsTrue (is_bounded text.now) → result ≢ Err out_of_memory → result ≡ Ok topology }
         // The fault is the first one of the text, unless memory runs out.
         ensures fault { result ≢ Err out_of_memory → result ≡ parse_topology text.now }
     {
@@ -179,7 +179,7 @@ impl Topology {
     /// The byte order of a router's machine.
     pub fn order(&self, router: RouterNo) -> Order
         requires known { router < length self.now.routers }
-        ensures item { option_map (λ r. r.order) (slice_get self.now.routers router) ≡ Some result }
+        ensures item { option_map (λ row. row.order) (slice_get self.now.routers router) ≡ Some result }
     {
         self.routers.order(router)
     }
@@ -224,7 +224,7 @@ impl Topology {
     /// The name of the router with this number.
     pub fn router_name(&self, router: RouterNo) -> &str
         requires known { router < length self.now.routers }
-        ensures name { option_map (λ r. r.name) (slice_get self.now.routers router) ≡
+        ensures name { option_map (λ row. row.name) (slice_get self.now.routers router) ≡
             Some result.now }
         ensures number { router_no_of result.now self.now.routers ≡ Some router }
         ensures named { IsTrue (is_name result.now) }

@@ -106,9 +106,9 @@ impl EntryFields {
 
     /// The entry, if it has what it must have.
     fn entry(self) -> Option<Reached>
-        ensures { IfSome result (λ e. (t : TopologyValue) (ms : Members) →
-            HoldsEntry t self.lan self.need self.rank self.router self.vif ms →
-            DenotesEntry t (object ms) e) }
+        ensures { IfSome result (λ e. (topology : TopologyValue) (members : Members) →
+            HoldsEntry topology self.lan self.need self.rank self.router self.vif members →
+            DenotesEntry topology (object members) e) }
     {
         let lan = self.lan?;
         let need = self.need?;

@@ -78,9 +78,10 @@ impl FlowFields {
     /// The entries, if this is the flow of the topology with this number.
     fn entries_of_flow(self, topology: &Topology, number: u32) -> Option<Vec<Reached>>
         requires listed { number < length topology.now.flows }
-        ensures { IfSome result (λ entries. (ms : Members) →
-            HoldsFlow topology.now self.group self.source (option_map (λ es. es.items) self.reached) ms →
-            DenotesFlow topology.now number (object ms) entries.items) }
+        ensures { IfSome result (λ entries. (members : Members) →
+            HoldsFlow topology.now self.group self.source
+            (option_map (λ entries. entries.items) self.reached) members →
+            DenotesFlow topology.now number (object members) entries.items) }
     {
         let flow = topology.flow(number);
         if self.group != Some(flow.group) || self.source != Some(flow.source) {
@@ -147,7 +148,7 @@ pub(crate) fn flows_value(
     reader: &mut TokenReader<'_>,
 ) -> Result<Vec<Vec<Reached>>, NotRead>
     ensures { IfOk result (λ flows. ReadsTo 4 reader.old
-        (λ d. DenotesFlows topology.now d (map (λ es. es.items) flows.items)) reader.new) }
+        (λ d. DenotesFlows topology.now d (map (λ entries. entries.items) flows.items)) reader.new) }
 {
     let count = topology.flows() as usize;
     let flows = read_list(alloc, &OwnEntriesRows { alloc, topology }, count, reader)?;

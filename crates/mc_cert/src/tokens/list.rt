@@ -32,8 +32,8 @@ pub(crate) trait TokenRows {
     /// Reads the row with this number, counted from 0.
     fn read_row(&self, number: usize, reader: &mut TokenReader<'_>) -> Result<Self::Item, NotRead>
         requires number { is_row_number self.now number }
-        ensures { IfOk result (λ item. (d : Data) × Reads levels reader.old d reader.new
-            × denotes self.now number d (item_view item)) };
+        ensures { IfOk result (λ item. (value : Data) × Reads levels reader.old value reader.new
+            × denotes self.now number value (item_view item)) };
 }
 
 /// Reads a list of at most this many rows.
@@ -43,7 +43,7 @@ pub(crate) fn read_list<R: TokenRows>(
     most: usize,
     reader: &mut TokenReader<'_>,
 ) -> Result<Vec<R::Item>, NotRead>
-    requires within { (n : ℕ) → n < most → R.is_row_number rows.now n }
+    requires within { (number : ℕ) → number < most → R.is_row_number rows.now number }
     ensures rows { IfOk result (λ items. (ds : Items)
         × Reads (R.levels + 1) reader.old (array ds) reader.new
         × EachDenotes (R.denotes rows.now) 0 (rows_in ds) (map R.item_view items.items)) }

@@ -29,8 +29,9 @@ pub(crate) trait Fields: Drop {
         key: Key,
         reader: &mut TokenReader<'_>,
     ) -> Result<Self, NotRead>
-        ensures { IfOk result (λ read. ReadsTo levels reader.old (λ d. (ms : Members) →
-            holds topology.now self ms → holds topology.now read (put (key_name key) d ms)) reader.new) };
+        ensures { IfOk result (λ read. ReadsTo levels reader.old (λ d. (members : Members) →
+            holds topology.now self members → holds topology.now read (put (key_name key) d members))
+            reader.new) };
 }
 
 /// Reads an object.
@@ -41,8 +42,9 @@ pub(crate) fn read_object<F: Fields>(
     reader: &mut TokenReader<'_>,
 ) -> Result<F, NotRead>
     requires empty { F.holds topology.now empty no_members }
-    ensures { IfOk result (λ read. (ms : Members)
-        × Reads (F.levels + 1) reader.old (object ms) reader.new × F.holds topology.now read ms) }
+    ensures { IfOk result (λ read. (members : Members)
+        × Reads (F.levels + 1) reader.old (object members) reader.new
+        × F.holds topology.now read members) }
 {
     reader.open_object()?;
     let mut fields = empty;
@@ -61,8 +63,8 @@ pub(crate) fn read_document<F: Fields>(
 ) -> Result<F, NotRead>
     requires empty { F.holds topology.now empty no_members }
     requires shallow { F.levels < 127 }
-    ensures { IfOk result (λ fields. (ms : Members)
-        × (read text.now ≡ Some (object ms)) × F.holds topology.now fields ms) }
+    ensures { IfOk result (λ fields. (members : Members)
+        × (read text.now ≡ Some (object members)) × F.holds topology.now fields members) }
 {
     let mut reader = TokenReader::new(alloc, text.as_bytes());
     let fields = read_object(alloc, topology, empty, &mut reader)?;

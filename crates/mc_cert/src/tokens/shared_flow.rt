@@ -78,9 +78,9 @@ impl SharedFlowFields {
     /// The number of its tree, if this is the flow of the topology with this number.
     fn tree_of(self, topology: &Topology, number: u32) -> Option<u32>
         requires listed { number < length topology.now.flows }
-        ensures { IfSome result (λ tree. (ms : Members) →
-            HoldsSharedFlow self.group self.source self.tree ms →
-            DenotesNumber topology.now number (object ms) tree) }
+        ensures { IfSome result (λ tree. (members : Members) →
+            HoldsSharedFlow self.group self.source self.tree members →
+            DenotesNumber topology.now number (object members) tree) }
     {
         let flow = topology.flow(number);
         if self.group != Some(flow.group) || self.source != Some(flow.source) {

@@ -65,7 +65,7 @@ pub(crate) fn address_value(reader: &mut TokenReader<'_>) -> Result<Addr, NotRea
 /// Reads a whole number from `low` to `high`, which is at most 9,999.
 pub(crate) fn whole_value(low: u32, high: u32, reader: &mut TokenReader<'_>) -> Result<u32, NotRead>
     ensures value { IfOk result (ReadsAs (IsWhole low high) reader.old reader.new) }
-    ensures to { IfOk result (λ n. n ≤ high) }
+    ensures to { IfOk result (λ number. number ≤ high) }
 {
     let number = reader.number()?;
     if number < low || number > high {

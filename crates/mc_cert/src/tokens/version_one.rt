@@ -69,11 +69,12 @@ impl VersionOneFields {
 
     /// The certificate, if it has what it must have.
     fn certificate(self, topology: &Topology) -> Result<Certificate, NotRead>
-        requires read { (ms : Members) × HoldsVersionOne topology.now self.version
-            (option_map (λ flows. map (λ es. es.items) flows.items) self.flows) ms }
-        ensures { IfOk result (λ certificate. (ms : Members) → HoldsVersionOne topology.now self.version
-            (option_map (λ flows. map (λ es. es.items) flows.items) self.flows) ms →
-            IsVersionOne topology.now ms certificate) }
+        requires read { (members : Members) × HoldsVersionOne topology.now self.version
+            (option_map (λ flows. map (λ entries. entries.items) flows.items) self.flows) members }
+        ensures { IfOk result (λ certificate. (members : Members)
+            → HoldsVersionOne topology.now self.version
+            (option_map (λ flows. map (λ entries. entries.items) flows.items) self.flows) members →
+            IsVersionOne topology.now members certificate) }
     {
         let _rules = topology.flows();
         match (self.version, self.flows) {

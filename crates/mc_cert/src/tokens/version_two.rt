@@ -61,7 +61,7 @@ fn trees_value(
     reader: &mut TokenReader<'_>,
 ) -> Result<Vec<Vec<Reached>>, NotRead>
     ensures { IfOk result (λ trees. ReadsTo 3 reader.old
-        (λ d. DenotesTrees topology.now d (map (λ es. es.items) trees.items)) reader.new) }
+        (λ d. DenotesTrees topology.now d (map (λ entries. entries.items) trees.items)) reader.new) }
 {
     let trees = read_list(alloc, &TreeRows { alloc, topology }, MAX_TREES, reader)?;
     Ok(trees)
@@ -118,10 +118,10 @@ impl Fields for VersionTwoFields {
 /// The certificate of these trees, if the number of each flow's tree is below their count.
 fn certificate_of(trees: Vec<Vec<Reached>>, numbers: Vec<u32>) -> Result<Certificate, NotRead>
     requires few { length numbers.items ≤ 4096 }
-    requires lists { All IsWritableTree (map (λ es. es.items) trees.items) }
+    requires lists { All IsWritableTree (map (λ entries. entries.items) trees.items) }
     ensures flows { IfOk result (λ certificate.
-        certificate ≡ map (tree_at (map (λ es. es.items) trees.items)) numbers.items) }
-    ensures below { IfOk result (λ _. All (λ n. n < length trees.items) numbers.items) }
+        certificate ≡ map (tree_at (map (λ entries. entries.items) trees.items)) numbers.items) }
+    ensures below { IfOk result (λ _. All (λ number. number < length trees.items) numbers.items) }
 {
     if !are_below(&numbers, trees.len()) {
         return Err(NotRead);
@@ -142,13 +142,14 @@ impl VersionTwoFields {
 
     /// The certificate, if it has what it must have.
     fn certificate(self, topology: &Topology) -> Result<Certificate, NotRead>
-        requires read { (ms : Members) × HoldsVersionTwo topology.now self.version
+        requires read { (members : Members) × HoldsVersionTwo topology.now self.version
             (option_map (λ numbers. numbers.items) self.flows)
-            (option_map (λ trees. map (λ es. es.items) trees.items) self.trees) ms }
-        ensures { IfOk result (λ certificate. (ms : Members) → HoldsVersionTwo topology.now self.version
+            (option_map (λ trees. map (λ entries. entries.items) trees.items) self.trees) members }
+        ensures { IfOk result (λ certificate. (members : Members)
+            → HoldsVersionTwo topology.now self.version
             (option_map (λ numbers. numbers.items) self.flows)
-            (option_map (λ trees. map (λ es. es.items) trees.items) self.trees) ms →
-            IsVersionTwo topology.now ms certificate) }
+            (option_map (λ trees. map (λ entries. entries.items) trees.items) self.trees) members →
+            IsVersionTwo topology.now members certificate) }
     {
         let _rules = topology.flows();
         match (self.version, self.flows, self.trees) {

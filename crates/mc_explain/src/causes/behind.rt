@@ -133,7 +133,8 @@ fn routers_with_open_rows(
 /// Whether a LAN wants the flow and has no first copy.
 fn is_missed(view: &FlowView<'_>, first_copies: &FirstCopies, lan: LanNo) -> bool
     requires listed { lan < length view.now.domain.topology.lans }
-    ensures { (copies : List Copy) → HoldsFirstOfEachKey (λ c. c.lan) first_copies.now.by_lan copies →
+    ensures { (copies : List Copy) → HoldsFirstOfEachKey (λ copy. copy.lan) first_copies.now.by_lan
+        copies →
         result ≡ is_missed (net_in view.now) copies lan }
 {
     view.wants(lan) & first_copies.on(lan).is_none()
@@ -145,7 +146,8 @@ fn lans_without_copy(
     view: &FlowView<'_>,
     first_copies: &FirstCopies,
 ) -> Result<Vec<LanNo>, Memory>
-    ensures { (copies : List Copy) → HoldsFirstOfEachKey (λ c. c.lan) first_copies.now.by_lan copies →
+    ensures { (copies : List Copy) → HoldsFirstOfEachKey (λ copy. copy.lan) first_copies.now.by_lan
+        copies →
         IfOk result (λ lans. lans.items ≡ missed_lans view.now.domain.topology (net_in view.now) copies) }
 {
     let mut lans = Vec::new(alloc);
@@ -167,7 +169,7 @@ fn senders_of_two(
     first_copies: &FirstCopies,
     second: &CarriedCopy,
 ) -> Result<Vec<Cause>, Memory>
-    requires first_copies { HoldsFirstOfEachKey (λ c. c.lan) first_copies.now.by_lan copies.now }
+    requires first_copies { HoldsFirstOfEachKey (λ copy. copy.lan) first_copies.now.by_lan copies.now }
     ensures { IfOk result (λ causes. causes.items
         ≡ sender_causes second.now.lan (sender_of_first copies.now second.now.lan)
         ++ sender_causes second.now.lan second.now.sender) }
@@ -188,7 +190,7 @@ fn double_causes(
     second: &CarriedCopy,
     finding: Finding,
 ) -> Result<Vec<Cause>, Memory>
-    requires first_copies { HoldsFirstOfEachKey (λ c. c.lan) first_copies.now.by_lan copies.now }
+    requires first_copies { HoldsFirstOfEachKey (λ copy. copy.lan) first_copies.now.by_lan copies.now }
     ensures { IfOk result (λ causes. causes.items
         ≡ double_causes (net_in view.now) copies.now second.now (finding_value finding)) }
 {
@@ -211,7 +213,7 @@ fn second_causes(
     second: &CarriedCopy,
     finding: &Option<Finding>,
 ) -> Result<Vec<Cause>, Memory>
-    requires first_copies { HoldsFirstOfEachKey (λ c. c.lan) first_copies.now.by_lan copies.now }
+    requires first_copies { HoldsFirstOfEachKey (λ copy. copy.lan) first_copies.now.by_lan copies.now }
     requires finding { optional_finding_value finding.now
         ≡ Some (finding_of_double (net_in view.now) copies.now second.now) }
     ensures { IfOk result (λ causes. causes.items ≡ second_causes (net_in view.now) copies.now
@@ -231,7 +233,7 @@ fn second_shown_from(
     first_copies: &FirstCopies,
     lan: LanNo,
 ) -> Result<Option<u8>, Memory>
-    requires first_copies { HoldsFirstOfEachKey (λ c. c.lan) first_copies.now.by_lan copies.now }
+    requires first_copies { HoldsFirstOfEachKey (λ copy. copy.lan) first_copies.now.by_lan copies.now }
     requires second { first_copies.now.second ≡ first_double [] copies.now }
     requires bounded { least_of_two_copies (net_in view.now) copies.now lan ≤ 255 }
     ensures { IfOk result (λ shown. shown ≡ (if (net_in view.now).ttl == 255 then None
@@ -254,7 +256,7 @@ fn behind_with_second(
     second: &CarriedCopy,
     finding: Option<Finding>,
 ) -> Result<Behind, Memory>
-    requires first_copies { HoldsFirstOfEachKey (λ c. c.lan) first_copies.now.by_lan
+    requires first_copies { HoldsFirstOfEachKey (λ copy. copy.lan) first_copies.now.by_lan
         flight.now.flight.carried }
     requires second { first_copies.now.second ≡ first_double [] flight.now.flight.carried }
     requires bounded { least_of_two_copies (net_in view.now) flight.now.flight.carried second.now.lan ≤ 255 }
@@ -288,7 +290,8 @@ fn missed_unless_open(
     open_routers: &[RouterNo],
     first_copies: &FirstCopies,
 ) -> Result<Vec<LanNo>, Memory>
-    ensures { (copies : List Copy) → HoldsFirstOfEachKey (λ c. c.lan) first_copies.now.by_lan copies →
+    ensures { (copies : List Copy) → HoldsFirstOfEachKey (λ copy. copy.lan) first_copies.now.by_lan
+        copies →
         IfOk result (λ lans. lans.items ≡ missed_unless_open whole open_routers.now
         (missed_lans view.now.domain.topology (net_in view.now) copies)) }
 {
@@ -310,7 +313,7 @@ fn behind_without_second(
     flight: &Flight<'_>,
     first_copies: &FirstCopies,
 ) -> Result<Behind, Memory>
-    requires first_copies { HoldsFirstOfEachKey (λ c. c.lan) first_copies.now.by_lan
+    requires first_copies { HoldsFirstOfEachKey (λ copy. copy.lan) first_copies.now.by_lan
         flight.now.flight.carried }
     ensures { IfOk result (IsBehindIn whole view.now.domain.topology (net_in view.now) own
         flight.now.flight None) }

@@ -44,7 +44,7 @@ fn remedy_for(
     first_copies: &FirstCopies,
     second: &CarriedCopy,
 ) -> Result<Cause, Memory>
-    requires first_copies { HoldsFirstOfEachKey (λ c. c.lan) first_copies.now.by_lan
+    requires first_copies { HoldsFirstOfEachKey (λ copy. copy.lan) first_copies.now.by_lan
         flight.now.flight.carried }
     requires second { IsSecondCopy (net_in view.now) flight.now.flight.carried second.now }
     ensures ok { IfOk result (IsRemedy (net_in view.now) flight.now.flight second.now.lan

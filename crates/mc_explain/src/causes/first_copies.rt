@@ -23,9 +23,9 @@ impl FirstCopies {
         view: &FlowView<'_>,
         copies: &[CarriedCopy],
     ) -> Result<FirstCopies, Memory>
-        requires within { All (λ c. c.lan < length view.now.domain.topology.lans) copies.now }
+        requires within { All (λ copy. copy.lan < length view.now.domain.topology.lans) copies.now }
         ensures first_copies { IfOk result (λ first_copies.
-            HoldsFirstOfEachKey (λ c. c.lan) first_copies.by_lan copies.now) }
+            HoldsFirstOfEachKey (λ copy. copy.lan) first_copies.by_lan copies.now) }
         ensures second { IfOk result (λ first_copies. first_copies.second ≡ first_double [] copies.now) }
     {
         let mut by_lan = PerLan::new(alloc, view.lans())?;

@@ -22,7 +22,7 @@ pub(crate) fn hops_back(
     first_copies: &FirstCopies,
     copy: &CarriedCopy,
 ) -> Result<Vec<Hop>, Memory>
-    requires first_copies { HoldsFirstOfEachKey (λ c. c.lan) first_copies.now.by_lan copies.now }
+    requires first_copies { HoldsFirstOfEachKey (λ copy. copy.lan) first_copies.now.by_lan copies.now }
     ensures ok { IfOk result (λ hops. hops.items ≡ hops_back (net_in view.now) copies.now
         (length copies.now) copy.now.lan copy.now.sender) }
 {
@@ -48,7 +48,7 @@ pub(crate) fn hops_around(
     first_copies: &FirstCopies,
     copy: &CarriedCopy,
 ) -> Result<Vec<Hop>, Memory>
-    requires first_copies { HoldsFirstOfEachKey (λ c. c.lan) first_copies.now.by_lan copies.now }
+    requires first_copies { HoldsFirstOfEachKey (λ copy. copy.lan) first_copies.now.by_lan copies.now }
     ensures ok { IfOk result (λ hops. hops.items ≡ hops_until (net_in view.now) copies.now
         copy.now.lan (length copies.now) copy.now.lan copy.now.sender) }
 {

@@ -27,7 +27,7 @@ fn hops_of_copy_if_any(
     first_copies: &FirstCopies,
     copy: Option<CarriedCopy>,
 ) -> Result<Vec<Hop>, Memory>
-    requires first_copies { HoldsFirstOfEachKey (λ c. c.lan) first_copies.now.by_lan copies.now }
+    requires first_copies { HoldsFirstOfEachKey (λ copy. copy.lan) first_copies.now.by_lan copies.now }
     ensures { IfOk result (λ hops. hops.items ≡ hops_of_copy_if_any (net_in view.now) copies.now copy) }
 {
     match copy {
@@ -44,7 +44,7 @@ fn hops_from_lan_if_any(
     first_copies: &FirstCopies,
     lan: Option<LanNo>,
 ) -> Result<Vec<Hop>, Memory>
-    requires first_copies { HoldsFirstOfEachKey (λ c. c.lan) first_copies.now.by_lan copies.now }
+    requires first_copies { HoldsFirstOfEachKey (λ copy. copy.lan) first_copies.now.by_lan copies.now }
     ensures { IfOk result (λ hops. hops.items ≡ hops_from_lan_if_any (net_in view.now) copies.now lan) }
 {
     match lan {
@@ -73,7 +73,7 @@ pub(crate) fn need_of_two_copies(
     first_copies: &FirstCopies,
     lan: LanNo,
 ) -> Result<u8, Memory>
-    requires first_copies { HoldsFirstOfEachKey (λ c. c.lan) first_copies.now.by_lan copies.now }
+    requires first_copies { HoldsFirstOfEachKey (λ copy. copy.lan) first_copies.now.by_lan copies.now }
     requires second { first_copies.now.second ≡ first_double [] copies.now }
     requires bounded { need_of_two_copies (net_in view.now) copies.now lan ≤ 255 }
     ensures { IfOk result (λ least. least ≡ need_of_two_copies (net_in view.now) copies.now lan) }
@@ -93,7 +93,7 @@ fn need_of_stray(
     router: RouterNo,
     vif: u8,
 ) -> Result<u8, Memory>
-    requires first_copies { HoldsFirstOfEachKey (λ c. c.lan) first_copies.now.by_lan copies.now }
+    requires first_copies { HoldsFirstOfEachKey (λ copy. copy.lan) first_copies.now.by_lan copies.now }
     requires bounded { need_of_stray (net_in view.now) copies.now ((net_in view.now).row router) router
         vif ≤ 255 }
     ensures { IfOk result (λ least. least ≡ need_of_stray (net_in view.now) copies.now

@@ -14,9 +14,13 @@ ghost use Rattle.mc_explain.specs.declared.causes.behind.Behind.{Behind};
 /// causes, which each packet shows that is sent with at least the TTL that is said, the strays, and the
 /// LANs that are missed.
 pub fn what_is_behind_a_stray_is_of_a_run()
-    ensures of_run { (whole : Bool) (d : DomainValue) (flow : ℕ) (own : Interface) (b : Behind) → IsDomain d →
-        IsBehind whole d flow own b → IsTrueBehind d flow b }
+    ensures of_run { (whole : Bool) (domain : DomainValue) (flow : ℕ) (own : Interface)
+        (behind : Behind) → IsDomain domain →
+        IsBehind whole domain flow own behind → IsTrueBehind domain flow behind }
     // The run begins as the travel that finds the stray.
-    ensures begins { (n : Net) (count : ℕ) (is js : List ℕ) (f : Flight) (x : Finding) →
-        IsTravel n count [] false is f x → IsRunPastStrays n js f → (more : List ℕ) × (js ≡ is ++ more) }
+    ensures begins { (net : Net) (count : ℕ) (picks longer : List ℕ) (flight : Flight)
+        (finding : Finding) →
+        IsTravel net count [] false picks flight finding → IsRunPastStrays net longer flight
+        → (more : List ℕ)
+        × (longer ≡ picks ++ more) }
 {}

@@ -165,8 +165,9 @@ impl InterfacesOfLans {
     /// The interfaces on a LAN.
     pub(crate) fn on(&self, lan: LanNo) -> &[ListedInterface]
         requires known { lan < length self.now }
-        ensures item { (d : DomainFacts) → self.now ≡ interfaces_on_lans d → lan < length d.topology.lans →
-            result.now ≡ interfaces_on_lan d lan }
+        ensures item { (domain : DomainFacts) → self.now ≡ interfaces_on_lans domain
+            → lan < length domain.topology.lans →
+            result.now ≡ interfaces_on_lan domain lan }
     {
         &self.lans[lan.0 as usize].items
     }

@@ -153,8 +153,8 @@ fn marked_routers(
     marks: &[bool],
 ) -> Result<Vec<RouterNo>, Memory>
     requires within { All (λ router. router < length marks.now) routers.now }
-    ensures marked { (p : ℕ → Bool) → AreMarksOf p marks.now →
-        IfOk result (λ found. found.items ≡ filter p routers.now) }
+    ensures marked { (passes : ℕ → Bool) → AreMarksOf passes marks.now →
+        IfOk result (λ found. found.items ≡ filter passes routers.now) }
 {
     let mut found = Vec::new(alloc);
     for router in routers {

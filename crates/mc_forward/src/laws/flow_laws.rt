@@ -20,9 +20,9 @@ use crate::laws::domains_are_nets;
 /// not, is safe: no LAN carries two copies, none strays, each copy is as its LAN's entry says, and
 /// the copies and the steps are bounded.
 pub fn every_run_of_a_flow_is_safe()
-    ensures { (d : DomainValue) (flow : ℕ) (es : List Entry) → IsDomain d
-        → IsTree (net_of d flow) es →
-        EveryRun (net_of d flow) 1 (IsSafe (net_of d flow) es) }
+    ensures { (domain : DomainValue) (flow : ℕ) (entries : List Entry) → IsDomain domain
+        → IsTree (net_of domain flow) entries →
+        EveryRun (net_of domain flow) 1 (IsSafe (net_of domain flow) entries) }
 {
     domains_are_nets();
     mc_theory::every_run_is_safe();
@@ -30,9 +30,9 @@ pub fn every_run_of_a_flow_is_safe()
 
 /// A complete run without loss carries exactly the named LANs whose need the packet's TTL meets.
 pub fn every_complete_run_of_a_flow_delivers()
-    ensures { (d : DomainValue) (flow : ℕ) (es : List Entry) → IsDomain d
-        → IsTree (net_of d flow) es →
-        EveryRun (net_of d flow) 1 (IsDeliveredWhole es) }
+    ensures { (domain : DomainValue) (flow : ℕ) (entries : List Entry) → IsDomain domain
+        → IsTree (net_of domain flow) entries →
+        EveryRun (net_of domain flow) 1 (IsDeliveredWhole entries) }
 {
     domains_are_nets();
     mc_theory::every_complete_run_delivers();
@@ -40,9 +40,9 @@ pub fn every_complete_run_of_a_flow_delivers()
 
 /// An accepted list keeps the headline's promise for its flow, in every order.
 pub fn an_accepted_list_keeps_the_headline()
-    ensures { (d : DomainValue) (flow : ℕ) (es : List Entry) → IsDomain d →
-        flow < length d.topology.flows → IsAccepted (net_of d flow) es →
-        HeadlineHolds (net_of d flow) (length es) }
+    ensures { (domain : DomainValue) (flow : ℕ) (entries : List Entry) → IsDomain domain →
+        flow < length domain.topology.flows → IsAccepted (net_of domain flow) entries →
+        HeadlineHolds (net_of domain flow) (length entries) }
 {
     domains_are_nets();
     mc_theory::accepted_flow_keeps_headline();
@@ -50,8 +50,10 @@ pub fn an_accepted_list_keeps_the_headline()
 
 /// A flow of a domain has an accepted list exactly if it is right.
 pub fn flow_is_right_iff_a_list_is_accepted()
-    ensures { (d : DomainValue) (flow : ℕ) → IsDomain d → flow < length d.topology.flows →
-        ((es : List Entry) × IsAccepted (net_of d flow) es) ↔ IsRight (net_of d flow) }
+    ensures { (domain : DomainValue) (flow : ℕ) → IsDomain domain → flow < length domain.topology.flows
+        →
+        ((entries : List Entry) × IsAccepted (net_of domain flow) entries)
+        ↔ IsRight (net_of domain flow) }
 {
     domains_are_nets();
     mc_theory::certificate_exists_iff_flow_is_right();
@@ -59,9 +61,9 @@ pub fn flow_is_right_iff_a_list_is_accepted()
 
 /// There is no reason to refuse a list exactly where it is accepted.
 pub fn no_reason_iff_list_is_accepted()
-    ensures { (d : DomainValue) (flow : ℕ) (es : List Entry) → IsDomain d →
-        (first_reason (net_of d flow) (length d.topology.lans) es ≡ None)
-        ↔ IsAccepted (net_of d flow) es }
+    ensures { (domain : DomainValue) (flow : ℕ) (entries : List Entry) → IsDomain domain →
+        (first_reason (net_of domain flow) (length domain.topology.lans) entries ≡ None)
+        ↔ IsAccepted (net_of domain flow) entries }
 {
     domains_are_nets();
     mc_theory::no_reason_iff_accepted();
@@ -70,9 +72,9 @@ pub fn no_reason_iff_list_is_accepted()
 /// A travel at a TTL from the flow's to 255 that finds something else than `Clean` shows that the flow
 /// is not right.
 pub fn finding_shows_that_a_flow_is_wrong()
-    ensures { (d : DomainValue) (flow t : ℕ) (x : Finding) → IsDomain d →
-        ttl_of d flow ≤ t → t ≤ 255 → x ≢ Clean →
-        OnFlowFinding d flow t x (λ f. ¬ IsRight (net_of d flow)) }
+    ensures { (domain : DomainValue) (flow ttl : ℕ) (finding : Finding) → IsDomain domain →
+        ttl_of domain flow ≤ ttl → ttl ≤ 255 → finding ≢ Clean →
+        OnFlowFinding domain flow ttl finding (λ f. ¬ IsRight (net_of domain flow)) }
 {
     domains_are_nets();
     mc_theory::non_clean_finding_means_a_wrong_flow();
@@ -80,9 +82,10 @@ pub fn finding_shows_that_a_flow_is_wrong()
 
 /// A travel has at most as many events as there are placed interfaces.
 pub fn a_travel_through_a_domain_ends()
-    ensures { (d : DomainValue) (flow t : ℕ) (choices : Choices) (picks : List ℕ) (x : Finding) →
-        IsDomain d → IsFlowTravel d flow t choices picks x →
-        length picks ≤ length (placed_interfaces (net_of d flow)) }
+    ensures { (domain : DomainValue) (flow ttl : ℕ) (choices : Choices) (picks : List ℕ)
+        (finding : Finding) →
+        IsDomain domain → IsFlowTravel domain flow ttl choices picks finding →
+        length picks ≤ length (placed_interfaces (net_of domain flow)) }
 {
     domains_are_nets();
     mc_theory::a_travel_ends();
@@ -91,9 +94,11 @@ pub fn a_travel_through_a_domain_ends()
 /// Two clean travels, one at TTL 255 and one at the flow's, certify it by the entries that the
 /// first makes.
 pub fn clean_travels_certify_a_flow()
-    ensures { (d : DomainValue) (flow : ℕ) → IsDomain d → flow < length d.topology.flows →
-        OnFlowFinding d flow 255 Clean (λ f. OnFlowFinding d flow (ttl_of d flow) Clean (λ g.
-        IsCertifiedBy (net_of d flow) f)) }
+    ensures { (domain : DomainValue) (flow : ℕ) → IsDomain domain → flow < length domain.topology.flows
+        →
+        OnFlowFinding domain flow 255 Clean (λ f. OnFlowFinding domain flow (ttl_of domain flow) Clean
+        (λ g.
+        IsCertifiedBy (net_of domain flow) f)) }
 {
     domains_are_nets();
     mc_theory::clean_travels_certify();
@@ -102,9 +107,9 @@ pub fn clean_travels_certify_a_flow()
 /// A run with one pick more is the run, and then what this pick makes happen; the picks are in
 /// range if those before are, and a copy waits at the last one's place.
 pub fn run_with_one_more_pick()
-    ensures flight { (n : Net) (ps : List Pick) (p : Pick) (f : Flight) →
-        run n (ps ++ p ∷ []) f ≡ apply_pick n p (run n ps f) }
-    ensures in_range { (n : Net) (ps : List Pick) (p : Pick) (f : Flight) →
-        InRange n (ps ++ p ∷ []) f
-        ↔ (InRange n ps f × (picked_index p < length (run n ps f).waiting)) }
+    ensures flight { (net : Net) (picks : List Pick) (pick : Pick) (flight : Flight) →
+        run net (picks ++ pick ∷ []) flight ≡ apply_pick net pick (run net picks flight) }
+    ensures in_range { (net : Net) (picks : List Pick) (pick : Pick) (flight : Flight) →
+        InRange net (picks ++ pick ∷ []) flight
+        ↔ (InRange net picks flight × (picked_index pick < length (run net picks flight).waiting)) }
 {}

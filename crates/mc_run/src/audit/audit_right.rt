@@ -219,7 +219,8 @@ pub(crate) fn push_checked(
 ) -> Result<FlowStatus, NoMemory>
     requires flow { flow < length (audited_value audited.now).domain.topology.flows }
     requires room { length shown_trees.old < 4096 }
-    requires lans { All (λ e. e.lan < length (audited_value audited.now).domain.topology.lans) entries.now }
+    requires lans { All (λ entry. entry.lan < length (audited_value audited.now).domain.topology.lans)
+        entries.now }
     requires accepted { IsAccepted (net_of (audited_value audited.now).domain flow) entries.now }
     ensures headline { OnOk result
         (HeadlineHolds (net_of (audited_value audited.now).domain flow) (length entries.now)) }

@@ -199,7 +199,7 @@ pub fn refusal_lines<F: PieceSource>(
     ensures kept { F.contents files.new ≡ F.contents files.old }
     // The text has a line for each refused file, with its own first fault and the front of the fault's
     // line in the source's file.
-    ensures text { IfOk result (λ text. IsRefusalText (map (λ n. n.now) without.now)
+    ensures text { IfOk result (λ text. IsRefusalText (map (λ name. name.now) without.now)
         (F.contents files.old) (F.failed files.old) (F.failed files.new) (string_bytes text)) }
 {
     let refused = refused_files(alloc, files, without)?;
@@ -225,7 +225,7 @@ pub fn print_refused_files<F: PieceSource, W: Output>(
     ensures output_same { W.borrows output.new ≡ W.borrows output.old }
     ensures kept { F.contents files.new ≡ F.contents files.old }
     // The lines are written whole; a part of them after a `Write` fault; nothing after `Memory`.
-    ensures printed { IsTextWritten (IsRefusalText (map (λ n. n.now) without.now)
+    ensures printed { IsTextWritten (IsRefusalText (map (λ name. name.now) without.now)
         (F.contents files.old) (F.failed files.old) (F.failed files.new))
         result (W.written output.old) (W.written output.new) }
     // After any fault but `Write`, nothing was written.

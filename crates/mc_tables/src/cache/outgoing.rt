@@ -61,7 +61,7 @@ fn oif_of_word(word: &[u8]) -> Result<(u8, u8), TableFaultKind>
 
 /// Reads a vif, and the threshold after its colon.
 fn oif_of_parts(vif: &[u8], after: &[u8]) -> Result<(u8, u8), TableFaultKind>
-    ensures { result ≡ oif_at_colon vif.now (slice_split (λ b. b == 58) after.now) }
+    ensures { result ≡ oif_at_colon vif.now (slice_split (λ byte. byte == 58) after.now) }
 {
     let vif = number(vif, 0, MAX_VIF).ok_or(TableFaultKind::BadOif)?;
     let threshold = threshold_of_word(after)?;
@@ -70,9 +70,9 @@ fn oif_of_parts(vif: &[u8], after: &[u8]) -> Result<(u8, u8), TableFaultKind>
 
 /// The parts before and after the word's first colon, if it has one.
 fn split_at_colon(word: &[u8]) -> Option<(&[u8], &[u8])>
-    ensures found { IfSome result (λ parts. slice_split (λ b. b == 58) word.now
-        ≡ parts.0.now ∷ slice_split (λ b. b == 58) parts.1.now) }
-    ensures only { IfNone result (slice_split (λ b. b == 58) word.now ≡ word.now ∷ []) }
+    ensures found { IfSome result (λ parts. slice_split (λ byte. byte == 58) word.now
+        ≡ parts.0.now ∷ slice_split (λ byte. byte == 58) parts.1.now) }
+    ensures only { IfNone result (slice_split (λ byte. byte == 58) word.now ≡ word.now ∷ []) }
 {
     let colon = first_colon(word)?;
     Some((&word[..colon], &word[colon + 1..]))
@@ -80,7 +80,7 @@ fn split_at_colon(word: &[u8]) -> Option<(&[u8], &[u8])>
 
 /// The place of the word's first colon.
 fn first_colon(word: &[u8]) -> Option<usize>
-    ensures { result ≡ position (λ b. b == 58) word.now }
+    ensures { result ≡ position (λ byte. byte == 58) word.now }
 {
     word.iter().position(|byte| *byte == b':')
 }
@@ -88,7 +88,7 @@ fn first_colon(word: &[u8]) -> Option<usize>
 /// Reads a threshold.
 #[tactic(auto, using(crate::proofs::RowWordLemmas::threshold_in_number))]
 fn threshold_of_word(word: &[u8]) -> Result<u8, TableFaultKind>
-    ensures { result ≡ threshold_in (slice_split (λ b. b == 58) word.now) }
+    ensures { result ≡ threshold_in (slice_split (λ byte. byte == 58) word.now) }
 {
     match number(word, 1, MAX_THRESHOLD) {
         Some(threshold) => Ok(threshold),
@@ -100,7 +100,7 @@ fn threshold_of_word(word: &[u8]) -> Result<u8, TableFaultKind>
 #[tactic(auto, using(crate::proofs::RowWordLemmas::threshold_refusals))]
 fn fault_of_threshold(word: &[u8]) -> TableFaultKind
     requires refused { number_in 1 254 word.now ≡ None }
-    ensures fault { threshold_in (slice_split (λ b. b == 58) word.now) ≡ Err result }
+    ensures fault { threshold_in (slice_split (λ byte. byte == 58) word.now) ≡ Err result }
 {
     if first_colon(word).is_some() {
         TableFaultKind::BadOif

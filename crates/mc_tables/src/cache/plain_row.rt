@@ -25,7 +25,7 @@ use std::alloc::AllocError;
 
 /// The place of the first byte that isn't a space.
 fn word_start(line: &[u8]) -> Option<usize>
-    ensures { result ≡ position (λ b. not (b == 32)) line.now }
+    ensures { result ≡ position (λ byte. not (byte == 32)) line.now }
 {
     line.iter().position(|byte| *byte != b' ')
 }

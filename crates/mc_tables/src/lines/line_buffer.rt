@@ -96,7 +96,7 @@ impl LineBuffer {
     /// The place of the first line feed, if the bytes are the first of a line.
     pub fn whole_line_end(&self, rest: &[u8]) -> Option<usize>
         ensures begun { IfSome result (λ end. self.now.begun ≡ []) }
-        ensures end { IfSome result (λ end. position (λ b. b == 10) rest.now ≡ Some end) }
+        ensures end { IfSome result (λ end. position (λ byte. byte == 10) rest.now ≡ Some end) }
         ensures rules { IsValidLinesSoFar self.now }
     {
         if self.begun.is_empty() {

@@ -37,7 +37,7 @@ fn digit_marks(line: &[u8]) -> u64
 #[inline(always)]
 fn space_marks(line: &[u8]) -> u64
     requires within { LANES ≤ length line.now }
-    ensures marks { AreMarks (λ b. b == 32) line.now result }
+    ensures marks { AreMarks (λ byte. byte == 32) line.now result }
 {
     u8x32::from_slice(line)
         .simd_eq(u8x32::splat(b' '))
@@ -47,7 +47,7 @@ fn space_marks(line: &[u8]) -> u64
 /// The length of the run of set bits that begins with the lowest bit.
 #[inline(always)]
 fn front_run_length(marks: u64) -> usize
-    ensures { (k : ℕ) → k < result → bit_at marks k ≡ 1 }
+    ensures { (number : ℕ) → number < result → bit_at marks number ≡ 1 }
 {
     marks.trailing_ones() as usize
 }
@@ -55,7 +55,7 @@ fn front_run_length(marks: u64) -> usize
 /// The place of the lowest set bit, or 64 if none is set.
 #[inline(always)]
 fn lowest_set_bit(marks: u64) -> usize
-    ensures lowest { (k : ℕ) → k < result → bit_at marks k ≡ 0 }
+    ensures lowest { (number : ℕ) → number < result → bit_at marks number ≡ 0 }
     ensures set { result < 64 → bit_at marks result ≡ 1 }
 {
     marks.trailing_zeros() as usize

@@ -98,7 +98,7 @@ fn read_whole_line<R: TableRows>(
 ) -> Result<(), TableFault>
     requires steps { ReadsInSteps R.table R.step }
     requires begun { lines.old.begun ≡ [] }
-    requires end { position (λ b. b == 10) rest.now ≡ Some end }
+    requires end { position (λ byte. byte == 10) rest.now ≡ Some end }
     requires room { lines.old.size + length rest.now ≤ max_text }
     ensures reads { (more : List ℕ) → OnOk result
         (read_after R.header (R.table rows.old) lines.old (rest.now ++ more)

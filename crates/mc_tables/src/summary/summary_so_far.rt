@@ -141,7 +141,7 @@ impl SummarySoFar {
     /// The sources and groups of unresolved rows, which have a number; the first rows for every
     /// source; how many rows are of others, and the pairs that are kept of these.
     pub fn into_parts(self) -> (ListedEntryNumbers, CacheRows, u32, Vec<(Addr, Addr)>)
-        ensures unresolved { set.from_list (map (λ p. p.0) result.0.numbers) ≡ self.unresolved }
+        ensures unresolved { set.from_list (map (λ pair. pair.0) result.0.numbers) ≡ self.unresolved }
         ensures first { result.1 ≡ self.first }
         ensures unlisted { result.2 ≡ self.unlisted }
         ensures lowest { result.3.items ≡ self.lowest.pairs }

@@ -88,7 +88,7 @@ impl VifTable {
     pub fn vif(&self, index: u8) -> Option<&Vif>
         ensures found { option_copied result ≡ map.get self.now index }
         // The indexes of the table's vifs are 0 to 31.
-        ensures numbered { (i : ℕ) → IsSome (map.get self.now i) → i ≤ 31 }
+        ensures numbered { (index : ℕ) → IsSome (map.get self.now index) → index ≤ 31 }
         ensures rules { IsValidVifTable self.now }
     {
         vif_with_index(self.vifs.as_slice(), index)

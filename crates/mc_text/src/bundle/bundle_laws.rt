@@ -8,8 +8,8 @@ ghost use Rattle.mc_text.specs.BundleReading.{bundle_of};
 
 /// A text is the bundle of at most one list of parts: no two lists of parts have the same bytes.
 pub fn bundle_has_one_part_list()
-    ensures { (text : List ℕ) (ps qs : List PartText)
-        → IsBundle text ps → IsBundle text qs → ps ≡ qs }
+    ensures { (text : List ℕ) (parts others : List PartText)
+        → IsBundle text parts → IsBundle text others → parts ≡ others }
 {}
 
 /// The bundle of named parts within the limits is read as those parts.

@@ -166,14 +166,14 @@ impl<R: Input> Parts<R> {
     pub fn read(&mut self, buffer: &mut [u8]) -> Result<usize, BundleFault>
         requires failures { self.old.failed < u64.MAX }
         ensures borrows { self.new.borrows ≡ self.old.borrows }
-        ensures bound { IfOk result (λ n. n ≤ length buffer.new) }
+        ensures bound { IfOk result (λ count. count ≤ length buffer.new) }
         // The bytes are the next ones of the part: the parts of the bundle stay the same.
-        ensures bytes { (text done : List ℕ) → self.old.remaining ≡ Some text → IfOk result (λ n.
-            ReadsNextOfPart self.old self.new done text (take n buffer.new)) }
-        ensures left { IfOk result (λ n. self.old.stage ≡ stages.Part →
-            self.new.left + n ≡ self.old.left) }
+        ensures bytes { (text done : List ℕ) → self.old.remaining ≡ Some text → IfOk result (λ count.
+            ReadsNextOfPart self.old self.new done text (take count buffer.new)) }
+        ensures left { IfOk result (λ count. self.old.stage ≡ stages.Part →
+            self.new.left + count ≡ self.old.left) }
         // In a part, 0 is returned only for an empty buffer or at the part's end.
-        ensures end { IfOk result (λ n. n ≡ 0 → self.old.stage ≡ stages.Part →
+        ensures end { IfOk result (λ count. count ≡ 0 → self.old.stage ≡ stages.Part →
             (length buffer.new ≡ 0) ⊎ (self.old.left ≡ 0)) }
         ensures same { IfOk result (λ _. (self.new.stage ≡ self.old.stage)
             × (self.new.name ≡ self.old.name) × (self.new.size ≡ self.old.size)

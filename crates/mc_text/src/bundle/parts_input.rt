@@ -32,10 +32,10 @@ const END_LEN: usize = 4;
 pub(crate) fn fill_buffer<R: Input>(input: &mut R, buffer: &mut [u8]) -> Result<usize, BundleFault>
     requires failures { R.failed input.old < u64.MAX }
     ensures same { R.borrows input.new ≡ R.borrows input.old }
-    ensures bound { IfOk result (λ n. n ≤ length buffer.new) }
+    ensures bound { IfOk result (λ count. count ≤ length buffer.new) }
     ensures bytes { IfOk result
-        (λ n. Consumes (R.remaining input.old) (R.remaining input.new) (take n buffer.new)) }
-    ensures end { IfOk result (λ n. n < length buffer.new → IsAtEnd (R.remaining input.new)) }
+        (λ count. Consumes (R.remaining input.old) (R.remaining input.new) (take count buffer.new)) }
+    ensures end { IfOk result (λ count. count < length buffer.new → IsAtEnd (R.remaining input.new)) }
     ensures consumed { ConsumesUpTo (length buffer.new) (R.remaining input.old) (R.remaining input.new) }
     ensures fault { IfErr result (λ fault. fault ≡ BundleFault.Read) }
     ensures failures { R.failed input.new ≡ failures_after is_read result (R.failed input.old) }
@@ -92,12 +92,13 @@ fn next_byte<R: Input>(input: &mut R) -> Result<Option<u8>, BundleFault>
 fn read_line<R: Input>(input: &mut R, line: &mut [u8; MAX_LINE]) -> Result<usize, BundleFault>
     requires failures { R.failed input.old < u64.MAX }
     ensures same { R.borrows input.new ≡ R.borrows input.old }
-    ensures bound { IfOk result (λ n. n < MAX_LINE) }
-    ensures reads { ReadsAs (λ n. take n line.new) (R.remaining input.old) (R.remaining input.new) result
+    ensures bound { IfOk result (λ count. count < MAX_LINE) }
+    ensures reads { ReadsAs (λ count. take count line.new) (R.remaining input.old)
+        (R.remaining input.new) result
         line_of }
     ensures consumed { ConsumesUpTo MAX_LINE (R.remaining input.old) (R.remaining input.new) }
     ensures taken { IfOk result
-        (λ n. ConsumesUpTo (n + 1) (R.remaining input.old) (R.remaining input.new)) }
+        (λ number. ConsumesUpTo (number + 1) (R.remaining input.old) (R.remaining input.new)) }
     ensures faults { IfErr result IsInputFault }
     ensures failures { R.failed input.new ≡ failures_after is_read result (R.failed input.old) }
 {

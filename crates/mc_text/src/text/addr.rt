@@ -37,9 +37,9 @@ pub enum Order {
 
 /// The address that a dotted text writes, if it is one.
 fn parse_dotted_address(text: &[u8]) -> Option<Addr>
-    ensures found { IfSome result (λ a. text.now ≡ dotted a) }
+    ensures found { IfSome result (λ address. text.now ≡ dotted address) }
     ensures in_range { IfSome result IsAddr }
-    ensures only { (a : ℕ) → IsAddr a → text.now ≡ dotted a → result ≡ Some a }
+    ensures only { (address : ℕ) → IsAddr address → text.now ≡ dotted address → result ≡ Some address }
 {
     let parsed = Ipv4Addr::parse_ascii(text).ok()?;
     Some(Addr {
@@ -49,9 +49,10 @@ fn parse_dotted_address(text: &[u8]) -> Option<Addr>
 
 /// The address that an address word shows, if it is one.
 fn parse_address_word(word: &[u8], order: Order) -> Option<Addr>
-    ensures found { IfSome result (λ a. IsAddressWord order word.now a) }
+    ensures found { IfSome result (λ address. IsAddressWord order word.now address) }
     ensures in_range { IfSome result IsAddr }
-    ensures only { (a : ℕ) → IsAddr a → IsAddressWord order word.now a → result ≡ Some a }
+    ensures only { (address : ℕ) → IsAddr address → IsAddressWord order word.now address
+        → result ≡ Some address }
 {
     let bytes = decode_four_bytes(word)?;
     Some(Addr::from_printed_octets(bytes, order))
@@ -61,10 +62,11 @@ impl Addr {
     /// Reads four decimal numbers from 0 to 255 without leading zeros, with dots between them.
     pub fn parse_dotted(text: &[u8]) -> Option<Addr>
         // The text is the dotted text of the address that is read.
-        ensures found { IfSome result (λ a. text.now ≡ dotted a) }
+        ensures found { IfSome result (λ address. text.now ≡ dotted address) }
         ensures in_range { IfSome result IsAddr }
         // The dotted text of an address is read as that address.
-        ensures only { (a : ℕ) → IsAddr a → text.now ≡ dotted a → result ≡ Some a }
+        ensures only { (address : ℕ) → IsAddr address → text.now ≡ dotted address
+            → result ≡ Some address }
         ensures value { result ≡ address_of_text text.now }
     {
         parse_dotted_address(text)
@@ -74,9 +76,10 @@ impl Addr {
     /// hexadecimal digits of either case. The kernel prints the four network-order bytes as one
     /// number in the byte order of its machine (`%08X` in net/ipv4/ipmr.c).
     pub fn from_hex_word(word: &[u8], order: Order) -> Option<Addr>
-        ensures found { IfSome result (λ a. IsAddressWord order word.now a) }
+        ensures found { IfSome result (λ address. IsAddressWord order word.now address) }
         ensures in_range { IfSome result IsAddr }
-        ensures only { (a : ℕ) → IsAddr a → IsAddressWord order word.now a → result ≡ Some a }
+        ensures only { (address : ℕ) → IsAddr address → IsAddressWord order word.now address
+            → result ≡ Some address }
         ensures value { result ≡ address_of_word order word.now }
     {
         parse_address_word(word, order)

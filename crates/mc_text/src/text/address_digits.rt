@@ -37,7 +37,7 @@ pub fn hex_value_or_16(byte: u8) -> u8
 
 /// The octet that two digits write.
 fn octet(high: u8, low: u8) -> Option<u8>
-    ensures found { IfSome result (λ octet. (i : ℕ) → pair_value high low i ≡ Ok octet) }
+    ensures found { IfSome result (λ octet. (index : ℕ) → pair_value high low index ≡ Ok octet) }
     ensures only { IfNone result ((is_hex_digit high && is_hex_digit low) ≡ false) }
 {
     let high = hex_value_or_16(high);

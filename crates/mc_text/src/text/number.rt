@@ -10,9 +10,9 @@ ghost use Rattle.mc_text.specs.Number.{IsDecimal, is_plain_decimal, number_up_to
 /// Reads a word of one or more decimal digits, and nothing else, whose number is at most `max`. Any
 /// number of leading zeros is allowed.
 pub fn decimal(word: &[u8], max: u64) -> Option<u64>
-    ensures found { IfSome result (λ n. IsDecimal word.now n) }
-    ensures bound { IfSome result (λ n. n ≤ max) }
-    ensures only { (n : ℕ) → IsDecimal word.now n → n ≤ max → result ≡ Some n }
+    ensures found { IfSome result (λ number. IsDecimal word.now number) }
+    ensures bound { IfSome result (λ number. number ≤ max) }
+    ensures only { (number : ℕ) → IsDecimal word.now number → number ≤ max → result ≡ Some number }
     ensures value { result ≡ number_up_to max word.now }
 {
     parse_decimal(word, max)
@@ -20,9 +20,9 @@ pub fn decimal(word: &[u8], max: u64) -> Option<u64>
 
 /// Reads a decimal number without a needless leading zero, if it is at most `max`.
 pub(crate) fn plain_decimal(word: &[u8], max: u64) -> Option<u64>
-    ensures found { IfSome result (λ n. word.now ≡ decimal_text n) }
-    ensures bound { IfSome result (λ n. n ≤ max) }
-    ensures only { (n : ℕ) → n ≤ max → word.now ≡ decimal_text n → result ≡ Some n }
+    ensures found { IfSome result (λ number. word.now ≡ decimal_text number) }
+    ensures bound { IfSome result (λ number. number ≤ max) }
+    ensures only { (number : ℕ) → number ≤ max → word.now ≡ decimal_text number → result ≡ Some number }
 {
     if is_plain_decimal(word) {
         decimal(word, max)
@@ -49,9 +49,9 @@ fn are_digits(word: &[u8]) -> bool
 
 /// The number that decimal digits write, if it is at most `max`.
 fn parse_decimal(word: &[u8], max: u64) -> Option<u64>
-    ensures found { IfSome result (λ n. IsDecimal word.now n) }
-    ensures bound { IfSome result (λ n. n ≤ max) }
-    ensures only { (n : ℕ) → IsDecimal word.now n → n ≤ max → result ≡ Some n }
+    ensures found { IfSome result (λ number. IsDecimal word.now number) }
+    ensures bound { IfSome result (λ number. number ≤ max) }
+    ensures only { (number : ℕ) → IsDecimal word.now number → number ≤ max → result ≡ Some number }
 {
     if word.is_empty() {
         return None;

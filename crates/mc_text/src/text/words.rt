@@ -21,14 +21,14 @@ impl<'a> Model for Words<'a> {
 
 /// The index of the first byte that is no space.
 fn word_start(line: &[u8]) -> Option<usize>
-    ensures { result ≡ position (λ b. not (b == 32)) line.now }
+    ensures { result ≡ position (λ byte. not (byte == 32)) line.now }
 {
     line.iter().position(|byte| *byte != b' ')
 }
 
 /// The index of the first space. As words are short, a search byte by byte is fastest.
 fn word_end(from_word: &[u8]) -> Option<usize>
-    ensures { result ≡ position (λ b. b == 32) from_word.now }
+    ensures { result ≡ position (λ byte. byte == 32) from_word.now }
 {
     from_word.iter().position(|byte| *byte == b' ')
 }

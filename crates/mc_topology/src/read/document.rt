@@ -17,7 +17,7 @@ use toml::{Table, Value};
 /// Whether each key of the table is one of the known ones.
 fn has_known_keys(table: &Table, known: &[&str]) -> bool
     ensures { result ≡
-        list_all (λ key. list_any (λ k. bytes_eq k.now (string_bytes key)) known.now)
+        list_all (λ key. list_any (λ known_key. bytes_eq known_key.now (string_bytes key)) known.now)
         (keys table.now) }
 {
     table.keys().all(|key| known.contains(&key.as_str()))
@@ -25,7 +25,7 @@ fn has_known_keys(table: &Table, known: &[&str]) -> bool
 
 /// Whether the table has no other keys than the known ones.
 pub(crate) fn has_only(table: &Table, known: &[&str]) -> bool
-    ensures { result ≡ has_only (map (λ k. k.now) known.now) (table_view table.now) }
+    ensures { result ≡ has_only (map (λ known_key. known_key.now) known.now) (table_view table.now) }
 {
     has_known_keys(table, known)
 }
@@ -54,7 +54,7 @@ pub(crate) fn known_table<'a>(
     known: &[&str],
 ) -> Result<&'a Table, TopologyFaultKind>
     ensures { ResultsAgree (λ table. table_view table.now) result
-        (known_table (map (λ k. k.now) known.now) (view value.now)) }
+        (known_table (map (λ known_key. known_key.now) known.now) (view value.now)) }
 {
     let Some(table) = value.as_table() else {
         return Err(TopologyFaultKind::BadKind);

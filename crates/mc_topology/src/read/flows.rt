@@ -37,7 +37,7 @@ fn flow_of_values(
     ttl_number: i64,
 ) -> Result<Flow, TopologyFaultKind>
     ensures flow { result ≡ flow_of_values sources.now earlier.now source_text.now group_text.now ttl_number }
-    ensures new { IfOk result (λ f. has_flow f.source f.group earlier.now ≡ false) }
+    ensures new { IfOk result (λ flow. has_flow flow.source flow.group earlier.now ≡ false) }
 {
     let source = source_address_of(source_text)?;
     let Some(lan) = sources.lan_of(source) else {
@@ -60,7 +60,7 @@ fn flow_of_values(
 #[tactic(auto, unfolding(crate::specs::Flows::flow_of))]
 fn flow_of(sources: &Sources, earlier: &Flows, value: &Value) -> Result<Flow, TopologyFaultKind>
     ensures flow { result ≡ flow_of sources.now earlier.now (view value.now) }
-    ensures new { IfOk result (λ f. has_flow f.source f.group earlier.now ≡ false) }
+    ensures new { IfOk result (λ flow. has_flow flow.source flow.group earlier.now ≡ false) }
 {
     let table = known_table(value, &["source", "group", "ttl"])?;
     let source_text = text_at(table, "source")?;

@@ -32,8 +32,9 @@ fn interface_of_values(
     requires few_routers { length routers.now ≤ MAX_ROUTERS }
     ensures interface { ResultsAgree interface_row result
         (interface_of_values lans.now routers.now earlier.now router_name.now device.now lan_name.now) }
-    ensures new { IfOk result (λ i. has_interface i.0.router i.0.device.items earlier.now ≡ false) }
-    ensures short { IfOk result (λ i. length i.0.device.items ≤ 15) }
+    ensures new { IfOk result (λ interface. has_interface interface.0.router interface.0.device.items
+        earlier.now ≡ false) }
+    ensures short { IfOk result (λ interface. length interface.0.device.items ≤ 15) }
 {
     let Some(router) = routers.number_of(router_name) else {
         return Err(TopologyFaultKind::UnknownName);
@@ -65,8 +66,9 @@ fn interface_of(
     requires few_routers { length routers.now ≤ MAX_ROUTERS }
     ensures interface { ResultsAgree interface_row result
         (interface_of lans.now routers.now earlier.now (view value.now)) }
-    ensures new { IfOk result (λ i. has_interface i.0.router i.0.device.items earlier.now ≡ false) }
-    ensures short { IfOk result (λ i. length i.0.device.items ≤ 15) }
+    ensures new { IfOk result (λ interface. has_interface interface.0.router interface.0.device.items
+        earlier.now ≡ false) }
+    ensures short { IfOk result (λ interface. length interface.0.device.items ≤ 15) }
 {
     let table = known_table(value, &["router", "device", "lan"])?;
     let router_name = text_at(table, "router")?;

@@ -51,7 +51,7 @@ fn router_of<'a>(
     value: &'a Value,
 ) -> Result<BorrowedRouter<'a>, TopologyFaultKind>
     ensures router { result ≡ router_of earlier.now (view value.now) }
-    ensures new { IfOk result (λ r. has_router r.name earlier.now ≡ false) }
+    ensures new { IfOk result (λ row. has_router row.name earlier.now ≡ false) }
 {
     let table = known_table(value, &["name", "order"])?;
     let name = text_at(table, "name")?;

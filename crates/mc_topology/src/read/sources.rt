@@ -26,7 +26,7 @@ fn source_of_values(
 ) -> Result<Source, TopologyFaultKind>
     requires bounded { length lans.now ≤ MAX_LANS }
     ensures source { result ≡ source_of_values lans.now earlier.now text.now lan_name.now }
-    ensures new { IfOk result (λ s. has_source s.address earlier.now ≡ false) }
+    ensures new { IfOk result (λ source. has_source source.address earlier.now ≡ false) }
 {
     let address = source_address_of(text)?;
     let Some(lan) = lans.number_of(lan_name) else {
@@ -43,7 +43,7 @@ fn source_of_values(
 fn source_of(lans: &Lans, earlier: &Sources, value: &Value) -> Result<Source, TopologyFaultKind>
     requires bounded { length lans.now ≤ MAX_LANS }
     ensures source { result ≡ source_of lans.now earlier.now (view value.now) }
-    ensures new { IfOk result (λ s. has_source s.address earlier.now ≡ false) }
+    ensures new { IfOk result (λ source. has_source source.address earlier.now ≡ false) }
 {
     let table = known_table(value, &["address", "lan"])?;
     let text = text_at(table, "address")?;

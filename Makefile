@@ -7,9 +7,9 @@
 # make bench      runs the program on large domains, and writes what that took into bench/RESULTS.md (it needs python3);
 #                 at its end stands what a byte and a line cost, in time and, where valgrind is there, in instructions,
 #                 which repeat. BEFORE=PATH, an earlier build of the program, runs beside it. It fails where a domain
-#                 takes more than 24 MiB, or a certificate in another form more than twice the time that the same takes
-#                 as `make` writes it, or 32 MiB, or where mcaudit-plan takes more time or memory for 4,096 flows than
-#                 bench/plan.py allows
+#                 takes more than 24 MiB, or 32 where each of 4,096 flows has a fault that is explained, or a certificate
+#                 in another form more than twice the time that the same takes as `make` writes it, or 32 MiB, or where
+#                 mcaudit-plan takes more time or memory for 4,096 flows than bench/plan.py allows
 # make fuzz       fuzzes each command with afl++ for an hour in all, on one core, and writes what that covered and found
 #                 into bench/fuzz.md; MINUTES=N takes N minutes, KEEP=FOLDER keeps the findings there
 # make lab        from routers to a verdict and a page, each kind of fault to its plan and its remedy, and what the guide
@@ -63,7 +63,7 @@ test:
 bench: $(PROGRAM)
 	python3 bench/run.py $(PROGRAM) --only forms --bounds forms,forms-memory; status=$$?; \
 	python3 bench/plan.py $(PROGRAM) || status=1; \
-	python3 bench/run.py --write bench/RESULTS.md --bounds memory $(PROGRAM) $(BEFORE) || status=1; \
+	python3 bench/run.py --write bench/RESULTS.md --bounds memory,explaining-memory $(PROGRAM) $(BEFORE) || status=1; \
 	exit $$status
 
 fuzz: $(PROGRAM)

@@ -12,13 +12,14 @@ MIB = 2**20
 LEAST = 0.01  # seconds of the smallest size below which growth says nothing
 LEAST_BYTES = 10**6  # of an input below which the start of the process is most of what is measured
 MEMORY_OF = ("check", "audit")  # with the input
-BOUNDS = {"memory": 24, "forms": 2, "forms-memory": 32, "growth": 1.1, "explaining": 2}
+BOUNDS = {"memory": 24, "forms": 2, "forms-memory": 32, "growth": 1.1, "explaining": 2, "explaining-memory": 32}
 MEANING = {
-    "memory": "MiB of any command on any shape, but for the forms of a certificate",
+    "memory": "MiB of any command on any shape, but for the forms of a certificate and for what explains faults",
     "forms": "a certificate in another form, of what it takes as written: a check's time without a replay's",
     "forms-memory": "MiB of a check with a certificate in any form",
     "growth": "growth of processor time with the input, as an exponent, up to four times the size",
     "explaining": "an audit of 4,096 flows with a fault each, of what it took the program before",
+    "explaining-memory": "MiB of that audit, which holds its text of 13 MB whole before it writes any of it",
 }
 
 
@@ -167,8 +168,9 @@ def values_of(taken):
         if name in taken:
             yield "forms-memory", f"{name}, check", memory_of(taken[name]["check"][0]) / 1024
     for name in [*shapes.SHAPES, *shapes.UNKIND, *shapes.FAULTY]:
+        bound = "explaining-memory" if name in shapes.FAULTY else "memory"
         for command, sizes in taken.get(name, {}).items():
-            yield "memory", f"{name}, {command}", max(map(memory_of, sizes)) / 1024
+            yield bound, f"{name}, {command}", max(map(memory_of, sizes)) / 1024
     explaining = explaining_quotient(taken)
     if explaining is not None:
         yield "explaining", "faulty, audit", explaining

@@ -15,8 +15,8 @@ counts where it is there, once for each command on a tenth of each shape (counts
           a certificate; `faulty` has faults, which audit explains
 --write   writes the tables into this file too, as bench/RESULTS.md has them
 --bounds  ends with status 1 where something misses one of these bounds, or nothing was measured that has it: `growth`,
-          `memory`, `forms`, `forms-memory`, `explaining` (which needs BEFORE), or some with commas between (results.py,
-          BOUNDS)
+          `memory`, `forms`, `forms-memory`, `explaining` (which needs BEFORE), `explaining-memory`, or some with commas
+          between (results.py, BOUNDS)
 """
 import argparse
 import os

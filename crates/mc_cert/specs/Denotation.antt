@@ -48,11 +48,11 @@ pub record IsObject (known : List (List ℕ)) (value : Data) (ms : Members) : Ty
 
 -- each row denotes its value, in order; the first row has this number
 abbrev pub EachDenotes : {X : Type 0} → (ℕ → Data → X → Type 0) → ℕ → List Data → List X → Type 0
-EachDenotes Denotation number [] [] = Unit {0}
-EachDenotes Denotation number [] (x ∷ xs) = ⊥
-EachDenotes Denotation number (value ∷ values) [] = ⊥
-EachDenotes Denotation number (value ∷ values) (x ∷ xs) = Denotation number value x
-    × EachDenotes Denotation (number + 1) values xs
+EachDenotes Denotation row_number [] [] = Unit {0}
+EachDenotes Denotation row_number [] (x ∷ xs) = ⊥
+EachDenotes Denotation row_number (value ∷ values) [] = ⊥
+EachDenotes Denotation row_number (value ∷ values) (x ∷ xs) = Denotation row_number value x
+    × EachDenotes Denotation (row_number + 1) values xs
 
 -- ---- entries
 
@@ -99,11 +99,11 @@ pub record DenotesEntries (topology : TopologyValue) (rows : List Data) (tree : 
 
 -- a value denotes the tree of the topology's flow with this number: an object of the flow's group,
 -- its source and the entries
-pub record DenotesFlow (topology : TopologyValue) (number : ℕ) (value : Data) (tree : Tree) : Type 0 where
+pub record DenotesFlow (topology : TopologyValue) (flow_number : ℕ) (value : Data) (tree : Tree) : Type 0 where
   pub flow : Flow
   pub members : Members
   pub rows : List Data
-  pub listed : slice_get topology.flows number ≡ Some flow
+  pub listed : slice_get topology.flows flow_number ≡ Some flow
   pub is_object : IsObject flow_keys value members
   pub group : HasText (codes "group") members (dotted flow.group)
   pub source : HasText (codes "source") members (dotted flow.source)
@@ -129,17 +129,17 @@ pub record DenotesTree (topology : TopologyValue) (value : Data) (tree : Tree) :
 
 -- a value denotes the tree of the topology's flow with this number: an object of the flow's group,
 -- its source and the number of the tree
-pub record DenotesSharedFlow (topology : TopologyValue) (trees : List Tree) (n : ℕ) (value : Data)
-    (es : Tree) : Type 0 where
+pub record DenotesSharedFlow (topology : TopologyValue) (trees : List Tree) (flow_number : ℕ)
+    (value : Data) (entries : Tree) : Type 0 where
   pub flow : Flow
   pub members : Members
   pub number : ℕ
-  pub listed : slice_get topology.flows n ≡ Some flow
+  pub listed : slice_get topology.flows flow_number ≡ Some flow
   pub is_object : IsObject shared_flow_keys value members
   pub group : HasText (codes "group") members (dotted flow.group)
   pub source : HasText (codes "source") members (dotted flow.source)
   pub tree_number : HasNumber (codes "tree") members number
-  pub tree : slice_get trees number ≡ Some es
+  pub tree : slice_get trees number ≡ Some entries
 
 -- an object denotes a tree for each flow of the topology: it has at most 4,096 trees, of which some
 -- may be equal and some that of no flow, and an object for each flow, in order

@@ -110,10 +110,11 @@ pub record DenotesFlows (topology : TopologyValue) (value : Data) (flows : List 
 
 -- a value is an object of the group and the source of the topology's flow with this number, and of
 -- this number of a tree
-pub record DenotesNumber (topology : TopologyValue) (number : ℕ) (value : Data) (tree_no : ℕ) : Type 0 where
+pub record DenotesNumber (topology : TopologyValue) (flow_number : ℕ) (value : Data)
+    (tree_no : ℕ) : Type 0 where
   pub flow : Flow
   pub members : Members
-  pub listed : slice_get topology.flows number ≡ Some flow
+  pub listed : slice_get topology.flows flow_number ≡ Some flow
   pub is_object : IsObject shared_flow_keys value members
   pub group : HasText (codes "group") members (dotted flow.group)
   pub source : HasText (codes "source") members (dotted flow.source)

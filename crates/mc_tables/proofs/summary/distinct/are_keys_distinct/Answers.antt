@@ -7,6 +7,7 @@ use Rattle.mc_tables.specs.UnlistedRows.{key_number}
 use Rattle.mc_tables.proofs.DistinctLemmas.{are_slotted-push, are_distinct-all}
 use Rattle.mc_tables.proofs.summary.distinct.are_keys_distinct.Goals as goal
 
+-- The row's number was put into its own slot or among the others.
 pub loop-i-preserved : goal.loop-i-preserved
 loop-i-preserved c =
     let loop = c.loop-i in
@@ -21,6 +22,8 @@ loop-i-preserved c =
     c.put_in_slot.new.others.items) number (c.in_ok-put_in_slot.ensures.put c.if-not-branch.false)) in
     (put_in_slot.0, put_in_slot.1 ∙ loop.invariant.1, loop.invariant.2, loop.invariant.3)
 
+-- A number repeats neither one in a slot, whose mark would equal its own, nor one of the others, which ascend
+-- once sorted.
 pub returns : goal.returns
 returns c = λ is.
     let loop = c.loop-i in

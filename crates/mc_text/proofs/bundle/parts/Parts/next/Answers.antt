@@ -8,8 +8,8 @@ use Rattle.mc_text.proofs.PartsMeaning.{reads_as-ok, reads_as-err, parts_from_cu
 use Rattle.mc_text.proofs.bundle.parts.Parts.next.Goals as goal
 use Rattle.mc_text.proofs.bundle.parts.Parts.next.Goals.{in-Start, in-Part}
 
--- To read the next line is to skip what is left of the current part (or the first line) and open the next one,
--- so that the parts to come are the current part, the opened one and the rest.
+-- To read the next line is to skip what is left of the current part (or the first line) and open the next
+-- one, so that the parts to come are the current part, the opened one and the rest.
 pub returns-in-Ok-Some-clause-opened : goal.returns-in-Ok-Some-clause-opened
 returns-in-Ok-Some-clause-opened g c = λ text done remaining _.
     let own = c.self.inside in

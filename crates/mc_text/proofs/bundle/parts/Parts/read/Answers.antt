@@ -26,8 +26,8 @@ returns-in-Ok-eq0-clause-fault g c = λ text done remaining there.
     (parts_from_current-truncated state done text c.self.invariant c.in-Part.is none)
     ∙ ap Err (sym c.failed.ensures.fault)
 
--- The bytes are taken from the front of the text and belong to the part, as no more were asked for than it has
--- left: moving them to those done changes nothing of what the bundle is.
+-- The bytes are taken from the front of the text and belong to the part, as no more were asked for than it
+-- has left: moving them to those done changes nothing of what the bundle is.
 pub returns-in-Ok-clause-bytes : goal.returns-in-Ok-clause-bytes
 returns-in-Ok-clause-bytes g c = λ text done remaining.
     let own = c.self.inside in

@@ -25,7 +25,7 @@ returns-in-Some-eq10-clause-reads g c =
     reads_as-line _ _ _ _ _ (take c.bytes.count c.bytes.line) refl c.bytes.invariant.bytes feed
     c.bytes.invariant.without (omega (arith, length-take c.bytes.count c.bytes.line))
 
--- The byte is no line feed, and it stands behind those read before.
+-- The byte is no line feed, and it comes after those read before.
 pub bytes-preserved : goal.bytes-preserved
 bytes-preserved g c =
     let some = rw c.in-Some.is at c.in_ok-next_byte.ensures.some in

@@ -12,14 +12,14 @@ returns-in_err-slash-clause-only c = λ range valid is.
     let at = position-slash c.args.text.now range is in
     cc (c.in_err-slash.ensures)
 
--- The first slash of a range's text stands behind its address, which would have been read.
+-- The first slash of a range's text comes after its address, which would have been read.
 pub returns-in_err-first-clause-only : goal.returns-in_err-first-clause-only
 returns-in_err-first-clause-only c = λ range valid is.
     let front = take-slash c.args.text.now range c.in_ok-slash.slash is (sym c.in_ok-slash.ensures) in
     let none = c.in_err-first.ensures.only range.0 (omega (arith, valid.high)) front in
     cc
 
--- Behind the slash stands the length, at most 32, which would have been read.
+-- After the slash comes the length, at most 32, which would have been read.
 pub returns-in_err-length-clause-only : goal.returns-in_err-length-clause-only
 returns-in_err-length-clause-only c = λ range valid is.
     let slash = c.in_ok-slash.slash in

@@ -52,16 +52,14 @@ waits_at ttl interface = record { router = interface.0; vif = interface.1; ttl =
 
 -- The copy is put on its LAN, which carries it, and then it waits at each interface that hears it.
 abbrev pub put : Net → Copy → Flight → Flight
-put net copy flight = record {
+put net copy flight = record flight {
   carried = flight.carried ++ copy ∷ [];
   waiting = flight.waiting ++ map (waits_at copy.ttl) (hearers net copy);
-  strays = flight.strays;
 }
 
 -- The flight has one more stray.
 abbrev pub stray : Interface → Flight → Flight
-stray interface flight =
-    record { carried = flight.carried; waiting = flight.waiting; strays = flight.strays ++ interface ∷ [] }
+stray interface flight = record flight { strays = flight.strays ++ interface ∷ [] }
 
 -- ---- a router handles a waiting copy
 
@@ -104,8 +102,7 @@ handle net (Some waiting) flight = handle_by_row net waiting (net.row waiting.ro
 
 -- the flight without its waiting copy at this place, counted from 0; the others keep their order
 abbrev pub without_waiting : ℕ → Flight → Flight
-without_waiting place flight =
-    record { carried = flight.carried; waiting = remove flight.waiting place; strays = flight.strays }
+without_waiting place flight = record flight { waiting = remove flight.waiting place }
 
 -- The waiting copy at this place is taken away and handled.
 abbrev pub step : Net → ℕ → Flight → Flight

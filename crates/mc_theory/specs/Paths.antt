@@ -113,14 +113,9 @@ row_without_vif vif NoRow = NoRow
 
 -- The domain in which the interface is taken out of its router's row; all else is the same.
 abbrev pub take_out : Interface → Net → Net
-take_out interface net = record {
-  routers = net.routers;
-  placed = net.placed;
+take_out interface net = record net {
   row = λ router.
       if router == interface.0 then row_without_vif interface.1 (net.row router) else net.row router;
-  wants = net.wants;
-  source = net.source;
-  ttl = net.ttl;
 }
 
 -- Each LAN that is reached with this TTL in the domain is reached with it in the domain `after`.

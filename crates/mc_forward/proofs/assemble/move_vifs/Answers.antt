@@ -9,9 +9,11 @@ nothing_left : (tables : List TablesValue) → length tables ≡ 0 → tables �
 nothing_left [] e = refl
 nothing_left (own ∷ tables) e = absurd (omega (arith, e))
 
+-- Room was made for all routers' vifs, and this router's were not moved yet.
 pub push_reserved-requires : goal.push_reserved-requires
 push_reserved-requires c = omega (arith, c.loop-own.invariant.room, c.in-Some.ensures.steps.1)
 
+-- The next router's vifs go from the front of those that are left to the end of those that were moved.
 pub loop-own-preserved : goal.loop-own-preserved
 loop-own-preserved c =
     let at = c.loop-own in
@@ -34,6 +36,7 @@ loop-own-preserved c =
       );
     }
 
+-- No tables are left, so that all vifs were moved.
 pub returns : goal.returns
 returns c =
     let at = c.loop-own in

@@ -6,6 +6,8 @@ use Rattle.mc_filter.proofs.AskedLemmas.{ListsAsChannels-more}
 use Rattle.mc_filter.proofs.TallyLemmas.{AreListedUpTo-found, AreListedUpTo-missed}
 use Rattle.mc_filter.proofs.tally.Tally.list_sources.Goals as goal
 
+-- The next source makes the channel at the place that was found, whose state is updated there; no
+-- other channel has its number.
 pub loop-source-preserved-in-Some-place_of : goal.loop-source-preserved-in-Some-place_of
 loop-source-preserved-in-Some-place_of c =
     let before = c.loop-source.invariant in
@@ -30,6 +32,7 @@ loop-source-preserved-in-Some-place_of c =
           );
     })
 
+-- The next source makes no channel of the index, so that no state depends on it.
 pub loop-source-preserved : goal.loop-source-preserved
 loop-source-preserved c =
     let before = c.loop-source.invariant in
@@ -52,6 +55,8 @@ loop-source-preserved c =
           );
     }
 
+-- No source is left, so that each of them was seen to make a channel or not, as the record's kind
+-- wants it.
 pub returns-clause-more : goal.returns-clause-more
 returns-clause-more c = λ none.
     let parts = c.loop-source.invariant.more none in

@@ -3,6 +3,8 @@ use Rattle.mc_filter.specs.Tallies.{ListsAsChannels}
 use Rattle.mc_filter.proofs.TallyLemmas.{AreListedUpTo}
 use Rattle.mc_filter.proofs.tally.Tally.list_sources.Given as goal
 
+-- Updating by the sources that the iterator still has leaves what updating by all of them would have
+-- left.
 abbrev pub invariant-loop-source : goal.invariant-loop-source
 invariant-loop-source l = record {
   excludes : l.self.excludes.items ≡ l.fn.self.excludes.items;

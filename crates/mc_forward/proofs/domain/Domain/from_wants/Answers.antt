@@ -7,6 +7,8 @@ use Rattle.mc_forward.specs.RouterTables.{HaveRows, RouterTablesValue}
 use Rattle.mc_forward.proofs.RowLemmas.{are_rows-from_each, map-same}
 use Rattle.mc_forward.proofs.domain.Domain.from_wants.Goals as goal
 
+-- The kept vifs and rows are those of the topology's routers, one row for each of its flows, so that
+-- the look-up tables made of them are the domain's.
 pub new-requires : goal.new-requires
 new-requires c = record {
   valid = (

@@ -5,6 +5,7 @@ use Rattle.mc_forward.specs.Assembling.{vifs_by_tables}
 use Rattle.mc_forward.specs.Domains.{TablesValue, VifsValue}
 use Rattle.mc_forward.proofs.assemble.move_vifs.Goals as goal
 
+-- a list of no length is empty
 nothing_left : (tables : List TablesValue) → length tables ≡ 0 → tables ≡ []
 nothing_left [] e = refl
 nothing_left (own ∷ tables) e = absurd (omega (arith, e))
@@ -26,7 +27,9 @@ loop-own-preserved c =
           ∙ append_assoc at.vifs.items (own.vifs ∷ []) (vifs_by_tables rest)
           ∙ ap (λ (ts : List TablesValue). at.vifs.items ++ vifs_by_tables ts) (sym steps)
           ∙ at.invariant.moved;
-      left = (let short = ap length steps in omega (arith, short, c.in-Some.ensures.steps.1, at.invariant.left));
+      left = (
+          let short = ap length steps in
+          omega (arith, short, c.in-Some.ensures.steps.1, at.invariant.left));
       room = omega (
         arith,
         at.invariant.room,

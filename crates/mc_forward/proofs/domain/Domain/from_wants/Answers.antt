@@ -15,8 +15,8 @@ new-requires c = record {
       let t = c.args.topology in
       let rows = c.tables.inside.rows.items in
       let wants = c.args.wants.items in
-      let count = sym c.tables.invariant.routers ∙ ap (λ (k : RouterTablesValue). length k.vifs) c.tables.view_is
-      ∙ c.requires.tables.routers in
+      let count = sym c.tables.invariant.routers
+      ∙ ap (λ (k : RouterTablesValue). length k.vifs) c.tables.view_is ∙ c.requires.tables.routers in
       let flows = ap (λ (k : RouterTablesValue). k.flows) c.tables.view_is ∙ c.requires.tables.flows in
       let each = subst (λ n. AllByRecursion (HaveRows n) rows) flows c.tables.invariant.rows in
       subst (λ (vifs : List VifsValue). AreDerivedTables (domain_with t vifs rows wants)

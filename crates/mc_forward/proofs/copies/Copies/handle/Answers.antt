@@ -6,8 +6,7 @@ use Rattle.mc_forward.proofs.HandleLemmas.{without_waiting-after_handle, event_o
 use Rattle.mc_forward.proofs.HandleLemmas.{still_waits-after_handle}
 use Rattle.mc_forward.proofs.copies.Copies.handle.Goals as goal
 
--- What the router sends waits behind the others, so that the handled copy is still at its place, and
--- is removed last.
+-- What the router sends waits behind the others, so that the handled copy is still at its place.
 pub remove_waiting-requires : goal.remove_waiting-requires
 remove_waiting-requires c = record {
   waits = (

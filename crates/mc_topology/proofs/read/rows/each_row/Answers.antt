@@ -2,7 +2,7 @@ use Rattle.std.proofs.Common.{◌+◌, length, length-append, sym, ap, ◌∙◌
 use Rattle.std.proofs.lemmas.Result.{err_from_is_err_and}
 use Rattle.toml.specs.View.{view}
 use Rattle.mc_topology.specs.declared.fault.TopologyFault.{TopologyFault}
-use Rattle.mc_topology.specs.Answer.{locate_fault}
+use Rattle.mc_topology.specs.Faults.{locate_fault}
 use Rattle.mc_topology.proofs.EachRow.{read_rows-more, read_rows-Err, read_rows-all}
 use Rattle.mc_topology.proofs.read.rows.each_row.Goals as goal
 

@@ -73,6 +73,7 @@ text-of_range f xs ranges i d written within =
     sym (get_or-map f xs i d [] within) ∙ ap (λ ts. get_or ts i []) written
     ∙ get_or-map range_text ranges i (0, 0) [] (subst (λ n. i < n) size within)
 
+-- there are as many ranges as words
 pub range-within : {X : Type 0} (f : X → List ℕ) (xs : List X) (ranges : List (ℕ × ℕ)) (i : ℕ)
     → map f xs ≡ map range_text ranges → i < length xs → i < length ranges
 range-within f xs ranges i written within =

@@ -36,10 +36,12 @@ with_words-all f xs i given le = at_drop_all (λ rest. with_words (Some given) (
 abbrev without_equals_text : List ℕ
 without_equals_text = codes "--without="
 
+-- the router is what comes behind the ten bytes of the prefix, where the test finds it
 router_after_equals-cond : (word : List ℕ) (test : Bool) → bytes_eq (take 10 word) without_equals_text ≡ test
     → cond test (Some (drop 10 word)) None ≡ router_after_equals word
 router_after_equals-cond word test is = ap (λ test. cond test (Some (drop 10 word)) None) (sym is)
 
+-- a word that doesn't begin with the prefix fails the test
 router_after_equals-no_prefix : (word : List ℕ) (test : Bool)
     → bytes_eq (take 10 word) without_equals_text ≡ test
     → ((rest : List ℕ) → word ≢ without_equals_text ++ rest) → None ≡ cond test (Some (drop 10 word)) None
@@ -70,6 +72,7 @@ pub Some-from_IsNextGiven : (right : Bool) (next : Option Given) (given : Given)
     → next ≡ Some given
 Some-from_IsNextGiven right next given is says = says ∙ ap (λ right. then_some right given) is
 
+-- a word that isn't valid gives nothing
 pub None-from_IsNextGiven : (right : Bool) (next : Option Given) (given : Given) → right ≡ false
     → next ≡ then_some right given
     → next ≡ None

@@ -3,7 +3,7 @@ use Rattle.std.proofs.lemmas.Result.{IfOk-weaker}
 use Rattle.clap.specs.declared.parser.matches.ArgMatches.{ArgMatches}
 use Rattle.mc_cli.proofs.ClapLemmas.{subcommand_rows_of-commands, OutOfMemory-from_clap_error}
 use Rattle.mc_cli.proofs.ClapLemmas.{AreAcceptedByClap-from_Ok}
-use Rattle.mc_cli.proofs.task.clap_task.Goals as goal
+use Rattle.mc_cli.proofs.command_task.clap_task.Goals as goal
 
 -- Clap reports no fault exactly where it accepts the words, and its matches have the command that it finds
 -- in them.

@@ -4,7 +4,8 @@ use Rattle.std.proofs.Common.{get_or, ap, ap₂, sym, subst, ◌∙◌, take, �
 use Rattle.std.proofs.lemmas.List.{at_drop_more, get_or-map, length-map, map_more, map_push}
 use Rattle.mc_text.specs.GroupRange.{range_text}
 use Rattle.mc_topology.specs.Names.{is_name}
-use Rattle.mc_cli.specs.AuditWords.{is_among, are_distinct, are_distinct_router_names}
+use Rattle.mc_cli.specs.AuditWords.{are_distinct, are_distinct_router_names}
+use Rattle.mc_cli.specs.GivenWords.{is_among}
 
 -- the words from a place on aren't where the first is no name,
 pub are_distinct_router_names-not_a_name : {X : Type 0} (f : X → List ℕ) (xs : List X) (i : ℕ) (d : X)

@@ -9,8 +9,8 @@ use Rattle.std.specs.Str.{bytes_eq}
 use Rattle.std.specs.Str.Pattern.{FindsTextPrefix, StripsPrefix}
 use Rattle.std.proofs.lemmas.List.{at_drop_all, at_drop_more, take-append-drop}
 use Rattle.std.proofs.lemmas.Slice.Eq.{bytes_eq-Decides}
-use Rattle.mc_cli.specs.AuditWords.{Given, router_after_equals}
-use Rattle.mc_cli.specs.AuditWords.{with_word, with_words}
+use Rattle.mc_cli.specs.GivenWords.{Given, router_after_equals}
+use Rattle.mc_cli.specs.GivenWords.{with_word, with_words}
 
 -- the words from a place on give what the first gives and then the rest,
 pub with_words-more : {X : Type 0} (f : X → List ℕ) (xs : List X) (i : ℕ) (d : X) (given : Given)

@@ -1,7 +1,10 @@
-use Rattle.std.proofs.Common.{◌≡◌, ◌≢◌, ◌∙◌, ℕ, List, Option, Some, None, Result, Err, map, refl, subst, sym, ap}
+use Rattle.std.proofs.Common.{◌≡◌, ◌≢◌, ◌∙◌, ℕ, List, Option, Some, None, Result, Err, map}
+use Rattle.std.proofs.Common.{ap, refl, subst, sym}
 use Rattle.std.specs.Prelude.{IfSome, IsOk, IsSome, unwrap_or}
 use Rattle.std.proofs.lemmas.Bool.{false≢true}
-use Rattle.mc_cli.specs.AuditWords.{AreAuditWords, AreComplete, AreRanges, AreWholeWords, Given}
+use Rattle.mc_cli.specs.AuditWords.{AreAuditWords, AreRanges}
+use Rattle.mc_cli.specs.AuditDraft.{AreComplete, AreWholeWords}
+use Rattle.mc_cli.specs.GivenWords.{Given}
 use Rattle.mc_cli.specs.declared.audit_words.AuditWords.{AuditWords}
 use Rattle.mc_cli.specs.declared.audit_words.WholeWords.{WholeWords}
 use Rattle.mc_cli.proofs.audit_words.audit_words_of.Goals as goal

@@ -1,5 +1,5 @@
 use Rattle.std.proofs.Common.{None, Some, sym, ◌∙◌}
-use Rattle.mc_cli.specs.AuditWords.{given_of}
+use Rattle.mc_cli.specs.AuditDraft.{given_of}
 use Rattle.mc_cli.proofs.DraftLemmas.{Some-from_IsNextGiven, None-from_IsNextGiven, with_words-all}
 use Rattle.mc_cli.proofs.DraftLemmas.{with_words-more, with_words-None}
 use Rattle.mc_cli.proofs.draft.draft_of.Goals as goal

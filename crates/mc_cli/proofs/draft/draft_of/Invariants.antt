@@ -1,5 +1,6 @@
 use Rattle.std.proofs.Common.{◌≡◌, map, drop, Some}
-use Rattle.mc_cli.specs.AuditWords.{given_of, nothing_given, with_words}
+use Rattle.mc_cli.specs.AuditDraft.{given_of}
+use Rattle.mc_cli.specs.GivenWords.{nothing_given, with_words}
 use Rattle.mc_cli.proofs.draft.draft_of.Given as goal
 
 -- What the draft has, with the words to come, is what all words give.

@@ -95,9 +95,10 @@ fn replay_task<'a>(
 ) -> Result<Task<'a>, WordsFault>
     ensures allowed { IfOk result IsAllowed }
     ensures found { IfOk result (AreReplayWords flow.now ttl.now order.now) }
-    ensures only { (f t : ℕ) (last : Bool) → IsAllowed (Task.Replay f t last)
-        → AreReplayWords flow.now ttl.now order.now (Task.Replay f t last)
-        → result ≡ Ok (Task.Replay f t last) }
+    ensures only { (flow_number sent_ttl : ℕ) (last : Bool)
+        → IsAllowed (Task.Replay flow_number sent_ttl last)
+        → AreReplayWords flow.now ttl.now order.now (Task.Replay flow_number sent_ttl last)
+        → result ≡ Ok (Task.Replay flow_number sent_ttl last) }
 {
     let Some(flow) = number_of(flow, 4_096) else {
         return Err(replay_refusal(alloc, FLOW_RULE));
@@ -117,9 +118,10 @@ fn replay_task<'a>(
 fn wants_task<'a>(alloc: Global, group: &'a str, source: &'a str) -> Result<Task<'a>, WordsFault>
     ensures allowed { IfOk result IsAllowed }
     ensures found { IfOk result (AreWantsWords group.now source.now) }
-    ensures only { (g s : ℕ) → IsForwardedGroup g → IsSource s → group.now ≡ dotted g
-        → source.now ≡ dotted s
-        → result ≡ Ok (Task.Wants g s) }
+    ensures only { (group_address source_address : ℕ) → IsForwardedGroup group_address
+        → IsSource source_address → group.now ≡ dotted group_address
+        → source.now ≡ dotted source_address
+        → result ≡ Ok (Task.Wants group_address source_address) }
 {
     let Some(group) = group_of(group) else {
         return Err(usage_refusal(alloc, wants_command(alloc), GROUP_RULE));

@@ -17,7 +17,8 @@ use Rattle.mc_topology.specs.declared.read.bounds.Scan.{Scan}
 -- the state after a byte outside of comments and strings: `#` begins a comment, and `"` or `'` a
 -- string
 abbrev pub after_outside_byte : ℕ → LexState
-after_outside_byte byte = if byte == 35 then Comment else if byte == 34 || byte == 39 then OneQuote byte else Outside
+after_outside_byte byte =
+    if byte == 35 then Comment else if byte == 34 || byte == 39 then OneQuote byte else Outside
 
 -- whether the byte escapes the next one: a backslash does in a string between `"`, and not in one
 -- between `'`
@@ -28,7 +29,8 @@ begins_escape quote byte = byte == 92 && quote == 34
 -- well: there the text is no TOML, and is refused for that.
 abbrev pub after_one_line_byte : ℕ → ℕ → LexState
 after_one_line_byte quote byte =
-    if byte == quote || byte == 10 then Outside else if begins_escape quote byte then OneLineEscape else OneLine quote
+    if byte == quote || byte == 10 then Outside
+    else if begins_escape quote byte then OneLineEscape else OneLine quote
 
 -- the state after a byte in a string on many lines, which ends after three or more of its quotes in
 -- a row

@@ -18,6 +18,8 @@ not_below_each_other : (x y : ℕ × ℕ) → key_cmp x y ≡ Less → key_cmp y
 not_below_each_other x y xy yx =
     key_cmp-not_less_itself x x refl (are_above-trans x y (x ∷ []) xy (yx, tt)).0
 
+-- If each of two ascending lists has the other's first pair, the first pairs are equal: neither is above
+-- itself.
 same_first : (x y : ℕ × ℕ) (xs ys : List (ℕ × ℕ)) → AreAbove x xs → AreAbove y ys → In x (y ∷ ys)
     → In y (x ∷ xs) → x ≡ y
 same_first x y xs ys above_x above_y (inl e) k = sym e
@@ -26,6 +28,7 @@ same_first x y xs ys above_x above_y (inr h) (inr k) =
     absurd (not_below_each_other x y (key_cmp-from_are_above x y xs above_x k)
     (key_cmp-from_are_above y x ys above_y h))
 
+-- A pair behind the first is none that equals it, so that the other list has it behind its own first pair.
 in-later : (x y q : ℕ × ℕ) (xs ys : List (ℕ × ℕ)) → x ≡ y → AreAbove x xs → In q xs → In q (y ∷ ys) → In q ys
 in-later x y q xs ys e above h (inl k) =
     absurd (key_cmp-not_less_itself x q (e ∙ k) (key_cmp-from_are_above x q xs above h))
@@ -57,6 +60,7 @@ filter-in_order p xs =
     (λ q h. let k = in-filter_cases p q (in_order xs) h in
     in-in_order q (filter p xs) (in-filter p q xs (in-from_in_order q xs k.0) k.1))
 
+-- One element more, by whether it passes each of the tests.
 filter-swap_step : {X : Type 0} (p q : X → Bool) (x : X) (xs : List X) (a b : Bool) → p x ≡ a → q x ≡ b
     → filter p (filter q xs) ≡ filter q (filter p xs)
     → filter p (cond b (x ∷ filter q xs) (filter q xs)) ≡ filter q (cond a (x ∷ filter p xs) (filter p xs))
@@ -65,11 +69,13 @@ filter-swap_step p q x xs true false ep eq same = rw eq same
 filter-swap_step p q x xs false true ep eq same = rw ep same
 filter-swap_step p q x xs false false ep eq same = same
 
+-- Two filters may change places.
 pub filter-swap : {X : Type 0} (p q : X → Bool) (xs : List X)
     → filter p (filter q xs) ≡ filter q (filter p xs)
 filter-swap p q [] = refl
 filter-swap p q (x ∷ xs) = filter-swap_step p q x xs (p x) (q x) refl refl (filter-swap p q xs)
 
+-- One element more, by whether it passes each of the tests.
 filter-implied_step : {X : Type 0} (p q : X → Bool) (x : X) (xs : List X) (a b : Bool) → p x ≡ a → q x ≡ b
     → (a ≡ true → b ≡ true) → filter p (filter q xs) ≡ filter p xs
     → filter p (cond b (x ∷ filter q xs) (filter q xs)) ≡ cond a (x ∷ filter p xs) (filter p xs)

@@ -84,9 +84,11 @@ in_order-ascending xs up =
 
 -- ---- parts of which the lowest are kept
 
+-- what is shown of one part alone: all of its pairs, or the 20 lowest
 abbrev shown_of : Bool → List (ℕ × ℕ) → List (ℕ × ℕ)
 shown_of all part = shown_pairs all (in_order part)
 
+-- a part has a pair exactly if what is shown of it does, where that is so of each of the parts
 is_listed-shown_part : (all : Bool) (p : ℕ × ℕ) (parts : List (List (ℕ × ℕ))) (n : ℕ)
     → ((part : List (ℕ × ℕ)) → In part parts
     → is_listed (Some (shown_of all part)) p ≡ is_listed (Some part) p)
@@ -120,6 +122,7 @@ shared_pairs-shown all parts =
 
 -- ---- the wants of lists
 
+-- The wants of a list are in order, and those of one class are a filter of them.
 pub asked_wants-ascend : (a : AnswersValue) (lan : ℕ) (records : List Record)
     → IsStrictlySortedBy key_cmp (asked_wants a lan records)
 asked_wants-ascend a lan records =
@@ -128,6 +131,7 @@ asked_wants-ascend a lan records =
     (IsStrictlySortedBy-filter key_cmp (is_of_merged_filter records) (in_order (flat_map asked_by records))
     (is_strictly_sorted_by-in_order (flat_map asked_by records)))
 
+-- what is kept of the LANs' lists is what is shown of each LAN's wants alone
 wants_of_lans-from : (all : Bool) (a : AnswersValue) (lan : ℕ) (lists : List (List Record))
     → wants_of_lans (lan_wants_from all a lan lists) ≡ map (shown_of all) (asked_from a lan lists)
 wants_of_lans-from all a lan [] = refl
@@ -137,6 +141,8 @@ wants_of_lans-from all a lan (records ∷ lists) =
     lan records))))
     (wants_of_lans-from all a (suc lan) lists)
 
+-- So the lines are those of the whole lists: a pair among the lowest of all is among the lowest of each
+-- part that has it.
 pub asked_lines-from : (all : Bool) (a : AnswersValue) (lan : ℕ) (lists : List (List Record))
     → asked_lines all (lan_wants_from all a lan lists) ≡ shared_pairs all (asked_from a lan lists)
 asked_lines-from all a lan lists =
@@ -162,9 +168,11 @@ shown_and_own-equal shown own up other =
         in-filter (λ p. is_listed (Some xs) p) q ys (in-from_is_listed q ys both.1) (is_listed-from_in
         q xs both.0)
 
+-- how many parts all of these pairs have, together
 abbrev count_with : List (List (ℕ × ℕ)) → List (ℕ × ℕ) → ℕ
 count_with parts shown = sum_by (λ (p : ℕ × ℕ). length (parts_with parts p)) shown
 
+-- how many of the shown pairs a part has
 abbrev count_own : (shown : List (ℕ × ℕ)) → List (ℕ × ℕ) → ℕ
 count_own shown own = length (filter (λ p. is_listed (Some own) p) shown)
 
@@ -199,6 +207,7 @@ count_with-append before (own ∷ parts) shown =
     let front = sum_by-cons (count_own shown) own parts in
     omega (arith, moved, later, pushed, front)
 
+-- no parts have no pairs
 count_with-none : (shown : List (ℕ × ℕ)) → count_with [] shown ≡ 0
 unfolding below
 count_with-none [] = refl
@@ -218,6 +227,7 @@ count_shown-shared_pairs all parts =
     let none = count_with-none shown in
     omega (arith, lines, whole, none)
 
+-- the count that is kept of each list is that of all its wants
 count_wants-from : (all : Bool) (a : AnswersValue) (lan : ℕ) (lists : List (List Record))
     → count_wants (lan_wants_from all a lan lists)
     ≡ sum_by (λ (own : List (ℕ × ℕ)). length own) (asked_from a lan lists)
@@ -236,6 +246,7 @@ count_own-others shown own up other =
     ap (λ (l : List (ℕ × ℕ)). length l + count_others shown own) (shown_and_own-equal shown own up other)
     ∙ length-filter_both (λ p. is_listed (Some shown) p) (λ p. not (is_listed (Some shown) p)) (λ p. refl) own
 
+-- list by list, the wants are those that are shown and the others
 count_all-others : (shown : List (ℕ × ℕ)) → IsStrictlySortedBy key_cmp shown → (a : AnswersValue) (lan : ℕ)
     (lists : List (List Record))
     → sum_by (λ (own : List (ℕ × ℕ)). length own) (asked_from a lan lists)
@@ -251,6 +262,7 @@ count_all-others shown up a lan (records ∷ lists) =
     let later = count_all-others shown up a (suc lan) lists in
     omega (arith, lengths, owns, others, here, later)
 
+-- All wants less those of the lines, which are the shown ones of each list, are the others of each list.
 pub further_wants-from : (all : Bool) (a : AnswersValue) (lists : List (List Record))
     → further_wants all (lan_wants_from all a 0 lists)
     ≡ sum_by (count_others (shown_of_parts all (asked_from a 0 lists))) (asked_from a 0 lists)
@@ -279,6 +291,7 @@ count_wants-split all a lists =
 
 -- ---- services
 
+-- Dropping repeats behind a number drops no number: what is dropped equals the one before.
 in-dedup_from : (k x : ℕ) (xs : List ℕ) → In x (k ∷ xs) → In x (dedup_from nat_eq k xs)
 in-dedup_from k x [] h = h
 in-dedup_from k x (y ∷ ys) h =
@@ -297,6 +310,7 @@ in-dedup_from k x (y ∷ ys) h =
       ]
     ] refl
 
+-- dropping repeats drops no number
 in-dedup : (x : ℕ) (xs : List ℕ) → In x xs → In x (dedup nat_eq xs)
 in-dedup x [] h = absurd h
 in-dedup x (y ∷ ys) h = in-dedup_from y x ys h

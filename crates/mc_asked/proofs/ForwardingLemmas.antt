@@ -16,6 +16,7 @@ use Rattle.mc_asked.specs.Forwarding.{greater, is_counted, is_counted_source, is
 use Rattle.mc_asked.specs.Forwarding.{is_forwarded, router_state}
 use Rattle.mc_asked.specs.ListWants.{Want}
 
+-- a result is an error exactly if it is no success
 pub is_err-not_ok : {T E : Type 0} (r : Result T E) → is_err r ≡ not (is_ok r)
 is_err-not_ok (Ok x) = refl
 is_err-not_ok (Err e) = refl
@@ -30,6 +31,7 @@ counted_any unadmitted want origin any =
 abbrev state_by : (forwards counts stars : Bool) → RouterState
 state_by forwards counts stars = cond forwards Forwards (cond counts NoneOut (cond stars EverySource Nothing))
 
+-- The greater one of two states is that of both, by each of the three tests.
 state_by-or : (a b c x y z : Bool) → greater (state_by a b c) (state_by x y z)
     ≡ state_by (a || x) (b || y) (c || z)
 state_by-or true b c x y z = refl
@@ -43,6 +45,7 @@ state_by-or false false true false false true = refl
 state_by-or false false true false false false = refl
 state_by-or false false false x y z = refl
 
+-- some element of two lists passes if one of either does
 list_any-append : {X : Type 0} (p : X → Bool) (xs ys : List X)
     → (list_any p xs || list_any p ys) ≡ list_any p (xs ++ ys)
 list_any-append p [] ys = refl

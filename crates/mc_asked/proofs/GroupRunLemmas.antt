@@ -21,6 +21,7 @@ use Rattle.mc_asked.proofs.SharedPairLemmas.{in-get_or}
 first-le : (p q : ℕ × ℕ) → key_cmp p q ≡ Less → p.0 ≤ q.0
 first-le p q less = grind (arith, nat_tests)
 
+-- the first parts of ascending pairs ascend
 pub firsts-ascend : (pairs : List (ℕ × ℕ)) → IsStrictlySortedBy key_cmp pairs
     → IsNonDecreasingBy (λ p. p.0) pairs
 unfolding IsStrictlySortedBy

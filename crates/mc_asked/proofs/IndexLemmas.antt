@@ -26,22 +26,26 @@ use Rattle.mc_asked.specs.ListWants.{Want}
 
 -- ---- tests of some element
 
+-- a test of changed elements is a test of the elements
 pub list_any-map : {X Y : Type 0} (p : Y → Bool) (f : X → Y) (xs : List X)
     → list_any p (map f xs) ≡ list_any (λ x. p (f x)) xs
 list_any-map p f [] = refl
 list_any-map p f (x ∷ xs) = ap (λ (b : Bool). p (f x) || b) (list_any-map p f xs)
 
+-- one element more, by whether the filter keeps it
 list_any-filter_step : (b : Bool) (a r : Bool) → cond b (a || r) r ≡ ((a && b) || r)
 list_any-filter_step true true r = refl
 list_any-filter_step true false r = refl
 list_any-filter_step false true r = refl
 list_any-filter_step false false r = refl
 
+-- the test of one of two lists
 list_any-cond : {X : Type 0} (p : X → Bool) (b : Bool) (xs ys : List X)
     → list_any p (cond b xs ys) ≡ cond b (list_any p xs) (list_any p ys)
 list_any-cond p true xs ys = refl
 list_any-cond p false xs ys = refl
 
+-- some element that a filter keeps passes a test exactly if some element passes both
 pub list_any-filter : {X : Type 0} (p q : X → Bool) (xs : List X)
     → list_any p (filter q xs) ≡ list_any (λ x. p x && q x) xs
 list_any-filter p q [] = refl
@@ -57,9 +61,11 @@ contains-iff_test index numbers n b same is = grind (arith, Decides-has numbers 
 
 -- ---- the groups of EXCLUDE records
 
+-- the groups of the EXCLUDE records
 abbrev pub excluded_numbers : List Record → List ℕ
 excluded_numbers records = map (λ r. r.group) (filter (λ r. is_exclude r.kind) records)
 
+-- these have a group exactly if an EXCLUDE record is for it
 has-excluded_numbers : (records : List Record) (group : ℕ)
     → has (excluded_numbers records) group ≡ has_exclude records group
 has-excluded_numbers records group =
@@ -67,6 +73,7 @@ has-excluded_numbers records group =
     r.kind) records)
     ∙ list_any-filter (λ (r : Record). r.group == group) (λ (r : Record). is_exclude r.kind) records
 
+-- an index of these numbers is one of the groups that EXCLUDE records are for
 pub is_index_of_excludes : (records : List Record) (index numbers : List ℕ)
     → numbers ≡ excluded_numbers records → ((n : ℕ) → Contains index n ↔ Contains numbers n)
     → IsIndexOfExcludes records index
@@ -76,6 +83,7 @@ is_index_of_excludes records index numbers is same group =
 
 -- ---- the groups of flows
 
+-- an index of the second parts of pairs is one of their groups
 pub is_index_of_groups : (pairs : List (ℕ × ℕ)) (index numbers : List ℕ)
     → numbers ≡ map (λ p. p.1) pairs → ((n : ℕ) → Contains index n ↔ Contains numbers n)
     → IsIndexOfGroups pairs index
@@ -95,6 +103,8 @@ same_number p q own other =
     let q1 = ap (λ (x : ℕ × ℕ). x.1) other in
     grind (arith, nat_tests, p0, p1, q0, q1)
 
+-- The numbers of pairs have that of a pair exactly if it is one of them, since a number gives its pair
+-- back.
 has-pair_numbers : (pairs : List (ℕ × ℕ)) (pair : ℕ × ℕ) → map pair_of (map pair_number pairs) ≡ pairs
     → pair_of (pair_number pair) ≡ pair
     → has (map pair_number pairs) (pair_number pair)
@@ -105,6 +115,7 @@ has-pair_numbers (p ∷ ps) pair each own =
     let rest : map pair_of (map pair_number ps) ≡ ps = cc in
     ap₂ (λ (a b : Bool). a || b) (same_number p pair first own) (has-pair_numbers ps pair rest own)
 
+-- an index of the numbers of pairs is one of the pairs
 pub is_index_of_pairs : (pairs : List (ℕ × ℕ)) (index numbers : List ℕ)
     → numbers ≡ map pair_number pairs → map pair_of numbers ≡ pairs
     → ((n : ℕ) → Contains index n ↔ Contains numbers n) → IsIndexOfPairs pairs index
@@ -116,6 +127,7 @@ is_index_of_pairs pairs index numbers is back same pair own =
 
 -- ---- the groups of wanted flows
 
+-- the groups of the flows that are wanted, by the answer for each
 abbrev pub groups_of_wanted : List (ℕ × ℕ) → List Bool → List ℕ
 groups_of_wanted [] answers = []
 groups_of_wanted (f ∷ fs) [] = []
@@ -167,6 +179,7 @@ groups_of_wanted-all flows answers numbers all i past before =
     ∙ ap (λ (l : List (ℕ × ℕ)). numbers ++ groups_of_wanted l (drop i answers)) (sym (drop_all i flows past))
     ∙ before
 
+-- two tests of one fact are equal
 pub equal-from_decided : (b w : Bool) (P : Type 0) → (IsTrue b ↔ P) → Decides w P → b ≡ w
 equal-from_decided b w P is decided = grind arith
 
@@ -182,6 +195,7 @@ answered records flow group b is =
       | false ↦ λ e. refl
     ] refl
 
+-- These have a group exactly if some flow of the group is wanted, flow by flow.
 has-groups_of_wanted : (records : List Record) (flows : List (ℕ × ℕ)) (answers : List Bool) (group : ℕ)
     → length answers ≡ length flows → AreFlowsWanted flows records answers
     → has (groups_of_wanted flows answers) group ≡ is_wanted_group flows records group
@@ -195,6 +209,7 @@ has-groups_of_wanted records (f ∷ fs) (b ∷ bs) group count each =
     (has-groups_of_wanted records fs bs group (omega (arith, count))
     (λ i flow w at is. each (suc i) flow w at is))
 
+-- an index of these groups is one of the groups of wanted flows
 pub is_index_of_wanted_groups : (records : List Record) (flows : List (ℕ × ℕ)) (answers : List Bool)
     (index numbers : List ℕ) → length answers ≡ length flows → AreFlowsWanted flows records answers
     → numbers ≡ groups_of_wanted flows answers → ((n : ℕ) → Contains index n ↔ Contains numbers n)
@@ -205,6 +220,7 @@ is_index_of_wanted_groups records flows answers index numbers count each is same
 
 -- ---- look-ups
 
+-- two tests of one fact are equal
 equal_tests : (b w : Bool) (P : Type 0) → (IsTrue b ↔ P) → (P ↔ IsTrue w) → b ≡ w
 equal_tests b w P there back = grind arith
 

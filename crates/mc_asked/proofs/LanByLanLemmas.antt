@@ -45,6 +45,7 @@ use Rattle.mc_asked.proofs.WantStateLemmas.{and-false}
 
 -- ---- the wants of each LAN
 
+-- something is kept of each list
 pub length-lan_wants_from : (all : Bool) (a : AnswersValue) (k : ℕ) (lists : List (List Record))
     → length (lan_wants_from all a k lists) ≡ length lists
 length-lan_wants_from all a k [] = refl
@@ -87,10 +88,12 @@ has_exclude-from_lowest all a lan records w listed any =
     (subst (λ (s : ℕ). In {A = Want} (w.0, s) (wants_in records)) (eqb-true w.1 0 any)
     (in-wants_in all a lan records w (in-from_is_listed w (lan_wants all a lan records).lowest listed)))
 
+-- changing nothing leaves a list
 map-same : (ws : List Want) → map (λ (w : Want). w) ws ≡ ws
 map-same [] = refl
 map-same (w ∷ ws) = ap (λ l. w ∷ l) (map-same ws)
 
+-- taking all leaves a list
 take_whole : (xs : List (List Want)) → take (length xs) xs ≡ xs
 take_whole [] = refl
 take_whole (x ∷ xs) = ap (λ l. x ∷ l) (take_whole xs)
@@ -402,6 +405,7 @@ module _ (all : Bool) (a : AnswersValue) (lists : List (List Record)) where
           decided (unadmitted_by lists group (n ∷ ns)) (is_admitted lists (n ∷ ns) group source)
           (are.each source)
 
+-- before the first LAN the wants are those that were given
 pub wants-of_without_sources : (wants : List Want)
     → map (λ (s : WantSourcesValue). s.want) (map without_sources wants) ≡ wants
 wants-of_without_sources [] = refl

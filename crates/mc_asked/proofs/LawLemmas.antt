@@ -26,6 +26,7 @@ use Rattle.mc_asked.proofs.PartLemmas.{in-in_order, in-from_in_order}
 
 -- ---- lists
 
+-- an element that passes is some element that does
 pub any-from_in : {X : Type 0} (p : X → Bool) (x : X) (xs : List X) → In x xs → p x ≡ true
     → list_any p xs ≡ true
 any-from_in p x [] h is = absurd h
@@ -36,6 +37,7 @@ any-from_in p x (y ∷ ys) (inr h) is = or_true (p y) (any-from_in p x ys h is)
     or_true true e = refl
     or_true false e = e
 
+-- where some element passes, there is one in the list
 pub in-from_any : {X : Type 0} (p : X → Bool) (xs : List X) → list_any p xs ≡ true
     → (x : X) × In x xs × (p x ≡ true)
 in-from_any p [] e = absurd cc
@@ -45,21 +47,25 @@ in-from_any {X} p (y ∷ ys) e =
       | false ↦ λ is e. let later = in-from_any p ys e in (later.0, inr later.1, later.2)
     ] refl e
 
+-- a number that a test finds is in the list
 pub in-from_has : (xs : List ℕ) (s : ℕ) → has xs s ≡ true → In s xs
 in-from_has xs s is =
     let found = in-from_any (λ a. a == s) xs is in
     subst (λ (x : ℕ). In x xs) (eqb-true found.0 s found.2) found.1
 
+-- and the other way round
 pub has-from_in : (xs : List ℕ) (s : ℕ) → In s xs → has xs s ≡ true
 has-from_in xs s h = any-from_in (λ a. a == s) s xs h (eq-eqb s s refl)
 
 -- ---- what a record asks for
 
+-- a source that a host may send from is among the wants of an INCLUDE record that lists it
 in-included_in : (group s : ℕ) (sources : List ℕ) → In s sources → is_source s ≡ true
     → In (group, s) (included_in group sources)
 in-included_in group s sources h is =
     in-map (λ (x : ℕ). (group, x)) s (filter is_source sources) (in-filter is_source s sources h is)
 
+-- and each of these wants is such a source of the record's group
 in-included_in_cases : (group : ℕ) (sources : List ℕ) (w : Want) → In w (included_in group sources)
     → (group ≡ w.0) × (is_source w.1 ≡ true) × In w.1 sources
 in-included_in_cases group sources w h =
@@ -82,6 +88,7 @@ asked_any kind.Include group g sources h =
 asked_any (kind.Change type) group g sources h = absurd h
 asked_any (kind.Unknown type) group g sources h = absurd h
 
+-- an EXCLUDE record asks for any source of its group
 any_asked : (k : Kind) (group g : ℕ) (sources : List ℕ) → ((group == g) && is_exclude k) ≡ true
     → In (g, 0) (asked_by_kind k group sources)
 any_asked kind.Exclude group g sources is =
@@ -104,6 +111,8 @@ asked_single kind.Include group g s sources is h =
 asked_single (kind.Change type) group g s sources is h = absurd h
 asked_single (kind.Unknown type) group g s sources is h = absurd h
 
+-- A source that a record admits, and that isn't an EXCLUDE record's, is listed by an INCLUDE record, which
+-- asks for it.
 single_asked : (k : Kind) (group g s : ℕ) (sources : List ℕ) → is_source s ≡ true
     → ((group == g) && is_exclude k) ≡ false → ((group == g) && kind_admits k (has sources s)) ≡ true
     → In (g, s) (asked_by_kind k group sources)
@@ -189,14 +198,18 @@ in-wants_in-single records g s forwarded is = (
 
 -- ---- by the merged filter
 
+-- a mode that the test finds is EXCLUDE
 mode-from_test : (mode : Mode) (b : Bool) → is_exclude_mode mode ≡ b → b ≡ true → mode ≡ Exclude
 mode-from_test Exclude b is holds = refl
 mode-from_test Include b is holds = absurd (true≢false (sym holds ∙ sym is))
 
+-- any other is INCLUDE
 include-from_test : (mode : Mode) (b : Bool) → is_exclude_mode mode ≡ b → b ≡ false → mode ≡ Include
 include-from_test Include b is fails = refl
 include-from_test Exclude b is fails = absurd (true≢false (is ∙ fails))
 
+-- A want of any source is of an EXCLUDE record for the group, and with such a record the merged filter is
+-- EXCLUDE.
 pub any-by_merged_filter : (records : List Record) (g : ℕ) (filter : SourceFilter)
     → IsMergedValue records g filter → is_forwarded_group g ≡ true
     → In (g, 0) (wants_in records) ↔ (filter.mode ≡ Exclude)
@@ -207,6 +220,8 @@ any-by_merged_filter records g filter merged forwarded =
       λ is. wants.1 (sym m.excludes ∙ ap is_exclude_mode is),
     )
 
+-- A want of a single source is of an INCLUDE record which lists it, where no EXCLUDE record is for the
+-- group; then the merged filter is INCLUDE, and has the sources of all records for the group.
 pub single-by_merged_filter : (records : List Record) (g s : ℕ) (filter : SourceFilter)
     → IsMergedValue records g filter → is_forwarded_group g ≡ true → is_source s ≡ true
     → In (g, s) (wants_in records) ↔ ((filter.mode ≡ Include) × Contains filter.sources s)

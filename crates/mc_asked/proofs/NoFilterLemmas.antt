@@ -37,10 +37,12 @@ use Rattle.mc_asked.proofs.PartLemmas.{is_listed-from_in}
 
 -- ---- the second parts of a group's pairs
 
+-- of two pairs of one group, the lower has the lower second part
 second-less : (group : ℕ) (p q : ℕ × ℕ) → p.0 ≡ group → q.0 ≡ group → key_cmp p q ≡ Less
     → nat_cmp p.1 q.1 ≡ Less
 second-less group p q one other less = grind (arith, nat_tests)
 
+-- so the second parts behind a pair of the group are above its own
 seconds-above : (group : ℕ) (p : ℕ × ℕ) (qs : List (ℕ × ℕ)) → p.0 ≡ group → AreAbove p qs
     → ((q : ℕ × ℕ) → In q qs → q.0 ≡ group)
     → AllByRecursion (λ s. nat_cmp p.1 s ≡ Less) (map (λ (q : ℕ × ℕ). q.1) qs)
@@ -60,6 +62,7 @@ seconds-sorted group (p ∷ ps) up each = (
   seconds-sorted group ps up.1 (λ q h. each q (inr h)),
 )
 
+-- and the second parts of a group's pairs ascend
 pub seconds_of-ascend : (group : ℕ) (pairs : List (ℕ × ℕ)) → IsStrictlySortedBy key_cmp pairs
     → IsStrictlyIncreasing (seconds_of group pairs)
 seconds_of-ascend group pairs up =
@@ -96,6 +99,7 @@ and-turned true false = refl
 and-turned false true = refl
 and-turned false false = refl
 
+-- a group's second parts have a number exactly if the pair of both is listed
 pub has-seconds_of : (group : ℕ) (pairs : List (ℕ × ℕ)) (s : ℕ)
     → has (seconds_of group pairs) s ≡ is_listed (Some pairs) (group, s)
 has-seconds_of group pairs s =
@@ -105,10 +109,12 @@ has-seconds_of group pairs s =
 
 -- ---- of one list
 
+-- a test whose opposite holds fails
 not-true : (b : Bool) → not b ≡ true → b ≡ false
 not-true true e = absurd (true≢false (sym e))
 not-true false e = refl
 
+-- an EXCLUDE record admits exactly the sources that it doesn't list
 admits-by_exclude : (k : Kind) (listed : Bool) → is_exclude k ≡ true → kind_admits k listed ≡ not listed
 admits-by_exclude kind.Include listed is = absurd (true≢false (sym is))
 admits-by_exclude kind.Exclude listed is = refl
@@ -158,6 +164,7 @@ has-unadmitted_in records groups g s known is =
     (in-filter keeps (g, s) listed (in-in_order (g, s) (flat_map (listed_by groups) records)
     (in-listed_by_exclude records groups g s known is (not-true (wanted records g s) e))) e))
 
+-- the pairs that aren't admitted ascend, as a filter of pairs in order
 pub unadmitted_in-ascend : (records : List Record) (groups : List ℕ)
     → IsStrictlySortedBy key_cmp (unadmitted_in records groups)
 unadmitted_in-ascend records groups =
@@ -191,11 +198,13 @@ pub record AreUnadmitted (lists : List (List Record)) (lans : List ℕ) (group :
   pub ascending : IsStrictlyIncreasing sources
   pub each : (s : ℕ) → has sources s ≡ not (is_admitted lists lans group s)
 
+-- Two ascending lists of the sources that no LAN admits are equal, since both have the same sources.
 pub unadmitted-unique : (lists : List (List Record)) (lans : List ℕ) (group : ℕ) (xs ys : List ℕ)
     → AreUnadmitted lists lans group xs → AreUnadmitted lists lans group ys → xs ≡ ys
 unadmitted-unique lists lans group xs ys one other =
     ascending_lists_equal-from_has xs ys one.ascending other.ascending (λ s. one.each s ∙ sym (other.each s))
 
+-- a test or none is the test
 pub or-false : (b : Bool) → (b || false) ≡ b
 or-false true = refl
 or-false false = refl

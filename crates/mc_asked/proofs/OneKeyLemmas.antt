@@ -19,6 +19,7 @@ use Rattle.mc_asked.proofs.PartLemmas.{key_cmp-from_are_above, key_cmp-not_less_
 pub is_key-itself : (q k : ℕ × ℕ) → k ≡ q → is_key q k ≡ true
 is_key-itself q k same = ap is_eq (ap (key_cmp q) same ∙ tied_itself key_cmp-total q)
 
+-- what the test of keys finds is the key
 pub equal-from_is_key : (q k : ℕ × ℕ) → is_key q k ≡ true → k ≡ q
 equal-from_is_key q k is = sym (key_cmp-antisymmetric q k (equal-from_is_eq (key_cmp q k) is))
   where
@@ -27,6 +28,7 @@ equal-from_is_key q k is = sym (key_cmp-antisymmetric q k (equal-from_is_eq (key
     equal-from_is_eq Equal is = refl
     equal-from_is_eq Greater is = absurd cc
 
+-- another key isn't found
 pub is_key-other : (q k : ℕ × ℕ) → (k ≡ q → ⊥) → is_key q k ≡ false
 is_key-other q k other = elim (is_key q k) as (λ b. is_key q k ≡ b → b ≡ false) [
   | true ↦ λ is. absurd (other (equal-from_is_key q k is))
@@ -82,6 +84,7 @@ map-set_same key [] i y d same = refl
 map-set_same key (x ∷ xs) zero y d same = ap (λ k. k ∷ map key xs) same
 map-set_same key (x ∷ xs) (suc i) y d same = ap (λ ks. key x ∷ ks) (map-set_same key xs i y d same)
 
+-- a change that leaves each key leaves the list of keys
 pub map-same_keys : {X : Type 0} (key : X → ℕ × ℕ) (g : X → X) (xs : List X)
     → ((x : X) → key (g x) ≡ key x) → map key (map g xs) ≡ map key xs
 map-same_keys key g [] same = refl
@@ -93,6 +96,7 @@ pub found-within : {X : Type 0} (key : X → ℕ × ℕ) (ks : List (ℕ × ℕ)
     → ks ≡ map key xs → i < length ks → i < length xs
 found-within key ks xs i are within = subst (λ n. i < n) (ap length are ∙ length-map xs key) within
 
+-- the element at the place where the search found a key has this key
 pub found-key : {X : Type 0} (key : X → ℕ × ℕ) (ks : List (ℕ × ℕ)) (xs : List X) (i : ℕ) (q : ℕ × ℕ) (d : X)
     → ks ≡ map key xs → i < length ks → key_cmp (get_or ks i q) q ≡ Equal → key (get_or xs i d) ≡ q
 found-key key ks xs i q d are within equal =
@@ -107,6 +111,7 @@ absent-key key ks xs q are absent x there same =
 
 -- ---- each element, one after another
 
+-- changing the first element behind those that have been changed makes them one more
 set-next_suc : {X : Type 0} (f : X → X) (xs : List X) (i : ℕ) (d : X) → i < length xs
     → set (map f (take i xs) ++ drop i xs) i (f (get_or (map f (take i xs) ++ drop i xs) i d))
     ≡ map f (take (suc i) xs) ++ drop (suc i) xs

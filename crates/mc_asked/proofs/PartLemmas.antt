@@ -26,28 +26,34 @@ use Rattle.mc_asked.proofs.LowestOfParts.{lowest}
 
 -- ---- the first ones of two merged lists
 
+-- the first elements are elements
 pub in-from_take : (k : ℕ) (p : ℕ × ℕ) (xs : List (ℕ × ℕ)) → In p (take k xs) → In p xs
 in-from_take zero p xs h = absurd h
 in-from_take (suc k) p [] h = absurd h
 in-from_take (suc k) p (x ∷ xs) (inl e) = inl e
 in-from_take (suc k) p (x ∷ xs) (inr h) = inr (in-from_take k p xs h)
 
+-- the first k elements are among the first k + 1
 in-take_more : (k : ℕ) (p : ℕ × ℕ) (xs : List (ℕ × ℕ)) → In p (take k xs) → In p (take (suc k) xs)
 in-take_more zero p xs h = absurd h
 in-take_more (suc k) p [] h = absurd h
 in-take_more (suc k) p (x ∷ xs) (inl e) = inl e
 in-take_more (suc k) p (x ∷ xs) (inr h) = inr (in-take_more k p xs h)
 
+-- a pair is below each that is above it
 pub key_cmp-from_are_above : (a p : ℕ × ℕ) (l : List (ℕ × ℕ)) → AreAbove a l → In p l → key_cmp a p ≡ Less
 key_cmp-from_are_above a p [] all h = absurd h
 key_cmp-from_are_above a p (b ∷ l) all (inl e) = ap (key_cmp a) (sym e) ∙ all.0
 key_cmp-from_are_above a p (b ∷ l) all (inr h) = key_cmp-from_are_above a p l all.1 h
 
+-- no pair is below itself
 pub key_cmp-not_less_itself : (a p : ℕ × ℕ) → a ≡ p → key_cmp a p ≡ Less → ⊥
 key_cmp-not_less_itself a p e less =
     let equal : key_cmp a p ≡ Equal = ap (key_cmp a) (sym e) ∙ tied_itself key_cmp-total a in
     absurd (false≢true (ap is_eq (sym less ∙ equal)))
 
+-- A pair of one list that is among the lowest of two is among the lowest of its own: merging others in only
+-- moves it back.
 in-take_of_merge : (k : ℕ) (p : ℕ × ℕ) (s l : List (ℕ × ℕ)) → IsStrictlySortedBy key_cmp l
     → In p (take k (merge s l)) → In p l → In p (take k l)
 unfolding IsStrictlySortedBy
@@ -81,11 +87,13 @@ in-take_of_merge (suc k) p (a ∷ s) (b ∷ l) up h own =
 
 -- ---- keys that are found
 
+-- what the test finds equal is equal
 equal-from_is_eq : (r : Ordering) → is_eq r ≡ true → r ≡ Equal
 equal-from_is_eq Less is = absurd cc
 equal-from_is_eq Equal is = refl
 equal-from_is_eq Greater is = absurd cc
 
+-- a pair of a list is found among its keys
 find-from_in : (q : ℕ × ℕ) (xs : List (ℕ × ℕ)) → In q xs
     → fin.find key_cmp q (as_keys xs) ≡ Some (tt {0})
 find-from_in q [] h = absurd h
@@ -99,6 +107,7 @@ find-from_in q (x ∷ xs) (inr h) =
       | false ↦ find-from_in q xs h
     ]
 
+-- and what is found is a pair of the list
 in-from_find : (q : ℕ × ℕ) (xs : List (ℕ × ℕ)) → fin.find key_cmp q (as_keys xs) ≡ Some (tt {0})
     → In q xs
 in-from_find q [] e = absurd cc
@@ -109,12 +118,15 @@ in-from_find q (x ∷ xs) e =
       | false ↦ λ is e. inr (in-from_find q xs e)
     ] refl e
 
+-- putting pairs in order loses none
 pub in-in_order : (q : ℕ × ℕ) (ps : List (ℕ × ℕ)) → In q ps → In q (in_order ps)
 in-in_order q ps h = in-from_find q (in_order ps) (find-in_order q ps ∙ find-from_in q ps h)
 
+-- and adds none
 pub in-from_in_order : (q : ℕ × ℕ) (ps : List (ℕ × ℕ)) → In q (in_order ps) → In q ps
 in-from_in_order q ps h = in-from_find q ps (sym (find-in_order q ps) ∙ find-from_in q (in_order ps) h)
 
+-- two searches that find the same are equal
 equal_options-from_both : (o u : Option (Unit {0})) → (o ≡ Some (tt {0}) → u ≡ Some (tt {0}))
     → (u ≡ Some (tt {0}) → o ≡ Some (tt {0})) → o ≡ u
 equal_options-from_both None None f g = refl
@@ -149,11 +161,13 @@ in-lowest_of_part p xs ys inside h own =
 
 -- ---- the tests
 
+-- two tests that hold together are equal
 pub equal_bools-from_both : (a b : Bool) → (a ≡ true → b ≡ true) → (b ≡ true → a ≡ true) → a ≡ b
 equal_bools-from_both true b f g = sym (f refl)
 equal_bools-from_both false true f g = g refl
 equal_bools-from_both false false f g = refl
 
+-- a pair of a list is listed
 pub is_listed-from_in : (p : ℕ × ℕ) (xs : List (ℕ × ℕ)) → In p xs → is_listed (Some xs) p ≡ true
 is_listed-from_in p [] h = absurd h
 is_listed-from_in p (x ∷ xs) (inl e) =
@@ -166,6 +180,7 @@ is_listed-from_in p (x ∷ xs) (inr h) =
       | false ↦ is_listed-from_in p xs h
     ]
 
+-- and what is listed is a pair of the list
 pub in-from_is_listed : (p : ℕ × ℕ) (xs : List (ℕ × ℕ)) → is_listed (Some xs) p ≡ true → In p xs
 in-from_is_listed p [] e = absurd (false≢true e)
 in-from_is_listed p (x ∷ xs) e =

@@ -48,6 +48,7 @@ pub is_strictly_sorted_by-shown : (all : Bool) (ps : List (ℕ × ℕ)) → IsSt
 is_strictly_sorted_by-shown true ps up = up
 is_strictly_sorted_by-shown false ps up = is_strictly_sorted_by-take 20 ps up
 
+-- what is shown ascends, as pairs in order or the first of them
 pub is_strictly_sorted_by-shown_pairs : (all : Bool) (ps : List (ℕ × ℕ))
     → IsStrictlySortedBy key_cmp (shown_pairs all (in_order ps))
 is_strictly_sorted_by-shown_pairs all ps =
@@ -55,6 +56,7 @@ is_strictly_sorted_by-shown_pairs all ps =
 
 -- ---- a part after others
 
+-- what is pushed is at the end
 slice_get-push : (xs : List ℕ) (x : ℕ) → slice_get (xs ++ x ∷ []) (length xs) ≡ Some x
 slice_get-push [] x = refl
 slice_get-push (y ∷ xs) x = slice_get-push xs x
@@ -74,27 +76,32 @@ is_last-above [] r k less = refl
 is_last-above (x ∷ xs) r zero less = ne_eqb x r (λ e. absurd (omega (arith, less x (inl refl), e)))
 is_last-above (x ∷ xs) r (suc k) less = is_last-above xs r k (λ y h. less y (inr h))
 
+-- a number above all others isn't yet their last
 push_unless_last-above : (xs : List ℕ) (r : ℕ) → ((x : ℕ) → In x xs → x < r) → push_unless_last r xs ≡ xs
     ++ r ∷ []
 push_unless_last-above xs r less =
     ap (λ (b : Bool). cond b xs (xs ++ r ∷ [])) (is_last-above xs r (length xs - 1) less)
 
+-- whether it was pushed before or not, it is there once
 pub push_unless_last-cond : (b : Bool) (xs : List ℕ) (r : ℕ) → ((x : ℕ) → In x xs → x < r)
     → push_unless_last r (xs ++ cond b (r ∷ []) []) ≡ xs ++ r ∷ []
 push_unless_last-cond true xs r less = push_unless_last-same xs r
 push_unless_last-cond false xs r less = ap (push_unless_last r) (append-nil xs) ∙ push_unless_last-above xs
     r less
 
+-- an early element is that of the front
 slice_get-front : {A : Type 0} (xs ys : List A) (i : ℕ) → i < length xs → slice_get (xs ++ ys) i ≡
     slice_get xs i
 slice_get-front [] ys i lt = absurd (omega (arith, lt))
 slice_get-front (x ∷ xs) ys zero lt = refl
 slice_get-front (x ∷ xs) ys (suc i) lt = slice_get-front xs ys i (omega (arith, lt))
 
+-- what is pushed is at the end
 slice_get-back : {A : Type 0} (xs : List A) (x : A) → slice_get (xs ++ x ∷ []) (length xs) ≡ Some x
 slice_get-back [] x = refl
 slice_get-back (y ∷ xs) x = slice_get-back xs x
 
+-- tests that agree on the list filter it alike
 filter-equal_on_list : (p q : ℕ → Bool) (xs : List ℕ) → ((x : ℕ) → In x xs → p x ≡ q x) → filter p xs ≡
     filter q xs
 filter-equal_on_list p q [] same = refl
@@ -102,6 +109,7 @@ filter-equal_on_list p q (x ∷ xs) same =
     ap₂ (λ (b : Bool) (ys : List ℕ). cond b (x ∷ ys) ys) (same x (inl refl))
     (filter-equal_on_list p q xs (λ y h. same y (inr h)))
 
+-- the numbers below n + 1 are those below n, and n
 below-suc : (n : ℕ) → below (suc n) ≡ below n ++ n ∷ []
 unfolding below
 below-suc n = refl
@@ -123,6 +131,7 @@ parts_with-push parts own pair =
     (slice_get-front parts (own ∷ []) i (in-below_cases i n h))))
     (ap (λ (o : Option (List (ℕ × ℕ))). is_listed o pair) (slice_get-back parts own))
 
+-- the parts that have a pair are below the count of parts
 parts_with-less : (parts : List (List (ℕ × ℕ))) (pair : ℕ × ℕ) (x : ℕ) → In x (parts_with parts pair)
     → x < length parts
 parts_with-less parts pair x h =
@@ -142,6 +151,7 @@ abbrev pub with_part_so_far : List (List (ℕ × ℕ)) → List (ℕ × ℕ) →
 with_part_so_far parts own pair =
     (pair, parts_with parts pair ++ cond (is_listed (Some own) pair) (length parts ∷ []) [])
 
+-- changes that agree on the list change it alike
 pub map-equal_on_list : {A : Type 0} (f g : ℕ × ℕ → A) (ps : List (ℕ × ℕ)) → ((p : ℕ × ℕ) → In p ps → f
     p ≡ g p)
     → map f ps ≡ map g ps
@@ -166,6 +176,7 @@ with_part_so_far-all parts own ps =
 
 -- ---- one pair more
 
+-- pushing another pair changes nothing for this one
 pub is_listed-push_other : (own : List (ℕ × ℕ)) (q p : ℕ × ℕ) → p ≢ q
     → is_listed (Some own) p ≡ is_listed (Some (own ++ q ∷ [])) p
 is_listed-push_other own q p other =
@@ -187,6 +198,7 @@ with_part_so_far-other_pair parts own q p other =
     ap (λ (b : Bool). (p, parts_with parts p ++ cond b (length parts ∷ []) []))
     (is_listed-push_other own q p other)
 
+-- the element at a place is in the list
 pub in-get_or : (xs : List (ℕ × ℕ)) (k : ℕ) (d : ℕ × ℕ) → k < length xs → In (get_or xs k d) xs
 in-get_or [] k d lt = absurd (omega (arith, lt))
 in-get_or (x ∷ xs) zero d lt = inl refl
@@ -238,6 +250,7 @@ with_part_so_far-more parts own ps i q old new up lt at was is =
 
 -- ---- a pair that isn't shown
 
+-- and an element of the list is at some place
 pub index-from_in : (q : ℕ × ℕ) (ps : List (ℕ × ℕ)) → In q ps → (k : ℕ) × ((k < length ps) × (get_or ps
     k q ≡ q))
 index-from_in q [] h = absurd h
@@ -287,12 +300,14 @@ with_part_so_far-absent parts own ps seen i q same up le found =
 
 -- ---- how many
 
+-- the sum of lengths is that of the changed elements, from any start
 fold-map_lengths : (f : ℕ × ℕ → (ℕ × ℕ) × List ℕ) (n : ℕ) (ps : List (ℕ × ℕ))
     → fold (λ a (s : (ℕ × ℕ) × List ℕ). a + length s.1) n (map f ps)
     ≡ fold (λ a p. a + length (f p).1) n ps
 fold-map_lengths f n [] = refl
 fold-map_lengths f n (p ∷ ps) = fold-map_lengths f (n + length (f p).1) ps
 
+-- and from 0
 pub sum_by-map_lengths : (f : ℕ × ℕ → (ℕ × ℕ) × List ℕ) (ps : List (ℕ × ℕ))
     → sum_by (λ (s : (ℕ × ℕ) × List ℕ). length s.1) (map f ps)
     ≡ sum_by (λ (p : ℕ × ℕ). length (f p).1) ps

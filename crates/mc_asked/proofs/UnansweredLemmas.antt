@@ -24,11 +24,13 @@ use Rattle.mc_asked.proofs.LawLemmas.{not_any}
 use Rattle.mc_asked.proofs.PartLemmas.{in-from_in_order}
 use Rattle.mc_asked.proofs.AscendingLemmas.{filter-in_order, filter-swap, filter-implied}
 
+-- a want of another class than `Answered` isn't answered
 unanswered-by_class : (is_class : WantClass → Bool) (is : Bool) (other : WantClass)
     → is_class Answered ≡ false → is_class (if is then Answered else other) ≡ true → not is ≡ true
 unanswered-by_class is_class true other none h = absurd (true≢false (sym h ∙ none))
 unanswered-by_class is_class false other none h = refl
 
+-- So answered wants may be dropped before those of a class are kept, and before all are put in order.
 pub filter-unanswered : (is_class : WantClass → Bool) (a : AnswersValue) (lan : ℕ) (records : List Record)
     (kept : Want → Bool) (asked : List Want) → is_class Answered ≡ false
     → filter (λ want. is_class (class_of a lan records want))
@@ -53,6 +55,7 @@ answered-by_flow a records group source is has_it =
     (ap (is_answer records (group, source)) has_it.2
     ∙ rw (not_any source is) (grind (arith, nat_tests)))
 
+-- One source more: either no host may send from it, or its flow answers it.
 included-answered_step : (a : AnswersValue) (records : List Record) (group s : ℕ) (sources : List ℕ)
     (b : Bool) → is_source s ≡ b → Contains a.flows (s, group)
     → filter (λ want. not (is_answered a records want)) (map (λ x. (group, x)) sources) ≡ []
@@ -62,6 +65,7 @@ included-answered_step a records group s sources false is has_it rest = rest
 included-answered_step a records group s sources true is has_it rest =
     rw (answered-by_flow a records group s is has_it) rest
 
+-- an INCLUDE record whose sources are all those of flows leaves nothing unanswered
 included-answered : (a : AnswersValue) (records : List Record) (group : ℕ) (sources : List ℕ)
     → All (λ s. Contains a.flows (s, group)) sources
     → filter (λ want. not (is_answered a records want)) (included_in group sources) ≡ []
@@ -71,6 +75,7 @@ included-answered a records group (s ∷ sources) all =
     included-answered_step a records group s (filter is_source sources) (is_source s) refl
     (All-head P s sources all) (included-answered a records group sources (All-tail P s sources all))
 
+-- nor does any record that asks for flows alone
 asked-answered : (a : AnswersValue) (records : List Record) (k : Kind) (group : ℕ) (sources : List ℕ)
     → AreAllOfKind k a.flows records group sources
     → filter (λ want. not (is_answered a records want)) (asked_by_kind k group sources) ≡ []
@@ -79,6 +84,7 @@ asked-answered a records Include group sources all = included-answered a records
 asked-answered a records (Change type) group sources all = refl
 asked-answered a records (Unknown type) group sources all = refl
 
+-- nor do such records together
 all-answered : (a : AnswersValue) (records left : List Record)
     → All (λ r. AreAllOfKind r.kind a.flows records r.group r.sources) left
     → filter (λ want. not (is_answered a records want)) (flat_map asked_by left) ≡ []
@@ -92,6 +98,7 @@ all-answered a records (r ∷ left) all =
     (asked-answered a records r.kind r.group r.sources (All-head P r left all))
     (all-answered a records left (All-tail P r left all))
 
+-- a list without elements is empty
 nothing_in : (xs : List Want) → ((q : Want) → In q xs → ⊥) → xs ≡ []
 nothing_in [] none = refl
 nothing_in (x ∷ xs) none = absurd (none x (inl refl))

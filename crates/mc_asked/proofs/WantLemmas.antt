@@ -15,12 +15,14 @@ use Rattle.mc_asked.specs.ListWants.{Want, is_of_merged_filter}
 
 -- ---- one more element
 
+-- the filter of one element more, by parts
 filter-take : {X : Type 0} (p : X → Bool) (xs : List X) (i : ℕ) (x : X) → i < length xs → x ≡ get_or xs i x
     → filter p (take (i + 1) xs) ≡ filter p (take i xs) ++ filter p (x ∷ [])
 filter-take {X} p xs i x within own =
     ap (filter p) (take_more xs i x within ∙ ap (λ (y : X). take i xs ++ y ∷ []) (sym own))
     ∙ filter-append p (take i xs) (x ∷ [])
 
+-- the filter of one element more, by whether the element passes
 pub filter-take_more : {X : Type 0} (p : X → Bool) (xs : List X) (i : ℕ) (x : X) (ys : List X) (b : Bool)
     → i < length xs → x ≡ get_or xs i x → b ≡ p x → ys ≡ filter p (take i xs)
     → ys ++ cond b (x ∷ []) [] ≡ filter p (take (i + 1) xs)
@@ -28,11 +30,13 @@ filter-take_more {X} p xs i x ys b within own is before =
     ap₂ (λ (zs : List X) (t : Bool). zs ++ cond t (x ∷ []) []) before is
     ∙ sym (filter-take p xs i x within own)
 
+-- an element that may be missing, changed
 map-cond : {X Y : Type 0} (f : X → Y) (b : Bool) (x : X)
     → cond b (f x ∷ []) [] ≡ map f (cond b (x ∷ []) [])
 map-cond f true x = refl
 map-cond f false x = refl
 
+-- the same with each kept element changed
 pub map_filter-take_more : {X Y : Type 0} (f : X → Y) (p : X → Bool) (xs : List X) (i : ℕ) (x : X)
     (ys : List Y) (b : Bool) → i < length xs → x ≡ get_or xs i x → b ≡ p x
     → ys ≡ map f (filter p (take i xs))
@@ -45,6 +49,7 @@ map_filter-take_more {X} {Y} f p xs i x ys b within own is before =
 
 -- ---- the merged filter
 
+-- two tests of one fact are equal
 equal_to_decided : (a b : Bool) (P : Type 0) → Decides a P → (P ↔ IsTrue b) → a ≡ b
 equal_to_decided a b P decided is = grind arith
 
@@ -57,6 +62,7 @@ is_of_merged_filter-by_index records excluded index want =
     (equal_to_decided (has excluded want.0) (has_exclude records want.0) (Contains excluded want.0)
     (Decides-has excluded want.0) (index want.0))
 
+-- equal tests filter alike
 pub filter-equal_tests : {X : Type 0} (p q : X → Bool) (xs : List X) → ((x : X) → p x ≡ q x)
     → filter p xs ≡ filter q xs
 filter-equal_tests p q [] same = refl

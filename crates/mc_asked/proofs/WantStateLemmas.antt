@@ -21,12 +21,14 @@ use Rattle.mc_asked.specs.WantStates.{want_with_row_if_group, want_with_row_if_w
 use Rattle.mc_asked.proofs.ForwardingLemmas.{router_state-append}
 use Rattle.mc_asked.proofs.OneKeyLemmas.{equal-from_is_key, is_key-itself}
 
+-- no state is greater than another
 greater-nothing : (state : RouterState) → greater state Nothing ≡ state
 greater-nothing Nothing = refl
 greater-nothing EverySource = refl
 greater-nothing NoneOut = refl
 greater-nothing Forwards = refl
 
+-- a test and none is none
 pub and-false : (b : Bool) → (b && false) ≡ false
 and-false true = refl
 and-false false = refl
@@ -48,6 +50,7 @@ counted_source-other unadmitted want key group any one =
           ]
     ]
 
+-- An (S,G) row doesn't count for other wants than that of any source of G and that of S and G.
 counted-other : (unadmitted : List ℕ) (want : Want) (key : ℕ × ℕ) (entry : EntryValue)
     → (want ≡ (key.1, 0) → ⊥) → (want ≡ (key.1, key.0) → ⊥)
     → is_counted unadmitted want (row_of key entry) ≡ false
@@ -60,6 +63,7 @@ counted-other unadmitted want key entry any one =
       | inr differs ↦ ap (λ b. b && (not (key.0 == 0) && is_counted_source unadmitted want key.0)) differs
     ]
 
+-- so it has nothing for them
 state-other : (vifs : FinMap nat_cmp VifValue) (unadmitted : List ℕ) (want : Want) (key : ℕ × ℕ)
     (entry : EntryValue) → (key.0 == 0) ≡ false → (want ≡ (key.1, 0) → ⊥) → (want ≡ (key.1, key.0) → ⊥)
     → router_state vifs unadmitted want (row_of key entry ∷ []) ≡ Nothing
@@ -133,6 +137,7 @@ stated-one_more : (vifs : FinMap nat_cmp VifValue) (earlier : List RowValue) (ro
     ≡ router_state vifs w.1 w.0 (earlier ++ row ∷ [])
 stated-one_more vifs earlier row w = router_state-append vifs w.1 w.0 earlier (row ∷ [])
 
+-- one resolved row more changes each want's state to that by the rows with it
 stated-resolved : (vifs : FinMap nat_cmp VifValue) (earlier : List RowValue) (row : RowValue)
     (entry : EntryValue) (ws : List (Want × List ℕ)) → row.entry ≡ Some entry
     → map (want_with_row vifs (row.origin, row.group) entry) (map (want_by_rows vifs earlier) ws)
@@ -147,6 +152,7 @@ stated-resolved vifs earlier row entry (w ∷ ws) is =
     ∙ stated-one_more vifs earlier row w))
     (stated-resolved vifs earlier row entry ws is)
 
+-- an unresolved row changes no state
 stated-unresolved : (vifs : FinMap nat_cmp VifValue) (earlier : List RowValue) (row : RowValue)
     (ws : List (Want × List ℕ)) → row.entry ≡ None
     → map (want_by_rows vifs earlier) ws ≡ map (want_by_rows vifs (earlier ++ row ∷ [])) ws
@@ -158,6 +164,7 @@ stated-unresolved vifs earlier row (w ∷ ws) none =
     ∙ greater-nothing (router_state vifs w.1 w.0 earlier)) ∙ stated-one_more vifs earlier row w))
     (stated-unresolved vifs earlier row ws none)
 
+-- so one row more gives the states by the rows with it
 states-one_more : (vifs : FinMap nat_cmp VifValue) (ws : List (Want × List ℕ)) (earlier : List RowValue)
     (row : RowValue) (entry : Option EntryValue) → row.entry ≡ entry
     → with_entry states_with_row (states_by_rows vifs ws earlier) (row.origin, row.group) entry
@@ -167,6 +174,7 @@ states-one_more vifs ws earlier row None is =
 states-one_more vifs ws earlier row (Some entry) is =
     ap (λ l. record { vifs = vifs; wants = l }) (stated-resolved vifs earlier row entry ws is)
 
+-- and all rows, one after another, those by all
 states-more : (vifs : FinMap nat_cmp VifValue) (ws : List (Want × List ℕ)) (earlier rows : List RowValue)
     → with_rows states_with_row (states_by_rows vifs ws earlier) rows
     ≡ states_by_rows vifs ws (earlier ++ rows)
@@ -189,6 +197,7 @@ wants-of_unstated (w ∷ ws) = ap (λ l. w.0 ∷ l) (wants-of_unstated ws)
 
 -- ---- a row for every source
 
+-- numbers differ either way round
 eqb-flip : (m n : ℕ) → (m == n) ≡ false → (n == m) ≡ false
 eqb-flip m n other = ne_eqb n m (λ same. false≢true (sym other ∙ eq-eqb m n (sym same)))
 

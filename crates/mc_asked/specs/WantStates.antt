@@ -51,8 +51,8 @@ is_key key other = is_eq (key_cmp key other)
 -- A want after a row that counts for one want alone.
 abbrev pub want_with_row_if_want : (want : Want) → FinMap nat_cmp VifValue → (key : ℕ × ℕ) → EntryValue
     → StatedWantValue → StatedWantValue
-want_with_row_if_want want vifs key entry w =
-    if is_key want w.want then want_with_row vifs key entry w else w
+want_with_row_if_want want vifs key entry stated =
+    if is_key want stated.want then want_with_row vifs key entry stated else stated
 
 -- Each want after a row that counts for one want alone.
 abbrev pub states_with_row_if_want : (want : Want) → WantStatesValue → ℕ × ℕ → EntryValue → WantStatesValue

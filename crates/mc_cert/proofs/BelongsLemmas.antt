@@ -24,6 +24,7 @@ router_with_name-below_length (r ∷ routers) zero name e = omega arith
 router_with_name-below_length (r ∷ routers) (suc router) name e =
     omega (arith, router_with_name-below_length routers router name e)
 
+-- a LAN or a router that was found by its name is one of the topology's
 IsEntryOf-from_denotes : (t : TopologyValue) (d : Data) (e : Entry) → DenotesEntry t d e → IsEntryOf t e
 IsEntryOf-from_denotes t d e is = record {
   lan = index_of-below_length t.lans e.lan is.lan_name is.lan;
@@ -32,11 +33,13 @@ IsEntryOf-from_denotes t d e is = record {
       (router_name-router_no_of t.routers i.0 at.name at.router)) _ _ e.forwarder is.forwarder;
 }
 
+-- so it is of each entry of a tree
 IsEntryOf-all_from_denotes : (t : TopologyValue) (rows : List Data) (es : Tree) → DenotesEntries t rows es
     → All (IsEntryOf t) es
 IsEntryOf-all_from_denotes t rows es are = All-from_EachDenotes (λ _. DenotesEntry t) (IsEntryOf t)
     (λ _ d e is. IsEntryOf-from_denotes t d e is) 0 rows es are.each
 
+-- There is a tree for each flow, since rows and flows are as many, and each entry is of the topology.
 BelongsTo-from_version : (version : Version) (t : TopologyValue) (ms : Members) (flows : List Tree)
     → DenotesVersion version t ms flows → BelongsTo t flows
 BelongsTo-from_version One t ms flows is =

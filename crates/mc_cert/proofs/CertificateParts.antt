@@ -109,6 +109,7 @@ module _ {X : Type 0} (Denotation : ℕ → Data → X → Type 0) where
 
 -- ---- entries
 
+-- what is read as a router is the text of its name
 router_of-denotes : (routers : List RouterRow) (d : Data) (router : ℕ) → router_of routers d ≡ Ok router
     → (name : List ℕ) × (d ≡ string name) × (router_no_of name routers ≡ Some router)
 unfolding router_of
@@ -116,6 +117,7 @@ router_of-denotes routers d router e =
     let a = bind_ok (text_of d) (λ name. ok_or (router_no_of name routers) UnknownName) router e in
     (a.0, string-from_text_of d a.0 a.1, ok_or_ok (router_no_of a.0 routers) UnknownName router a.2)
 
+-- what is read as a vif is a whole number up to 31
 vif_of-denotes : (v : Data) (vif : ℕ) → vif_of v ≡ Ok vif → (v ≡ number (unsigned vif)) × (vif ≤ 31)
 unfolding vif_of
 vif_of-denotes v vif e =
@@ -123,6 +125,7 @@ vif_of-denotes v vif e =
     let w = in_range-sound 0 31 (as_u64 a.0) vif a.2 in
     (number-from_number_of v a.0 a.1 ∙ ap number (unsigned-from_as_u64 a.0 vif w.0), w.2)
 
+-- the keys of a forwarder are both there or both missing where they are read
 forwarder_of-denotes : (routers : List RouterRow) (router vif : Option Data)
     (forwarder : Option Interface) → forwarder_of routers router vif ≡ Ok forwarder
     → DenotesForwarder routers router vif forwarder
@@ -143,6 +146,7 @@ forwarder_of-denotes routers (Some d) (Some v) forwarder e =
       record { name = name; router_text = text; router = router; vif = vif; vif_to = vif_to },
     )
 
+-- an interface that is denoted is read as it
 forwarder_of-from_DenotesInterface : (routers : List RouterRow) (d v : Data) (i : Interface)
     → DenotesInterface routers d v i → forwarder_of routers (Some d) (Some v) ≡ Ok (Some (i.0, i.1))
 unfolding forwarder_of router_of vif_of
@@ -153,6 +157,7 @@ forwarder_of-from_DenotesInterface routers d v i is = rw (
   in_range-complete 0 31 i.1 (omega arith) is.vif_to,
 ) refl
 
+-- so is a forwarder, or none
 forwarder_of-from_denotes : (routers : List RouterRow) (router vif : Option Data)
     (forwarder : Option Interface) → DenotesForwarder routers router vif forwarder
     → forwarder_of routers router vif ≡ Ok forwarder
@@ -164,6 +169,7 @@ forwarder_of-from_denotes routers (Some d) (Some v) forwarder (i, same, is) =
     forwarder_of-from_DenotesInterface routers d v i is
     ∙ ap Ok (sym same)
 
+-- each step of reading an entry gives one rule of its denotation
 entry_of-denotes : (t : TopologyValue) (d : Data) (e : Entry) → entry_of t d ≡ Ok e → DenotesEntry t d e
 unfolding entry_of lan_in
 entry_of-denotes t d e read =
@@ -199,6 +205,7 @@ entry_of-denotes t d e read =
       forwarder = forwarder_of-denotes t.routers _ _ forwarder.0 forwarder.1;
     })
 
+-- and each rule lets its step succeed
 entry_of-from_denotes : (t : TopologyValue) (d : Data) (e : Entry) → DenotesEntry t d e → entry_of t d ≡ Ok e
 unfolding entry_of lan_in
 entry_of-from_denotes t d e is =
@@ -214,6 +221,7 @@ entry_of-from_denotes t d e is =
     )
     refl
 
+-- the entries that are read are denoted, row by row
 entries_in_rows-denotes : (t : TopologyValue) (list : At) (rows : List Data) (es : Tree)
     → length rows ≤ 1024 → entries_in_rows t list rows ≡ Ok es → DenotesEntries t rows es
 unfolding entries_in_rows
@@ -225,6 +233,7 @@ entries_in_rows-denotes t list rows es few e =
           (λ n d x read. entry_of-denotes t d x (map_fault_ok _ (entry_of t d) x read)) rows es e;
     }
 
+-- and entries that are denoted are read
 entries_in_rows-from_denotes : (t : TopologyValue) (list : At) (rows : List Data) (es : Tree)
     → DenotesEntries t rows es → entries_in_rows t list rows ≡ Ok es
 unfolding entries_in_rows
@@ -244,6 +253,7 @@ IfSome-from_DenotesForwarder P routers gives (Some d) None forwarder is = absurd
 IfSome-from_DenotesForwarder P routers gives (Some d) (Some v) forwarder (i, same, is) =
     rw same (gives d v i is)
 
+-- an entry that is denoted has a need of at least 1, and a vif of at most 31
 IsWritableEntry-from_denotes : (t : TopologyValue) (d : Data) (e : Entry) → DenotesEntry t d e
     → IsWritableEntry e
 IsWritableEntry-from_denotes t d e is =
@@ -267,12 +277,14 @@ IsWritableTree-from_denotes t rows es are =
 
 -- ---- flows
 
+-- texts that pass the comparison are the flow's addresses
 are_texts_of_flow-sound : (f : Flow) (group source : List ℕ) → are_texts_of_flow f group source ≡ true
     → (group ≡ dotted f.group) × (source ≡ dotted f.source)
 are_texts_of_flow-sound f group source e =
     let (g, s) = and_parts _ _ e in
     ((bytes_eq-Decides group (dotted f.group)).0 g, (bytes_eq-Decides source (dotted f.source)).0 s)
 
+-- and the flow's addresses pass it
 are_texts_of_flow-dotted : (f : Flow) → are_texts_of_flow f (dotted f.group) (dotted f.source) ≡ true
 are_texts_of_flow-dotted f = rw (
   (bytes_eq-Decides (dotted f.group) (dotted f.group)).1 refl,
@@ -348,6 +360,7 @@ tree_of-from_denotes t n d es is =
     rw (list_of-from_AreRows d is.rows is.list, at_most-complete 1024 is.rows is.entries.few)
     (entries_in_rows-from_denotes t (at.Tree (n + 1)) is.rows es is.entries)
 
+-- what passes the test is a whole number below the count
 below_count-sound : (count : ℕ) (o : Option ℕ) (n : ℕ) → below_count count o ≡ Ok n
     → (o ≡ Some n) × (n < count)
 below_count-sound count None n e = absurd cc

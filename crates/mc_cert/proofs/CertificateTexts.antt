@@ -42,6 +42,7 @@ use Rattle.mc_cert.proofs.CertificateParts.{shared_flow_of-from_NamesTree}
 
 -- ---- version 1
 
+-- the rows of flows that are read are under `flows`, and as many as the flows
 HasRows-from_flow_rows : (t : TopologyValue) (ms : Members) (rows : List Data) → flow_rows t ms ≡ Ok rows
     → HasRows (codes "flows") ms rows × (length rows ≡ length t.flows)
 unfolding flow_rows
@@ -52,6 +53,7 @@ HasRows-from_flow_rows t ms rows e =
     checked_ok (λ (rs : List Data). eqb (length rs) (length t.flows)) WrongFlows a.0 rows a.2 in
     (HasRows-from_list_at (codes "flows") ms rows (a.1 ∙ ap Ok same), eqb-true _ _ count)
 
+-- and such rows are read
 flow_rows-from_HasRows : (t : TopologyValue) (ms : Members) (rows : List Data)
     → HasRows (codes "flows") ms rows → length rows ≡ length t.flows → flow_rows t ms ≡ Ok rows
 unfolding flow_rows
@@ -60,6 +62,7 @@ flow_rows-from_HasRows t ms rows has count = rw (
   eq-eqb (length rows) (length t.flows) count,
 ) refl
 
+-- the trees that are read of version 1 are denoted
 flows_in-denotes : (t : TopologyValue) (ms : Members) (flows : List Tree)
     → flows_in t ms ≡ Ok flows → DenotesVersionOne t ms flows
 unfolding flows_in
@@ -74,6 +77,7 @@ flows_in-denotes t ms flows e =
           each_row-denotes_all (flow_of t) (DenotesFlow t) (flow_of-denotes t) r.0 flows r.2;
     }
 
+-- and trees that are denoted in version 1 are read
 flows_in-from_denotes : (t : TopologyValue) (ms : Members) (flows : List Tree) → DenotesVersionOne t ms flows
     → flows_in t ms ≡ Ok flows
 unfolding flows_in
@@ -91,6 +95,7 @@ IsWritableTree-from_flow_rows t rows flows e =
 
 -- ---- version 2
 
+-- the rows of trees that are read are under `trees`, and at most 4,096
 HasRows-from_tree_rows : (ms : Members) (rows : List Data) → tree_rows ms ≡ Ok rows
     → HasRows (codes "trees") ms rows × (length rows ≤ 4096)
 unfolding tree_rows
@@ -99,6 +104,7 @@ HasRows-from_tree_rows ms rows e =
     let (same, few) = at_most-sound 4096 a.0 rows a.2 in
     (subst (HasRows (codes "trees") ms) same (HasRows-from_list_at (codes "trees") ms a.0 a.1), few)
 
+-- and such rows are read
 tree_rows-from_HasRows : (ms : Members) (rows : List Data) → HasRows (codes "trees") ms rows
     → length rows ≤ 4096 → tree_rows ms ≡ Ok rows
 unfolding tree_rows
@@ -110,6 +116,7 @@ tree_at-from_slice_get : (trees : List Tree) (n : ℕ) (es : Tree) → slice_get
     → (n < length trees) × (tree_at trees n ≡ es)
 tree_at-from_slice_get trees n es e = (slice_get_within trees n es e, ap (λ o. unwrap_or o []) e)
 
+-- a flow with the number of a tree denotes that tree
 DenotesSharedFlow-from_NamesTree : (t : TopologyValue) (trees : List Tree) (n : ℕ) (d : Data) (m : ℕ)
     → NamesTree t (length trees) n d m → DenotesSharedFlow t trees n d (tree_at trees m)
 DenotesSharedFlow-from_NamesTree t trees n d m is =
@@ -125,6 +132,7 @@ DenotesSharedFlow-from_NamesTree t trees n d m is =
       tree = slice_get-unwrap_or trees m [] is.in_range;
     }
 
+-- and a flow that denotes a tree has its number
 NamesTree-from_DenotesSharedFlow : (t : TopologyValue) (trees : List Tree) (n : ℕ) (d : Data) (es : Tree)
     → (is : DenotesSharedFlow t trees n d es) → NamesTree t (length trees) n d is.number
 NamesTree-from_DenotesSharedFlow t trees n d es is =
@@ -139,6 +147,7 @@ NamesTree-from_DenotesSharedFlow t trees n d es is =
       in_range = (tree_at-from_slice_get trees is.number es is.tree).0;
     }
 
+-- flows with numbers of trees denote those trees, row by row
 EachDenotes-from_NamesTree : (t : TopologyValue) (trees : List Tree) (n : ℕ) (ds : List Data) (ms : List ℕ)
     → EachDenotes (NamesTree t (length trees)) n ds ms
     → EachDenotes (DenotesSharedFlow t trees) n ds (map (tree_at trees) ms)
@@ -150,6 +159,7 @@ EachDenotes-from_NamesTree t trees n (d ∷ ds) (m ∷ ms) s = (
   EachDenotes-from_NamesTree t trees (n + 1) ds ms s.1,
 )
 
+-- and flows that denote trees have numbers of them, row by row
 NamesTree-from_EachDenotes : (t : TopologyValue) (trees : List Tree) (n : ℕ) (ds : List Data)
     (flows : List Tree)
     → EachDenotes (DenotesSharedFlow t trees) n ds flows → (ms : List ℕ)
@@ -162,6 +172,7 @@ NamesTree-from_EachDenotes t trees n (d ∷ ds) (es ∷ flows) s =
     let here = (tree_at-from_slice_get trees s.0.number es s.0.tree).1 in
     (s.0.number ∷ ms, (NamesTree-from_DenotesSharedFlow t trees n d es s.0, denoted), cc)
 
+-- the trees that are read of version 2 are denoted
 shared_flows_in-denotes : (t : TopologyValue) (ms : Members) (flows : List Tree)
     → shared_flows_in t ms ≡ Ok flows → DenotesVersionTwo t ms flows
 unfolding shared_flows_in
@@ -189,6 +200,7 @@ shared_flows_in-denotes t ms flows e =
           (EachDenotes-from_NamesTree t trees.0 0 r.0 numbers.0 named);
     }
 
+-- and trees that are denoted in version 2 are read
 shared_flows_in-from_denotes : (t : TopologyValue) (ms : Members) (flows : List Tree)
     → DenotesVersionTwo t ms flows
     → shared_flows_in t ms ≡ Ok flows
@@ -225,6 +237,7 @@ tree_numbers-below_count t trees rows ms e =
 
 -- ---- the version
 
+-- a version that is read has its number
 version_no-from_version_of : (o : Option ℕ) (version : Version) → version_of o ≡ Ok version
     → o ≡ Some (version_no version)
 version_no-from_version_of None version e = absurd cc
@@ -241,10 +254,12 @@ version_no-from_version_of (Some n) version e =
           ap Some (eqb-true n 2 two) ∙ ap (λ v. Some (version_no v)) is
       version_no-from_tests n false false version one two e = absurd cc
 
+-- and each version's number is read as it
 version_of-version_no : (version : Version) → version_of (Some (version_no version)) ≡ Ok version
 version_of-version_no One = refl
 version_of-version_no Two = refl
 
+-- where the version is read, its number is under `version`, and there are no other keys than its own
 HasNumber-from_version_in : (ms : Members) (version : Version) → version_in ms ≡ Ok version
     → HasNumber (codes "version") ms (version_no version) × (has_only (top_keys version) ms ≡ true)
 unfolding version_in
@@ -256,6 +271,7 @@ HasNumber-from_version_in ms version e =
     (version_no-from_version_of (as_u64 n.0) version (v.1 ∙ ap Ok same)) in
     (HasNumber-from_number_at (codes "version") ms n.0 n.1 ∙ ap (λ k. Some (number k)) whole, keys)
 
+-- and where that is so, it is read
 version_in-from_HasNumber : (ms : Members) (version : Version)
     → HasNumber (codes "version") ms (version_no version) → has_only (top_keys version) ms ≡ true
     → version_in ms ≡ Ok version
@@ -267,12 +283,14 @@ version_in-from_HasNumber ms version has keys =
       keys,
     ) refl
 
+-- what is read of either version is denoted
 flows_of_version-denotes : (version : Version) (t : TopologyValue) (ms : Members) (flows : List Tree)
     → flows_of_version version t ms ≡ Ok flows → DenotesVersion version t ms flows
 unfolding flows_of_version
 flows_of_version-denotes One t ms flows e = flows_in-denotes t ms flows e
 flows_of_version-denotes Two t ms flows e = shared_flows_in-denotes t ms flows e
 
+-- and what is denoted of either is read
 flows_of_version-from_denotes : (version : Version) (t : TopologyValue) (ms : Members) (flows : List Tree)
     → DenotesVersion version t ms flows → flows_of_version version t ms ≡ Ok flows
 unfolding flows_of_version

@@ -74,6 +74,7 @@ module _ {X : Type 0} (p : X → Bool) where
 
 -- ---- which trees are equal
 
+-- the test of two interfaces is whether they are equal, part by part
 same_interface-Decides : (i j : Interface) → (same_interface i j ≡ true → i ≡ j)
     × (i ≡ j → same_interface i j ≡ true)
 same_interface-Decides (r, v) (s, w) = (
@@ -88,6 +89,7 @@ same_interface-Decides (r, v) (s, w) = (
       rw (eq-eqb r s routers, eq-eqb v w vifs) refl,
 )
 
+-- so is that of two forwarders
 same_forwarder-Decides : (a b : Option Interface) → (option_eq same_interface a b ≡ true → a ≡ b)
     × (a ≡ b → option_eq same_interface a b ≡ true)
 same_forwarder-Decides None None = (λ _. refl, λ _. refl)
@@ -98,6 +100,7 @@ same_forwarder-Decides (Some i) (Some j) = (
   λ e. (same_interface-Decides i j).1 cc,
 )
 
+-- so is that of two entries
 same_entry-Decides : (a b : Entry) → (same_entry a b ≡ true → a ≡ b) × (a ≡ b → same_entry a b ≡ true)
 same_entry-Decides a b = (
   λ e.
@@ -169,6 +172,7 @@ find_tree-fold_with_tree trees es tree_no (f ∷ flows) e =
 
 -- ---- an added tree
 
+-- trees that are added behind change none before
 tree_at-append : (trees more : List Tree) (n : ℕ) → n < length trees
     → tree_at (trees ++ more) n ≡ tree_at trees n
 tree_at-append [] more n lt = absurd (omega (arith, lt))

@@ -89,6 +89,7 @@ append-closing_quote : (s escaped rest : List ℕ) → escaped ≡ s → s ++ 34
 append-closing_quote s escaped rest e =
     append-closing_byte s (escaped ++ 34 ∷ []) 34 rest (ap (λ n. n ++ 34 ∷ []) (sym e))
 
+-- the text of a forwarder is the compact text of its members, where no name has a byte to escape
 forwarder_text-compact : (t : TopologyValue) (forwarder : Option Interface)
     → IfSome forwarder (λ i. escape (router_name t i.0) ≡ router_name t i.0)
     → forwarder_text t forwarder ++ codes "}" ≡ members_text true
@@ -108,6 +109,7 @@ forwarder_text-compact t (Some i) plain = spelled (router_name t i.0) (escape (r
           ≡ start ++ (name ++ 34 ∷ tail) = simp append_assoc in
           flat ∙ ap (λ s. start ++ s) (append-closing_quote name escaped tail e)
 
+-- so is that of an entry
 entry_text-from_plain_names : (t : TopologyValue) (e : Entry) → escape (lan_name t e.lan) ≡ lan_name t e.lan
     → IfSome e.forwarder (λ i. escape (router_name t i.0) ≡ router_name t i.0)
     → entry_text t e ≡ compact_text (entry_data t e)
@@ -139,6 +141,7 @@ entry_text-from_plain_names t e plain plain_router =
           simp append_assoc in
           flat ∙ ap (λ s. start ++ s) (append-closing_quote name escaped tail e)
 
+-- so is that of a flow
 flow_text-compact : (p : Flow × ℕ) → flow_text p.0 p.1 ≡ compact_text (flow_data p)
 unfolding escape_byte
 flow_text-compact p =
@@ -175,6 +178,7 @@ module _ {A : Type 0} (text : A → List ℕ) (f : A → Data) where
       ∙ append_assoc (comma_if later) (text x) _
       ∙ ap₂ (λ s rest. comma_if later ++ (s ++ rest)) here (listed_after-items_text true xs all)
 
+-- so is that of the whole, whatever the texts of flows and of trees are
 certificate_json-compact : (flows trees flow_items tree_items : List ℕ) → flows ++ 93 ∷ [] ≡ flow_items
     → trees ++ 93 ∷ [] ≡ tree_items
     → codes "{\"flows\":[" ++ flows ++ codes "],\"trees\":[" ++ trees ++ codes "],\"version\":2}"
@@ -241,22 +245,26 @@ length-rows_in f (x ∷ xs) = ap suc (length-rows_in f xs)
 
 -- ---- names
 
+-- each number of a router has one
 router-at_number : (routers : List RouterRow) (n : ℕ) → n < length routers
     → (r : RouterRow) × (slice_get routers n ≡ Some r)
 router-at_number [] n lt = absurd (omega (arith, lt))
 router-at_number (r ∷ routers) zero lt = (r, refl)
 router-at_number (r ∷ routers) (suc n) lt = router-at_number routers n (omega (arith, lt))
 
+-- a LAN's name has no byte to escape, since a valid topology has names of letters and the like
 lan_name-is_plain : (t : TopologyValue) (lan : ℕ) → IsValidTopology t → lan < length t.lans
     → All IsPlain (lan_name t lan)
 lan_name-is_plain t lan rules lt = IsPlain-from_is_name (lan_name t lan)
     (rules.valid_lan_names lan (lan_name t lan) (slice_get-unwrap_or t.lans lan [] lt))
 
+-- the name of the router in this row
 router_name-of_row : (t : TopologyValue) (n : ℕ) (r : RouterRow) → slice_get t.routers n ≡ Some r
     → router_name t n ≡ r.name
 router_name-of_row t n r e = ap
     (λ (o : Option RouterRow). unwrap_or (option_map (λ (x : RouterRow). x.name) o) []) e
 
+-- a router's name has no byte to escape either
 router_name-is_plain : (t : TopologyValue) (n : ℕ) → IsValidTopology t → n < length t.routers
     → All IsPlain (router_name t n)
 router_name-is_plain t n rules lt =
@@ -266,15 +274,18 @@ router_name-is_plain t n rules lt =
 
 -- ---- entries
 
+-- the interface is of one of the topology's routers, and its vif at most 31
 abbrev IsListedInterface : TopologyValue → Interface → Type 0
 IsListedInterface t i = (i.0 < length t.routers) × (i.1 ≤ 31)
 
+-- by both facts
 IsListedInterface-from_parts : (t : TopologyValue) (forwarder : Option Interface)
     → IfSome forwarder (λ i. i.0 < length t.routers) → IfSome forwarder (λ i. i.1 ≤ 31)
     → IfSome forwarder (IsListedInterface t)
 IsListedInterface-from_parts t None router vif = tt
 IsListedInterface-from_parts t (Some i) router vif = (router, vif)
 
+-- so escaping leaves the name of a forwarder's router
 escape-forwarder_router : (t : TopologyValue) → IsValidTopology t → (forwarder : Option Interface)
     → IfSome forwarder (IsListedInterface t) → IfSome forwarder
     (λ i. escape (router_name t i.0) ≡ router_name t i.0)
@@ -282,6 +293,7 @@ escape-forwarder_router t rules None is = tt
 escape-forwarder_router t rules (Some i) is = escape-plain (router_name t i.0)
     (router_name-is_plain t i.0 rules is.0)
 
+-- the members of a forwarder are read back from their text
 HasReadBack-forwarder_members : (t : TopologyValue) → IsValidTopology t → (forwarder : Option Interface)
     → IfSome forwarder (IsListedInterface t) → HasReadBack 0 (forwarder_members t forwarder)
 HasReadBack-forwarder_members t rules None is = HasReadBack-none 0
@@ -297,6 +309,7 @@ entry_fields t name need rank forwarder =
     member (codes "lan") (string name) (member (codes "need") (number (unsigned need))
     (member (codes "rank") (number (unsigned rank)) (forwarder_members t forwarder)))
 
+-- JSON's reader gives the fields of an entry back as they are: their keys ascend, each once
 of_members-entry_fields : (t : TopologyValue) (name : List ℕ) (need rank : ℕ) (forwarder : Option Interface)
     → need < 2 ^ 64 → rank < 2 ^ 64 → IfSome forwarder (IsListedInterface t)
     → of_members (members_outline (entry_fields t name need rank forwarder)) no_members
@@ -311,11 +324,13 @@ of_members-entry_fields t name need rank (Some i) need_small rank_small is =
       number_of-decimal i.1 vif_small,
     ) refl
 
+-- an entry has only the keys of an entry
 has_only-entry_fields : (t : TopologyValue) (name : List ℕ) (need rank : ℕ) (forwarder : Option Interface)
     → has_only entry_keys (entry_fields t name need rank forwarder) ≡ true
 has_only-entry_fields t name need rank None = refl
 has_only-entry_fields t name need rank (Some i) = refl
 
+-- its forwarder's members denote the forwarder
 forwarder_members-denotes : (t : TopologyValue) → IsValidTopology t
     → (name : List ℕ) (need rank : ℕ) (forwarder : Option Interface) → IfSome forwarder (IsListedInterface t)
     → DenotesForwarder t.routers (get_member (codes "router") (entry_fields t name need rank forwarder))
@@ -430,6 +445,7 @@ tree_data-denotes t es rules is =
 
 -- ---- flows
 
+-- a flow's object is read back
 IsReadBack-flow_data : (p : Flow × ℕ) → p.1 < 2 ^ 64 → IsReadBack 2 (flow_data p)
 IsReadBack-flow_data p small =
     IsReadBack-object 1 (flow_members p) (rw (number_of-decimal p.1 small) refl)
@@ -443,6 +459,7 @@ IsReadBack-flow_data p small =
 
 -- ---- the text as a whole
 
+-- what is read back at some depth is read back where more is allowed
 IsReadBack-deeper : (n m : ℕ) (d : Data) → n ≤ m → IsReadBack n d → IsReadBack m d
 IsReadBack-deeper n m d le good = record {
   reads = good.reads;
@@ -452,6 +469,7 @@ IsReadBack-deeper n m d le good = record {
   utf8 = good.utf8;
 }
 
+-- JSON's reader gives the members of the whole back as they are: their keys ascend, each once
 of_members-document : (flows trees : Items) (n : ℕ) → of_items (items_outline flows) ≡ Some flows
     → of_items (items_outline trees) ≡ Some trees → n < 2 ^ 64
     → of_members (members_outline (member (codes "flows") (array flows)

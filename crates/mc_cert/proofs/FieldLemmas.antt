@@ -40,6 +40,7 @@ use Rattle.mc_cert.proofs.CertificateParts.{IsWritableTree-from_denotes}
 
 -- ---- keys
 
+-- One member more, by where the key comes: before it, in its place or behind it. No key becomes unknown.
 are_known-put_at : (o : Ordering) (known : List (List ℕ)) (k l : List ℕ) (d e : Data) (ms : Members)
     → list_any (λ x. bytes_eq x k) known ≡ true → are_known known (keys_in (member l e ms)) ≡ true
     → are_known known (keys_in (put k d ms)) ≡ true
@@ -153,6 +154,7 @@ module _ (t : TopologyValue) (lan need rank router vif : Option ℕ) (d : Data) 
     vif_field = Field-put (IsWhole 0 31) (codes "vif") d ms n is;
   }
 
+-- fields of a router and a vif, both read or both missing, denote a forwarder
 DenotesForwarder-from_fields : (routers : List RouterRow) (router vif : Option ℕ)
     (forwarder : Option Interface)
     (d v : Option Data) → Field (IsRouterName routers) router d → Field (IsWhole 0 31) vif v

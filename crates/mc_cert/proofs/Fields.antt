@@ -16,9 +16,11 @@ use Rattle.mc_cert.specs.Denotation.{IsObject, AreRows, HasRows, HasText, HasNum
 string-from_as_str : (d : Data) (s : List ℕ) → as_str d ≡ Some s → d ≡ string s
 string-from_as_str d s e = grind (arith, e)
 
+-- a value that is read as a number is one
 number-from_as_number : (d : Data) (n : Num) → as_number d ≡ Some n → d ≡ number n
 number-from_as_number d n e = grind (arith, e)
 
+-- a value that is read as a list is one
 array-from_as_array : (d : Data) (ds : Items) → as_array d ≡ Some ds → d ≡ array ds
 array-from_as_array d ds e = grind (arith, e)
 

@@ -15,6 +15,7 @@ use Rattle.json.specs.Lex.{Lexeme, quote, backslash, operator, space, other}
 use Rattle.json.specs.Lex.{Mode, lex_byte, lex, between, in_string}
 use Rattle.mc_cert.specs.JsonString.{IsHexDigit, DenotesByte}
 
+-- inside a string, a byte that is neither a mark nor a backslash starts no lexeme
 string_byte : (q b o s : Bool) (x : ℕ) (xs : List ℕ) (k : Mode → List Lexeme) → q ≡ false → b ≡ false
     → lex_byte in_string (cond q quote (cond b backslash (cond o operator (cond s space other)))) x xs k
     ≡ k in_string
@@ -31,17 +32,20 @@ plain_tests x is =
     let tests = or_parts (x == 34) _ none.0 in
     (tests.0, tests.1, none.1)
 
+-- so a byte that isn't escaped leaves the lexemes behind the string
 lex-plain : (x : ℕ) (xs : List ℕ) → is_plain x ≡ true → lex in_string (x ∷ xs) ≡ lex in_string xs
 unfolding lex
 lex-plain x xs is =
     let tests = plain_tests x is in
     string_byte (x == 34) (x == 92) (is_operator x) (is_space x) x xs (λ m. lex m xs) tests.0 tests.1
 
+-- and stands for itself
 content-plain_byte : (x : ℕ) (xs : List ℕ) → is_plain x ≡ true
     → content plain (x ∷ xs) ≡ prepend (x ∷ []) (content plain xs)
 unfolding content
 content-plain_byte x xs is = let tests = plain_tests x is in rw (tests.0, tests.1, tests.2) refl
 
+-- bytes before bytes are one run of bytes
 prepend-prepend : (a b : List ℕ) (r : Option (List ℕ)) → prepend a (prepend b r) ≡ prepend (a ++ b) r
 prepend-prepend a b None = refl
 prepend-prepend a b (Some s) = ap Some (sym (append_assoc a b s))
@@ -52,6 +56,7 @@ pub record StringSoFar (text : List ℕ) (end : ℕ) : Type 0 where
   pub content : content plain text ≡ prepend (take end text) (content plain (drop end text))
   pub lexemes : lex in_string text ≡ lex in_string (drop end text)
 
+-- one byte more of a text
 take_more : (end : ℕ) (text : List ℕ) → end < length text
     → take (end + 1) text ≡ take end text ++ get_or text end 0 ∷ []
 take_more end text within =
@@ -132,6 +137,7 @@ lex-hex x v xs is =
     string_byte (x == 34) (x == 92) (is_operator x) (is_space x) x xs (λ m. lex m xs)
     (no_hex x 34 v is refl) (no_hex x 92 v is refl)
 
+-- a hex digit is one for JSON's reader
 is_hex : (x v : ℕ) → IsHexDigit x v → is_digit x 16 ≡ true
 is_hex x v is = lt-ltb (digit_value x) 16 (omega (arith, is.value, is.small))
 

@@ -55,6 +55,7 @@ IsUtf8-from_IsPlain s all = IsUtf8-from_ascii s (λ i. small i (cases_lt i (leng
   small i (inl lt) = (all i 0 lt).to
   small i (inr past) = rw (get_or_past s i 0 past) (omega arith)
 
+-- letters, digits and the other bytes of names need no escape
 IsPlain-from_is_name_byte : (b : ℕ) → is_name_byte b ≡ true → IsPlain b
 IsPlain-from_is_name_byte b e =
     record {
@@ -66,6 +67,7 @@ IsPlain-from_is_name_byte b e =
           subst (λ (x : ℕ). is_name_byte x ≡ true) q e in absurd cc;
     }
 
+-- so names need none
 IsPlain-from_name_bytes : (s : List ℕ) → list_all is_name_byte s ≡ true → All IsPlain s
 IsPlain-from_name_bytes [] e k d lt = absurd (omega (arith, lt))
 IsPlain-from_name_bytes (x ∷ s) e zero d lt = IsPlain-from_is_name_byte x
@@ -78,6 +80,7 @@ pub IsPlain-from_is_name : (s : List ℕ) → is_name s ≡ true → All IsPlain
 unfolding is_name
 IsPlain-from_is_name s e = IsPlain-from_name_bytes s (and_parts _ (list_all is_name_byte s) e).1
 
+-- nor do the bytes of addresses
 IsPlain-from_IsDigitOrDot : (b : ℕ) → IsDigitOrDot b → IsPlain b
 IsPlain-from_IsDigitOrDot b (inl range) = record {
   from = omega (arith, range);
@@ -126,6 +129,7 @@ IsReadBack-number n k small =
       utf8 = IsUtf8-from_ascii (decimal k) (IsAscii-decimal k small);
     }
 
+-- a comma, or nothing, is UTF-8
 IsUtf8-comma_if : (later : Bool) → IsUtf8 (comma_if later)
 IsUtf8-comma_if true = IsUtf8-are_ascii (44 ∷ []) refl
 IsUtf8-comma_if false = IsUtf8-are_ascii [] refl
@@ -221,6 +225,7 @@ IsReadBack-object n ms reads good =
 
 -- ---- the text as a whole
 
+-- the value that JSON's tokens are read as, without what comes behind it
 abbrev data_of_tokens : Option (json.Json × List Token) → Option Data
 data_of_tokens o = option_and_then of_json (option_and_then (λ p. json.if_last p.0 p.1) o)
 

@@ -18,9 +18,11 @@ pub slice_get-unwrap_or : {X : Type 0} (xs : List X) (n : ℕ) (d : X) → n < l
     → slice_get xs n ≡ Some (unwrap_or (slice_get xs n) d)
 slice_get-unwrap_or xs n d lt = slice_get-get_or xs n d lt ∙ ap Some (sym (unwrap_or-slice_get xs n d))
 
+-- a text can have a tree without entries
 IsWritableTree-none : IsWritableTree []
 IsWritableTree-none = record { few = omega arith; each = λ k d lt. absurd (omega (arith, lt)) }
 
+-- so it can have the tree at any number: one of these, or the empty one
 IsWritableTree-unwrap_or : (trees : List Tree) (o : Option Tree) (n : ℕ) → slice_get trees n ≡ o
     → All IsWritableTree trees
     → IsWritableTree (unwrap_or o [])

@@ -20,10 +20,12 @@ use Rattle.mc_cert.specs.Tokens.{Reads}
 
 -- ---- what is read, under a conversion
 
+-- the value, or this one where there is none
 abbrev or_given : {A : Type 0} → A → Option A → A
 or_given a None = a
 or_given a (Some b) = b
 
+-- a value beside the rest of the tokens, by parts
 paired : {B : Type 0} (r s : List Token) (x : Option B) (b : B)
     → option_map {U = B × List Token} (λ y. (y, r)) x ≡ Some (b, s) → (r ≡ s) × (x ≡ Some b)
 paired r s None b e = absurd cc
@@ -37,27 +39,32 @@ converted-Some f None b r e = absurd cc
 converted-Some f (Some p) b r e =
     let both = paired p.1 r (f p.0) b e in (p.0, ap (λ s. Some (p.0, s)) both.0, both.1)
 
+-- changing a value leaves the rest of the tokens
 option_map-parse_map : {A B : Type 0} (g : A → B) (r : List Token) (x : Option A)
     → option_map (λ b. (b, r)) (option_map g x) ≡ parse_map g (option_map (λ a. (a, r)) x)
 option_map-parse_map g r None = refl
 option_map-parse_map g r (Some a) = refl
 
+-- a list is converted by its items
 converted-array : (o : Option (json.Items × List Token))
     → converted of_json (parse_map json.array o) ≡ parse_map array (converted of_items o)
 converted-array None = refl
 converted-array (Some p) = option_map-parse_map array p.1 (of_items p.0)
 
+-- an object is converted by its members
 converted-object : (o : Option (json.Members × List Token))
     → converted of_json (parse_map json.object o)
     ≡ parse_map object (converted (λ ms. of_members ms no_members) o)
 converted-object None = refl
 converted-object (Some p) = option_map-parse_map object p.1 (of_members p.0 no_members)
 
+-- an item is converted before those behind it
 converted-item : (j : json.Json) (d : Data) → of_json j ≡ Some d → (o : Option (json.Items × List Token))
     → converted of_items (parse_map (json.item j) o) ≡ parse_map (item d) (converted of_items o)
 converted-item j d e None = refl
 converted-item j d e (Some p) = rw e (option_map-parse_map (item d) p.1 (of_items p.0))
 
+-- a member is put among those before it
 converted-member : (k : List ℕ) (j : json.Json) (d : Data) (ms : Members) → of_json j ≡ Some d
     → (o : Option (json.Members × List Token))
     → converted (λ m. of_members m ms) (parse_map (json.member k j) o)
@@ -84,20 +91,24 @@ abbrev pub items_before : List Data → Items → Items
 items_before [] rest = rest
 items_before (d ∷ ds) rest = item d (items_before ds rest)
 
+-- the items before none are the list of them
 items_before-no_items : (ds : List Data) → items_before ds no_items ≡ items_of ds
 items_before-no_items [] = refl
 items_before-no_items (d ∷ ds) = ap (item d) (items_before-no_items ds)
 
+-- an item moves from the front of the rest to the end of those before
 items_before-item : (ds : List Data) (d : Data) (rest : Items)
     → items_before ds (item d rest) ≡ items_before (ds ++ d ∷ []) rest
 items_before-item [] d rest = refl
 items_before-item (e ∷ ds) d rest = ap (item e) (items_before-item ds d rest)
 
+-- the same where the rest is still to be parsed
 parse_map-item : (ds : List Data) (d : Data) (r : Option (Items × List Token))
     → parse_map (items_before ds) (parse_map (item d) r) ≡ parse_map (items_before (ds ++ d ∷ [])) r
 parse_map-item ds d None = refl
 parse_map-item ds d (Some p) = ap (λ js. Some (js, p.1)) (items_before-item ds d p.0)
 
+-- before no items a parse is unchanged
 parse_map-none_before : (r : Option (Items × List Token)) → r ≡ parse_map (items_before []) r
 parse_map-none_before None = refl
 parse_map-none_before (Some p) = refl

@@ -23,6 +23,7 @@ use Rattle.mc_cert.proofs.DistinctLemmas.{length-fold_with_tree, slice_get-find_
 
 -- ---- trees in the map
 
+-- Trees are equal exactly where the order by entries finds them equal.
 same_tree-is_eq : (a b : Tree) → same_tree a b ≡ is_eq (slice_cmp by_order.cmp a b)
 same_tree-is_eq = lists_ties by_order.cmp (λ x y. matches_eq-law x y)
 

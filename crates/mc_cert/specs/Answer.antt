@@ -17,11 +17,11 @@ locate_fault at = map_fault (λ kind. record { place = at; kind = kind })
 
 -- the place of the entry with this number, in the flow or the tree at a place
 abbrev pub entry_place : At → ℕ → At
-entry_place Top e = Top
-entry_place (Flow f) e = FlowEntry f e
-entry_place (FlowEntry f old) e = FlowEntry f e
-entry_place (Tree t) e = TreeEntry t e
-entry_place (TreeEntry t old) e = TreeEntry t e
+entry_place Top entry = Top
+entry_place (Flow flow) entry = FlowEntry flow entry
+entry_place (FlowEntry flow old) entry = FlowEntry flow entry
+entry_place (Tree tree) entry = TreeEntry tree entry
+entry_place (TreeEntry tree old) entry = TreeEntry tree entry
 
 -- the fault that a call which takes memory may give in place of any result: memory ran out
 abbrev pub out_of_memory : CertFault
@@ -44,7 +44,7 @@ each_row one = read_rows (λ earlier. one (length earlier))
 -- the text of a place, as a fault is printed with it
 abbrev pub place_text : At → List ℕ
 place_text Top = codes "top"
-place_text (Flow f) = codes "flow " ++ decimal f
-place_text (FlowEntry f e) = codes "flow " ++ decimal f ++ codes " entry " ++ decimal e
-place_text (Tree t) = codes "tree " ++ decimal t
-place_text (TreeEntry t e) = codes "tree " ++ decimal t ++ codes " entry " ++ decimal e
+place_text (Flow flow) = codes "flow " ++ decimal flow
+place_text (FlowEntry flow entry) = codes "flow " ++ decimal flow ++ codes " entry " ++ decimal entry
+place_text (Tree tree) = codes "tree " ++ decimal tree
+place_text (TreeEntry tree entry) = codes "tree " ++ decimal tree ++ codes " entry " ++ decimal entry

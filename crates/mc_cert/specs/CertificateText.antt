@@ -14,7 +14,7 @@ use Rattle.mc_cert.specs.Distinct.{distinct_trees, tree_number_of}
 -- texts one after another: the separator before the first, and a comma before each other
 abbrev pub listed_after : List ℕ → List (List ℕ) → List ℕ
 listed_after separator [] = []
-listed_after separator (s ∷ ss) = separator ++ s ++ listed_after (codes ",") ss
+listed_after separator (text ∷ texts) = separator ++ text ++ listed_after (codes ",") texts
 
 -- texts one after another, with commas between them
 abbrev pub listed : List (List ℕ) → List ℕ

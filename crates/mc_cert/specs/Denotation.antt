@@ -57,12 +57,12 @@ EachDenotes Denotation row_number (value ∷ values) (x ∷ xs) = Denotation row
 -- ---- entries
 
 -- two values denote an interface: the name of a router, and the number of one of its vifs, up to 31
-pub record DenotesInterface (routers : List RouterRow) (value v : Data)
+pub record DenotesInterface (routers : List RouterRow) (router_value vif_value : Data)
     (interface : Interface) : Type 0 where
   pub name : List ℕ
-  pub router_text : value ≡ string name
+  pub router_text : router_value ≡ string name
   pub router : router_no_of name routers ≡ Some interface.0
-  pub vif : v ≡ number (unsigned interface.1)
+  pub vif : vif_value ≡ number (unsigned interface.1)
   pub vif_to : interface.1 ≤ 31
 
 -- two values denote a forwarder: there are both, and they denote its interface, or neither, and
@@ -71,8 +71,8 @@ abbrev pub DenotesForwarder : List RouterRow → Option Data → Option Data →
 DenotesForwarder routers None None forwarder = forwarder ≡ None
 DenotesForwarder routers None (Some value) forwarder = ⊥
 DenotesForwarder routers (Some value) None forwarder = ⊥
-DenotesForwarder routers (Some value) (Some v) forwarder =
-    (interface : Interface) × (forwarder ≡ Some interface) × DenotesInterface routers value v interface
+DenotesForwarder routers (Some router_value) (Some vif_value) forwarder = (interface : Interface)
+    × (forwarder ≡ Some interface) × DenotesInterface routers router_value vif_value interface
 
 -- a value denotes an entry: an object of a LAN's name, a need, a rank, and, if there is one, a
 -- forwarder

@@ -9,13 +9,13 @@ use Rattle.mc_cert.specs.Certificate.{Tree}
 
 -- whether two interfaces are equal
 abbrev pub same_interface : Interface → Interface → Bool
-same_interface interface j = interface.0 == j.0 && interface.1 == j.1
+same_interface first second = first.0 == second.0 && first.1 == second.1
 
 -- whether two entries are equal
 abbrev pub same_entry : Entry → Entry → Bool
-same_entry entry b =
-    entry.lan == b.lan && (entry.rank == b.rank && (entry.need == b.need
-    && option_eq same_interface entry.forwarder b.forwarder))
+same_entry first second =
+    first.lan == second.lan && (first.rank == second.rank && (first.need == second.need
+    && option_eq same_interface first.forwarder second.forwarder))
 
 -- whether two trees are equal, entry by entry in order
 abbrev pub same_tree : Tree → Tree → Bool

@@ -21,6 +21,7 @@ pub record AreVerdictsSoFar (d : DomainValue) (lists : List (List Entry)) (k : �
   pub number : length vs ≡ k
   pub each : HoldsForEachFlow d lists vs (IsCorrectVerdict (length d.topology.lans))
 
+-- the verdict by the first reason against the list is correct in all respects
 pub is_correct_verdict-verdict_by : (d : DomainValue) (flow : ℕ) (es : List Entry) (o : Option Reason)
     (v : Verdict)
     → IsDomain d → flow < length d.topology.flows
@@ -40,6 +41,7 @@ is_correct_verdict-verdict_by d flow es o v ok lt e by =
       headline = yes_keeps_headline n count es o j;
     })
 
+-- one correct verdict more, on the next flow
 pub verdicts_so_far-more : (d : DomainValue) (lists : List (List Entry)) (k : ℕ) (vs : List Verdict)
     (es : List Entry) (v : Verdict)
     → AreVerdictsSoFar d lists k vs → slice_get lists k ≡ Some es

@@ -7,6 +7,7 @@ use Rattle.mc_theory.specs.Certificates.{Entry, is_live}
 use Rattle.mc_theory.specs.Reasons.{feeds_from}
 use Rattle.mc_forward.specs.Domains.{oif_pairs}
 
+-- oifs of lower vifs in front feed nothing by this vif
 feeds_from-append_lower : (base : Entry) (vif : ℕ) (lower rest : List Oif)
     → AllByRecursion (λ (o : Oif). o.vif < vif) lower
     → feeds_from vif (oif_pairs rest) (Some base) ≡ feeds_from vif (oif_pairs (lower ++ rest)) (Some base)
@@ -17,6 +18,7 @@ feeds_from-append_lower base vif (o ∷ lower) rest are =
     ap (λ (b : Bool). (b && is_live base.rank o.threshold)
     || feeds_from vif (oif_pairs (lower ++ rest)) (Some base)) (sym other))
 
+-- so the oifs from the vif on feed as all do
 pub feeds_from-outgoing_from : (base : Entry) (vif : ℕ) (rest oifs : List Oif)
     → (lower : List Oif) × (lower ++ rest ≡ oifs)
     × AllByRecursion (λ (o : Oif). o.vif < vif) lower

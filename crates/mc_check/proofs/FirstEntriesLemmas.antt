@@ -15,6 +15,7 @@ pub record FirstEntriesSoFar (firsts old : List (Option Entry)) (es : List Entry
   pub twice : twice (take k es) (drop k es) ≡ twice [] es
   pub filled : HoldsFirstOfEachKey (λ (e : Entry). e.lan) firsts (take k es)
 
+-- an entry for a LAN that no earlier one names isn't the one that names a LAN twice
 twice-cons_new_lan : (earlier es : List Entry) (e : Entry) → entry_on earlier e.lan ≡ None
     → twice earlier (e ∷ es) ≡ twice (earlier ++ e ∷ []) es
 twice-cons_new_lan earlier es e none =
@@ -35,6 +36,7 @@ twice-already_named firsts old es k e t lt at some =
     ∙ ap (λ (b : Bool). unless (not b) (TwoEntries e.lan) then twice (take k es ++ e ∷ [])
     (drop (k + 1) es)) again))
 
+-- one entry more, for a LAN that no earlier one names
 pub first_entries-more : (firsts firsts' old : List (Option Entry)) (es : List Entry) (k : ℕ) (e : Entry)
     → FirstEntriesSoFar firsts old es k → k < length es → e ≡ get_or es k e → e.lan < length old
     → item_on_lan firsts e.lan ≡ None → firsts' ≡ slice_set firsts e.lan (Some e)

@@ -26,11 +26,13 @@ pub record IsFirstReason (n : Net) (count : ℕ) (es : List Entry) (o : Option R
   pub ttl : 1 ≤ n.ttl
   pub reason_is_first : optional_reason_value o ≡ first_reason n count es
 
+-- a list without a reason against it is accepted
 pub is_accepted-no_reason : (n : Net) (count : ℕ) (es : List Entry) → IsFirstReason n count es None
     → IsAccepted n es
 is_accepted-no_reason n count es j = (first_reason-none_iff_accepted n count es j.net j.wants).0
     (sym j.reason_is_first)
 
+-- so the verdict is yes exactly where the list is accepted
 pub yes_iff_accepted : (n : Net) (count : ℕ) (es : List Entry) (o : Option Reason)
     → IsFirstReason n count es o
     → YesIffAccepted n es (verdict_by o (length es))
@@ -41,23 +43,27 @@ yes_iff_accepted n count es (Some r) j = (
       ∙ (first_reason-none_iff_accepted n count es j.net j.wants).1 acc in absurd cc),
 )
 
+-- a yes has the number of the entries
 pub yes_counts_entries : (n : Net) (es : List Entry) (o : Option Reason)
     → YesCountsEntries n es (verdict_by o (length es))
 yes_counts_entries n es None = refl
 yes_counts_entries n es (Some r) = tt
 
+-- a no has the first reason
 pub no_gives_first_reason : (n : Net) (count : ℕ) (es : List Entry) (o : Option Reason)
     → IsFirstReason n count es o
     → NoGivesFirstReason count n es (verdict_by o (length es))
 no_gives_first_reason n count es None j = tt
 no_gives_first_reason n count es (Some r) j = sym j.reason_is_first
 
+-- by an accepted list every run is safe,
 pub yes_is_safe : (n : Net) (count : ℕ) (es : List Entry) (o : Option Reason) → IsFirstReason n count es o
     → YesIsSafe n es (verdict_by o (length es))
 yes_is_safe n count es None j = λ t ps low high range. is_safe-from_tree n es t ps j.net
     (is_accepted-no_reason n count es j).is_tree low high range
 yes_is_safe n count es (Some r) j = tt
 
+-- every complete run without loss brings what the list says,
 pub yes_delivers : (n : Net) (count : ℕ) (es : List Entry) (o : Option Reason)
     → IsFirstReason n count es o → YesDelivers n es (verdict_by o (length es))
 yes_delivers n count es None j = λ t ps low high range whole done. is_delivered-from_lossless_run n
@@ -65,11 +71,13 @@ yes_delivers n count es None j = λ t ps low high range whole done. is_delivered
     (is_accepted-no_reason n count es j).is_tree low high range whole done
 yes_delivers n count es (Some r) j = tt
 
+-- the flow is right,
 pub yes_is_right : (n : Net) (count : ℕ) (es : List Entry) (o : Option Reason) → IsFirstReason n count es o
     → YesIsRight n es (verdict_by o (length es))
 yes_is_right n count es None j = is_right-from_accepted n es j.net j.ttl (is_accepted-no_reason n count es j)
 yes_is_right n count es (Some r) j = tt
 
+-- and the headline holds
 pub yes_keeps_headline : (n : Net) (count : ℕ) (es : List Entry) (o : Option Reason)
     → IsFirstReason n count es o → YesKeepsHeadline n es (verdict_by o (length es))
 yes_keeps_headline n count es None j = headline_holds-from_accepted n es j.net j.ttl
@@ -92,6 +100,7 @@ length-accepted_entries n es count acc all =
     (λ l h. entry_lan-below_count es count l all h) in
     omega (arith, bound, length-map es (λ (e : Entry). e.lan))
 
+-- the first reason of the code, for the net of a domain's flow
 pub is_first_reason-of_domain : (d : DomainValue) (flow : ℕ) (es : List Entry) (o : Option Reason)
     → IsDomain d
     → flow < length d.topology.flows

@@ -4,7 +4,8 @@ use Rattle.std.proofs.Common.{get_or, ap, ap₂, sym, subst, ◌∙◌, take, �
 use Rattle.std.proofs.lemmas.List.{at_drop_more, get_or-map, length-map, map_more, map_push}
 use Rattle.mc_text.specs.GroupRange.{range_text}
 use Rattle.mc_topology.specs.Names.{is_name}
-use Rattle.mc_cli.specs.AuditWords.{is_among, are_distinct, are_distinct_router_names}
+use Rattle.mc_cli.specs.AuditWords.{are_distinct, are_distinct_router_names}
+use Rattle.mc_cli.specs.GivenWords.{is_among}
 
 -- the words from a place on aren't where the first is no name,
 pub are_distinct_router_names-not_a_name : {X : Type 0} (f : X → List ℕ) (xs : List X) (i : ℕ) (d : X)
@@ -73,6 +74,7 @@ text-of_range f xs ranges i d written within =
     sym (get_or-map f xs i d [] within) ∙ ap (λ ts. get_or ts i []) written
     ∙ get_or-map range_text ranges i (0, 0) [] (subst (λ n. i < n) size within)
 
+-- there are as many ranges as words
 pub range-within : {X : Type 0} (f : X → List ℕ) (xs : List X) (ranges : List (ℕ × ℕ)) (i : ℕ)
     → map f xs ≡ map range_text ranges → i < length xs → i < length ranges
 range-within f xs ranges i written within =

@@ -9,8 +9,8 @@ use Rattle.std.specs.Str.{bytes_eq}
 use Rattle.std.specs.Str.Pattern.{FindsTextPrefix, StripsPrefix}
 use Rattle.std.proofs.lemmas.List.{at_drop_all, at_drop_more, take-append-drop}
 use Rattle.std.proofs.lemmas.Slice.Eq.{bytes_eq-Decides}
-use Rattle.mc_cli.specs.AuditWords.{Given, router_after_equals}
-use Rattle.mc_cli.specs.AuditWords.{with_word, with_words}
+use Rattle.mc_cli.specs.GivenWords.{Given, router_after_equals}
+use Rattle.mc_cli.specs.GivenWords.{with_word, with_words}
 
 -- the words from a place on give what the first gives and then the rest,
 pub with_words-more : {X : Type 0} (f : X → List ℕ) (xs : List X) (i : ℕ) (d : X) (given : Given)
@@ -36,10 +36,12 @@ with_words-all f xs i given le = at_drop_all (λ rest. with_words (Some given) (
 abbrev without_equals_text : List ℕ
 without_equals_text = codes "--without="
 
+-- the router is what comes behind the ten bytes of the prefix, where the test finds it
 router_after_equals-cond : (word : List ℕ) (test : Bool) → bytes_eq (take 10 word) without_equals_text ≡ test
     → cond test (Some (drop 10 word)) None ≡ router_after_equals word
 router_after_equals-cond word test is = ap (λ test. cond test (Some (drop 10 word)) None) (sym is)
 
+-- a word that doesn't begin with the prefix fails the test
 router_after_equals-no_prefix : (word : List ℕ) (test : Bool)
     → bytes_eq (take 10 word) without_equals_text ≡ test
     → ((rest : List ℕ) → word ≢ without_equals_text ++ rest) → None ≡ cond test (Some (drop 10 word)) None
@@ -70,6 +72,7 @@ pub Some-from_IsNextGiven : (right : Bool) (next : Option Given) (given : Given)
     → next ≡ Some given
 Some-from_IsNextGiven right next given is says = says ∙ ap (λ right. then_some right given) is
 
+-- a word that isn't valid gives nothing
 pub None-from_IsNextGiven : (right : Bool) (next : Option Given) (given : Given) → right ≡ false
     → next ≡ then_some right given
     → next ≡ None

@@ -54,11 +54,13 @@ absurd-from_first_word (name ∷ other ∷ rest) word P is never holds =
     let Q : List ℕ → Type 0 =
     λ word. P (name ∷ word ∷ rest) in never name rest (subst Q (same_Some other word is) holds)
 
+-- Clap's program here has no command `audit`, so that it finds a fault: computed.
 not_accepted-audit : (name : List ℕ) (rest : List (List ℕ)) → AreAcceptedByClap (name ∷ codes "audit" ∷ rest)
     → ⊥
 unfolding clap_on_literals
 not_accepted-audit name rest taken = false≢true (ap (λ (kinds : Kinds). is_empty kinds) taken)
 
+-- nor a command `help`
 not_accepted-help : (name : List ℕ) (rest : List (List ℕ)) → AreAcceptedByClap (name ∷ codes "help" ∷ rest)
     → ⊥
 unfolding clap_on_literals
@@ -69,6 +71,7 @@ pub not_accepted-audit_words : (words : List (List ℕ)) → IsFirstWord (codes 
     → AreAcceptedByClap words → ⊥
 not_accepted-audit_words words is = absurd-from_first_word words _ AreAcceptedByClap is not_accepted-audit
 
+-- so words that begin with `help` aren't clap's
 pub not_accepted-help_words : (words : List (List ℕ)) → IsFirstWord (codes "help") words
     → AreAcceptedByClap words → ⊥
 not_accepted-help_words words is = absurd-from_first_word words _ AreAcceptedByClap is not_accepted-help
@@ -87,11 +90,13 @@ pub not_Version-from_IfOk : {E : Type 0} (r : Result Task E) (P : Task → Type 
 not_Version-from_IfOk {E} r P never holds is =
     never (let Q : Result Task E → Type 0 = λ r. IfOk r P in subst Q is holds)
 
+-- words that begin with `help`, and then name a topic, ask for a help
 pub IsAskedFor-help : (words : List (List ℕ)) → IsFirstWord (codes "help") words → (task : Task)
     → IsHelp task × (is_topic (drop 2 words) ≡ true) → IsAskedFor words task
 IsAskedFor-help words first (Help text) (help, topic) = (first, topic)
 IsAskedFor-help words first other (help, topic) = absurd help
 
+-- What such words ask for is help alone: clap doesn't accept them, and their first word is no other.
 pub is_topic-from_IsAskedFor : (words : List (List ℕ)) → IsFirstWord (codes "help") words
     → (AskForVersion words → ⊥) → (task : Task)
     → IsAskedFor words task → is_topic (drop 2 words) ≡ true
@@ -101,6 +106,7 @@ is_topic-from_IsAskedFor words first never (Audit audit) asked =
     absurd (IsFirstWord-unique words _ _ refl refl first asked.0)
 is_topic-from_IsAskedFor words first never other asked = absurd (not_accepted-help_words words first asked.0)
 
+-- what words that begin with `audit` ask for is an audit alone, for the same reasons
 pub IsAuditFor-from_IsAskedFor : (words : List (List ℕ)) → IsFirstWord (codes "audit") words
     → (AskForVersion words → ⊥) → (task : Task)
     → IsAskedFor words task → IsAuditFor (drop 2 words) task

@@ -1,4 +1,6 @@
 pub mod AuditOptionWords
+pub mod GivenWords
+pub mod AuditDraft
 pub mod AuditWords
 pub mod Commands
 pub mod Task

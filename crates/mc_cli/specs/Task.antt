@@ -5,7 +5,8 @@ use Rattle.std.specs.Prelude.{IsSomeAnd, Option, [], ◌∷◌, drop, slice_get}
 use Rattle.clap.specs.Walk.{Row}
 use Rattle.mc_text.specs.Addr.{IsForwardedGroup, IsSource, dotted}
 use Rattle.mc_text.specs.Number.{IsDecimal}
-use Rattle.mc_cli.specs.AuditWords.{AreAuditWords, are_distinct_router_names, is_option}
+use Rattle.mc_cli.specs.AuditWords.{AreAuditWords, are_distinct_router_names}
+use Rattle.mc_cli.specs.GivenWords.{is_option}
 use Rattle.mc_cli.specs.Commands.{AreAcceptedByClap, IsFlagValue, subcommand_in, is_command, word_of}
 use Rattle.mc_cli.specs.declared.audit_words.AuditWords.{AuditWords}
 use Rattle.mc_cli.specs.declared.task.Task.{Task}

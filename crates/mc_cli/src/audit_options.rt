@@ -33,5 +33,5 @@ pub const JSON_WORD: &str = "--json";
 /// The word before an excluded router.
 pub const WITHOUT_WORD: &str = "--without";
 
-/// The word before a range of groups whose wants are left aside.
+/// The word before a range of groups whose wants are ignored.
 pub const IGNORE_WORD: &str = "--ignore";

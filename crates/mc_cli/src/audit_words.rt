@@ -3,9 +3,12 @@
 ghost use Rattle.std.specs.Prelude.{◌≡◌, ℕ, List, map, is_none, IfErr, IfOk, IfSome, IsOk, IsSome};
 ghost use Rattle.std.specs.List.{All};
 ghost use Rattle.mc_text.specs.GroupRange.{IsGroupRange, range_text};
-ghost use Rattle.mc_cli.specs.AuditWords.{AreAuditWords, AreComplete, AreRanges, AreWholeWords};
-ghost use Rattle.mc_cli.specs.AuditWords.{IsComplete, IsWholeDraft, are_distinct, are_distinct_router_names};
-ghost use Rattle.mc_cli.specs.AuditWords.{given_of, is_among, is_value_expected};
+ghost use Rattle.mc_cli.specs.AuditWords.{AreAuditWords, AreRanges};
+ghost use Rattle.mc_cli.specs.AuditDraft.{AreComplete, AreWholeWords};
+ghost use Rattle.mc_cli.specs.AuditWords.{are_distinct, are_distinct_router_names};
+ghost use Rattle.mc_cli.specs.AuditDraft.{IsComplete, IsWholeDraft};
+ghost use Rattle.mc_cli.specs.AuditDraft.{given_of};
+ghost use Rattle.mc_cli.specs.GivenWords.{is_among, is_value_expected};
 ghost use Rattle.mc_cli.specs.declared.audit_words.AuditWords.{AuditWords};
 ghost use Rattle.mc_cli.specs.declared.fault.WordsFault.TheVariants.{Memory};
 
@@ -26,7 +29,7 @@ pub struct AuditWords<'a> {
     pub options: AuditOptions,
     /// The excluded routers, in the order of the words: valid names, each once.
     pub without: Vec<&'a str>,
-    /// The ranges of groups whose wants are left aside, ascending, each once.
+    /// The ranges of groups whose wants are ignored, ascending, each once.
     pub ignored: Vec<GroupRange>,
 }
 

@@ -136,7 +136,8 @@ pub fn wants_command<'a>(alloc: Global) -> Result<Command<'a>, AllocError>
 }
 
 const AUDIT_USAGE: &str = "\
-mcaudit audit <folder> [--travel] [--faults] [--unlisted] [--strict] [--json] [--without <router>]... [--ignore <range>]...";
+mcaudit audit <folder> [--travel] [--faults] [--unlisted] [--strict] [--json] \
+[--without <router>]... [--ignore <range>]...";
 
 /// The command `audit` and its arguments.
 pub fn audit_command<'a>(alloc: Global) -> Result<Command<'a>, AllocError> {

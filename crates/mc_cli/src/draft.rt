@@ -1,10 +1,11 @@
 //! The words after `audit`, read one by one.
 
 ghost use Rattle.std.specs.Prelude.{◌≡◌, map, IfOk, Some, OnOk, option_map};
-ghost use Rattle.mc_cli.specs.AuditWords.{IsNextGiven, given_of, router_after_equals, nothing_given};
-ghost use Rattle.mc_cli.specs.AuditWords.{with_folder, with_option, with_option_or_folder, with_router};
-ghost use Rattle.mc_cli.specs.AuditWords.{range_after_equals, with_range, with_range_or_other};
-ghost use Rattle.mc_cli.specs.AuditWords.{with_word, with_words};
+ghost use Rattle.mc_cli.specs.AuditDraft.{IsNextGiven, given_of};
+ghost use Rattle.mc_cli.specs.GivenWords.{router_after_equals, nothing_given};
+ghost use Rattle.mc_cli.specs.GivenWords.{with_folder, with_option, with_option_or_folder, with_router};
+ghost use Rattle.mc_cli.specs.GivenWords.{range_after_equals, with_range, with_range_or_other};
+ghost use Rattle.mc_cli.specs.GivenWords.{with_word, with_words};
 
 use crate::audit_options::{
     AuditOptions, FAULTS_WORD, IGNORE_WORD, JSON_WORD, STRICT_WORD, TRAVEL_WORD, UNLISTED_WORD,
@@ -34,7 +35,7 @@ pub struct Draft<'a> {
     pub options: AuditOptions,
     /// The routers to exclude, in the order of the words.
     pub without: Vec<&'a str>,
-    /// The ranges to leave aside, in the order of the words.
+    /// The ranges to ignore, in the order of the words.
     pub ignored: Vec<&'a str>,
     /// What the next word may be.
     pub next_word: NextWord,
@@ -113,7 +114,7 @@ impl<'a> Draft<'a> {
         Ok(())
     }
 
-    /// Adds a range to leave aside.
+    /// Adds a range to ignore.
     fn add_range(&mut self, range: &'a str) -> Result<(), AllocError>
         ensures { OnOk result
             (given_of self.new ≡ with_range range.now (given_of self.old)) }

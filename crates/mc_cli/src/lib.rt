@@ -5,6 +5,7 @@ mod arguments;
 mod audit_options;
 mod audit_words;
 mod command;
+mod command_task;
 mod draft;
 mod fault;
 mod task;

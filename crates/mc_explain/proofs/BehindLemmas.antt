@@ -21,6 +21,7 @@ use Rattle.mc_explain.proofs.ShownNeedLemmas.{HaveFewHops, need_of_two_copies-is
 
 -- ---- the need of a second copy
 
+-- whether it is a loop or a duplicate, the number rests on the LAN's two copies
 rests_on_two-of_either : (n : Net) (cs : List Copy) (l k : ℕ) (b : Bool)
     → IsShownFrom n cs (cond b (Loop l) (Duplicate l)) k → RestsOnTwoCopies n cs l k
 rests_on_two-of_either n cs l k true r = r

@@ -6,6 +6,7 @@ use Rattle.std.proofs.lemmas.List.Elements.{filter-append}
 use Rattle.mc_theory.specs.Lists.{below}
 use Rattle.mc_forward.proofs.BelowLemmas.{below-more}
 
+-- of the numbers up to n those pass that pass below n, and n if it passes
 filter-below_more : (p : ℕ → Bool) (n : ℕ)
     → filter p (below (n + 1)) ≡ filter p (below n) ++ filter p (n ∷ [])
 filter-below_more p n = ap (filter p) (below-more n) ∙ filter-append p (below n) (n ∷ [])

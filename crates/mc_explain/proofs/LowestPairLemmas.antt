@@ -13,6 +13,7 @@ use Rattle.mc_asked.proofs.PartLemmas.{is_listed-shown_of_part}
 use Rattle.mc_asked.proofs.WantLemmas.{filter-equal_tests}
 use Rattle.mc_explain.specs.UnlistedText.{has_pair, has_unlisted_row, shown_unlisted_pairs, routers_with}
 
+-- a router's summary has the pair exactly if its cache has a row of it, where that is so of each cache
 has_pair-has_unlisted_row : (all : Bool) (listed : List (ℕ × ℕ)) (pair : ℕ × ℕ)
     (caches : List (List RowValue)) (router : ℕ)
     → ((rows : List RowValue) → In rows caches → is_listed (Some (summary_of all listed rows).lowest) pair

@@ -28,6 +28,7 @@ use Rattle.mc_forward.proofs.BelowLemmas.{below-more}
 
 -- ---- a router after others
 
+-- the routers below a number are less than it
 routers_below-less : (summary : List SummaryValue) (r : ℕ) (pair : ℕ × ℕ) (x : ℕ)
     → In x (routers_below summary r pair) → x < r
 routers_below-less summary r pair x h =

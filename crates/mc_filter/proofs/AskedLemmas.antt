@@ -67,20 +67,23 @@ number-of_channel groups numbers places k d each below =
       sym (get_or-map (channel_at numbers) places k e d below),
     )
 
--- an EXCLUDE record that lists no source of the group's channels wants each of them
+-- a source that isn't listed
 not_listed : (sources : List ℕ) (source : ℕ) → ¬ (Contains sources source) → has sources source ≡ false
 not_listed sources source none = grind (arith, Decides-has sources source, none)
 
+-- an EXCLUDE record for the group admits a source that it doesn't list
 wanted_by-exclude : (group source : ℕ) (r : Record) → r.kind ≡ kind.Exclude → r.group ≡ group
     → has r.sources source ≡ false → wanted_by group source r ≡ true
 wanted_by-exclude group source r is same none = rw (is, none) (grind (arith, nat_tests, same))
 
-wanted-by_exclude : (groups numbers : List ℕ) (places : List ChannelPlace) (records : List Record)
+-- an EXCLUDE record that keeps to the channels lists the source of none, and its group has one, so that a
+-- channel of the group is wanted
+is_wanted_group-of_exclude : (groups numbers : List ℕ) (places : List ChannelPlace) (records : List Record)
     (j : ℕ) (r : Record) → All (IsChannelPlace groups numbers) places
     → AreGroupsOf groups (map (channel_at numbers) places)
     → j < length records → get_or records j r ≡ r → r.kind ≡ kind.Exclude → KeepsToChannels groups numbers r
     → IsTrue (is_wanted_group (map (channel_at numbers) places) records r.group)
-wanted-by_exclude groups numbers places records j r each all below at is keeps =
+is_wanted_group-of_exclude groups numbers places records j r each all below at is keeps =
     let channels = map (channel_at numbers) places in
     let second = λ (channel : ℕ × ℕ). channel.1 in
     let d : ℕ × ℕ = (0, 0) in
@@ -103,21 +106,22 @@ wanted-by_exclude groups numbers places records j r each all below at is keeps =
     list_any_at (λ c. (c.1 == r.group) && wanted records r.group c.0) channels k d within
     (grind (arith, nat_tests, of_group, is_wanted))
 
-asked-of_kind : (groups numbers : List ℕ) (places : List ChannelPlace) (records : List Record)
+-- a record that keeps to the channels asks for no more, whatever its kind
+are_all_of_kind : (groups numbers : List ℕ) (places : List ChannelPlace) (records : List Record)
     (j : ℕ) (r : Record) (of_kind : Kind) → All (IsChannelPlace groups numbers) places
     → AreGroupsOf groups (map (channel_at numbers) places)
     → AreNumbersOf numbers (map (channel_at numbers) places)
     → j < length records → get_or records j r ≡ r → r.kind ≡ of_kind → KeepsToChannels groups numbers r
     → AreAllOfKind of_kind (map (channel_at numbers) places) records r.group r.sources
-asked-of_kind groups numbers places records j r kind.Include each groups_of numbers_of below at is keeps =
+are_all_of_kind groups numbers places records j r kind.Include each groups_of numbers_of below at is keeps =
     λ k d within.
     channel-of_number numbers (map (channel_at numbers) places) (get_or r.sources k d, r.group) numbers_of
     (rw is at (keeps.sources k d within))
-asked-of_kind groups numbers places records j r kind.Exclude each groups_of numbers_of below at is keeps =
-    wanted-by_exclude groups numbers places records j r each groups_of below at is keeps
-asked-of_kind groups numbers places records j r (kind.Change t) each groups_of numbers_of below at is keeps =
+are_all_of_kind groups numbers places records j r kind.Exclude each groups_of numbers_of below at is keeps =
+    is_wanted_group-of_exclude groups numbers places records j r each groups_of below at is keeps
+are_all_of_kind groups numbers places records j r (kind.Change t) each groups_of numbers_of below at is keeps =
     tt
-asked-of_kind groups numbers places records j r (kind.Unknown t) each groups_of numbers_of below at is keeps =
+are_all_of_kind groups numbers places records j r (kind.Unknown t) each groups_of numbers_of below at is keeps =
     tt
 
 -- records that keep to the channels ask for nothing else
@@ -127,5 +131,5 @@ pub are_all_asked_for : (groups numbers : List ℕ) (places : List ChannelPlace)
     → AreAllAskedFor (map (channel_at numbers) places) records
 are_all_asked_for groups numbers places records each groups_of numbers_of keep = λ j d below.
     let r = get_or records j d in
-    asked-of_kind groups numbers places records j r r.kind each groups_of numbers_of below
+    are_all_of_kind groups numbers places records j r r.kind each groups_of numbers_of below
     (get_or_default records j r d below) refl (keep j d below)

@@ -39,6 +39,7 @@ groups-of_made asked made kept made_is same = λ k d below.
     let group : ℕ = get_or kept k d in
     subst (λ ns. Contains ns group) made_is ((same group).0 (Contains-get_or kept k d below))
 
+-- what a list contains is contained, mapped, in the list mapped
 contains-mapped : (f : ℕ → ℕ × ℕ) (xs : List ℕ) (x : ℕ) → Contains xs x → Contains (map f xs) (f x)
 contains-mapped f xs x has_it = (
   has_it.0,

@@ -1,5 +1,6 @@
 pub mod AscendingLemmas
 pub mod AskedLemmas
+pub mod ListedSourcesLemmas
 pub mod TallyLemmas
 pub mod ChannelLemmas
 pub mod FilterLemmas

@@ -82,6 +82,7 @@ has_iff_wanted : {P Q R : Type 0} (a b : Bool) → Decides a P → Decides b Q �
     → (a ≡ b) ↔ (P ↔ R)
 has_iff_wanted a b own wants is = grind arith
 
+-- and so where one test is negated
 has_iff_not_wanted : {P Q R : Type 0} (a b : Bool) → Decides a P → Decides b Q → (¬ Q ↔ R)
     → (not a ≡ b) ↔ (P ↔ R)
 has_iff_not_wanted a b own wants is = grind arith

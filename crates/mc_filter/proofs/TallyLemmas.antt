@@ -9,8 +9,6 @@ use Rattle.std.proofs.lemmas.Bool.{cases_eq, eq-eqb}
 use Rattle.std.proofs.lemmas.Bool.Decides.{nat_tests}
 use Rattle.std.proofs.lemmas.List.{get_or-set_same, get_or-set_other, get_or_default}
 use Rattle.std.proofs.lemmas.List.Kept.{AllPairs-from_increasing}
-use Rattle.mc_text.specs.Pair.{pair_of}
-use Rattle.mc_text.proofs.PairLemmas.{pair_of-injective}
 use Rattle.mc_igmp.specs.declared.record.Record.{Record}
 use Rattle.mc_igmp.specs.declared.record.Kind.{Kind}
 use Rattle.mc_igmp.specs.declared.record.Kind.TheVariants as kind
@@ -19,8 +17,7 @@ use Rattle.mc_filter.specs.declared.tally.ChannelState.TheVariants.{Included, Li
 use Rattle.mc_filter.specs.SourceFilter.{has}
 use Rattle.mc_filter.specs.FilterBuilding.{kind_admits, wanted}
 use Rattle.mc_filter.specs.Tallies.{AreStatesAfterRecord, IsTallied, channel_numbered}
-use Rattle.mc_filter.specs.Tallies.{excludes_after}
-use Rattle.mc_filter.specs.Tallies.{state_after_listing, state_after_record}
+use Rattle.mc_filter.specs.Tallies.{excludes_after, state_after_record}
 
 -- IsTallyOf, of the numbers of EXCLUDE records and the states that a tally has
 abbrev pub AreTallied : (groups channels : List ℕ) → List Record → (excludes : List ℕ)
@@ -31,127 +28,12 @@ AreTallied groups channels records excludes state left =
     IsTallied (get_or state c d) (get_or excludes g 0)
     (wanted left (get_or groups g 0) s) (wanted records (get_or groups g 0) s)
 
--- a source that a record lists twice counts once
-state_after_listing-twice : (of_kind : Kind) (excludes : ℕ) (state : ChannelState)
-    → state_after_listing of_kind excludes (state_after_listing of_kind excludes state)
-    ≡ state_after_listing of_kind excludes state
-state_after_listing-twice kind.Include excludes state = refl
-state_after_listing-twice kind.Exclude excludes state = grind (arith, nat_tests)
-state_after_listing-twice (kind.Change type) excludes state = refl
-state_after_listing-twice (kind.Unknown type) excludes state = refl
-
--- a state after a listing is that after it and a record that lists the source or not
-pub state_after_record-listed : (listed : Bool) (of_kind : Kind) (excludes : ℕ) (state : ChannelState)
-    → state_after_record listed of_kind excludes (state_after_listing of_kind excludes state)
-    ≡ state_after_listing of_kind excludes state
-state_after_record-listed true of_kind excludes state = state_after_listing-twice of_kind excludes state
-state_after_record-listed false of_kind excludes state = refl
-
--- a record of the channel's group, with its source as the next one, updates the state as if it listed it
-state_after_record-own_source : (a b c : Bool) (of_kind : Kind) (excludes : ℕ) (state : ChannelState)
-    → (a && b) ≡ true
-    → state_after_record (a && (b || c)) of_kind excludes state ≡ state_after_listing of_kind excludes state
-state_after_record-own_source true true c of_kind excludes state h = refl
-state_after_record-own_source true false c of_kind excludes state h = absurd cc
-state_after_record-own_source false b c of_kind excludes state h = absurd cc
-
--- updating the channels of the sources that are left gives the same as updating those of all sources
-abbrev pub AreListedUpTo : List ℕ → ℕ → Kind → ℕ → List ℕ → List ℕ → List ChannelState → List ChannelState
-    → Type 0
-AreListedUpTo channels group of_kind excludes left sources now old =
-    (c g s : ℕ) (d : ChannelState) → c < length channels → channel_numbered channels c ≡ (s, g)
-    → state_after_record (eqb group g && has left s) of_kind excludes (get_or now c d)
-    ≡ state_after_record (eqb group g && has sources s) of_kind excludes (get_or old c d)
-
--- what is false with one case is true with another case by that alone
-and_or-false : (a b c : Bool) → (a && b) ≡ false → (a && (b || c)) ≡ (a && c)
-and_or-false true true c h = absurd cc
-and_or-false true false c h = refl
-and_or-false false b c h = refl
-
--- channels with one source and one group have one number
-channel_number-unique : (channels : List ℕ) (c place s g x group : ℕ) → channel_numbered channels c ≡ (s, g)
-    → channel_numbered channels place ≡ (x, group) → x ≡ s → g ≡ group
-    → get_or channels c 0 ≡ get_or channels place 0
-channel_number-unique channels c place s g x group is found source same =
-    pair_of-injective (get_or channels c 0) (get_or channels place 0)
-    (is ∙ ap (λ (n : ℕ). let p : ℕ × ℕ = (n, g) in p) (sym source)
-    ∙ ap (λ (n : ℕ). let p : ℕ × ℕ = (x, n) in p) same ∙ sym found)
-
--- updating the channel at a place, which is that of the next source
-pub AreListedUpTo-found : (channels : List ℕ) (group : ℕ) (of_kind : Kind) (excludes x place : ℕ) (own :
-    ChannelState)
-    (left sources : List ℕ) (now old : List ChannelState) → IsStrictlyIncreasing channels
-    → length now ≡ length channels
-    → (place < length channels) × (channel_numbered channels place ≡ (x, group))
-    → own ≡ get_or now place own
-    → AreListedUpTo channels group of_kind excludes (x ∷ left) sources now old
-    → AreListedUpTo channels group of_kind excludes left sources
-    (set now place (state_after_listing of_kind excludes own)) old
-AreListedUpTo-found channels group of_kind excludes x place own left sources now old up count found at
-    before c g s d within is =
-    let rises = AllPairs-from_increasing channels up in
-    elim (cases_eq c place) [
-      | inl here ↦
-          let pair = sym is ∙ ap (channel_numbered channels) here ∙ found.1 in
-          let same : (g ≡ group) × (s ≡ x) =
-          (ap (λ (p : ℕ × ℕ). p.1) pair, ap (λ (p : ℕ × ℕ). p.0) pair) in
-          let old_own : get_or now c d ≡ own =
-          get_or_default now c d own (omega (arith, within, count)) ∙ ap (λ n. get_or now n own)
-          here
-          ∙ sym at in
-          let listed : (eqb group g && eqb x s) ≡ true = grind (arith, nat_tests, same.0, same.1) in
-          let state = before c g s d within is in
-          let new_own : get_or (set now place (state_after_listing of_kind excludes own)) c d
-          ≡ state_after_listing of_kind excludes own =
-          ap (λ n. get_or (set now place (state_after_listing of_kind excludes own)) n d) here
-          ∙ get_or-set_same now place (state_after_listing of_kind excludes own) d
-          (omega (arith, found.0, count)) in
-          rw new_own (state_after_record-listed (eqb group g && has left s) of_kind excludes own
-          ∙ sym (state_after_record-own_source (eqb group g) (eqb x s)
-          (has left s) of_kind excludes own listed)
-          ∙ ap (λ t. state_after_record (eqb group g && has (x ∷ left) s) of_kind excludes t) (sym old_own)
-          ∙ state)
-      | inr there ↦
-          let other : (eqb group g && eqb x s) ≡ false =
-          elim (cases_eq g group) [
-            | inl same ↦ elim (cases_eq x s) [
-              | inl listed ↦ absurd (
-                  let number : get_or channels c 0 ≡ get_or channels place 0 =
-                  channel_number-unique channels c place s g x group is found.1 listed same in
-                  grind (arith, there, rises c place 0, rises place c 0, number, within, found.0))
-              | inr apart ↦ grind (arith, nat_tests, apart)
-            ]
-            | inr apart ↦ grind (arith, nat_tests, apart)
-          ] in
-          rw (get_or-set_other now place c (state_after_listing of_kind excludes own) d there)
-          (rw (and_or-false (eqb group g) (eqb x s) (has left s) other)
-          at (before c g s d within is))
-    ]
-
--- a source that makes no channel
-pub AreListedUpTo-missed : (channels : List ℕ) (group : ℕ) (of_kind : Kind) (excludes x n : ℕ)
-    (left sources : List ℕ) (now old : List ChannelState) → pair_of n ≡ (x, group) → ¬ Contains channels n
-    → AreListedUpTo channels group of_kind excludes (x ∷ left) sources now old
-    → AreListedUpTo channels group of_kind excludes left sources now old
-AreListedUpTo-missed channels group of_kind excludes x n left sources now old pair missed before
-    c g s d within is =
-    let other : (eqb group g && eqb x s) ≡ false =
-    elim (cases_eq g group) [
-      | inl same ↦ elim (cases_eq x s) [
-        | inl listed ↦ absurd (missed (
-          c,
-          within,
-          get_or_default channels c n 0 within
-              ∙ pair_of-injective (get_or channels c 0) n
-              (is ∙ ap (λ (m : ℕ). let p : ℕ × ℕ = (m, g) in p) (sym listed)
-              ∙ ap (λ (m : ℕ). let p : ℕ × ℕ = (x, m) in p) same ∙ sym pair),
-        ))
-        | inr apart ↦ grind (arith, nat_tests, apart)
-      ]
-      | inr apart ↦ grind (arith, nat_tests, apart)
-    ] in
-    rw (and_or-false (eqb group g) (eqb x s) (has left s) other) at (before c g s d within is)
+-- the group is at this place of an index, and `excludes` has a number for each group
+pub record IsGroupAt (groups excludes : List ℕ) (group place : ℕ) : Type 0 where
+  pub ascending : IsStrictlyIncreasing groups
+  pub count : length groups ≡ length excludes
+  pub within : place < length excludes
+  pub group_is : get_or groups place 0 ≡ group
 
 -- a record whose type has no filter changes nothing
 tallied-other_type : (listed : Bool) (excludes : ℕ) (state : ChannelState) (left all : Bool)
@@ -213,66 +95,76 @@ tallied_more true false kind.Exclude excludes (Listed count) left all h = record
   wants = grind (arith, nat_tests, h.within, h.wants);
 }
 
--- one more record, whose group is among the groups
-pub AreTallied-more : (groups channels : List ℕ) (records left : List Record)
-    (excludes : List ℕ) (state now : List ChannelState) (place : ℕ) (r : Record)
-    → IsStrictlyIncreasing groups → length groups ≡ length excludes → place < length excludes
-    → get_or groups place 0 ≡ r.group
-    → AreStatesAfterRecord channels r (get_or excludes place 0) state now
-    → AreTallied groups channels records excludes state (r ∷ left)
-    → AreTallied groups channels records
-    (set excludes place (excludes_after r.kind (get_or excludes place 0))) now left
-AreTallied-more groups channels records left excludes state now place r up count inside at each before
-    g c s d below within is =
-    let rises = AllPairs-from_increasing groups up in
-    let group : ℕ = get_or groups g 0 in
-    let own : Bool = eqb r.group group in
-    let all : Bool = wanted records group s in
-    let old = before g c s d below within is in
-    let state_is = each c group s d within is in
-    elim (cases_eq g place) [
-      | inl here ↦
-          let yes : own ≡ true = eq-eqb r.group group (sym at ∙ ap (λ n. get_or groups n 0) (sym
-          here)) in
-          let seen : get_or (set excludes place (excludes_after r.kind (get_or excludes place 0))) g
-          0
-          ≡ cond own (excludes_after r.kind (get_or excludes place 0)) (get_or excludes place 0) =
-          ap (λ n. get_or (set excludes place (excludes_after r.kind (get_or excludes place 0))) n 0)
-          here
-          ∙ get_or-set_same excludes place (excludes_after r.kind (get_or excludes place 0)) 0 inside
-          ∙ sym (ap (λ b. cond b (excludes_after r.kind (get_or excludes place 0)) (get_or excludes
-          place 0)) yes) in
-          rw (state_is, seen) (tallied_more own (has r.sources s) r.kind (get_or excludes place 0)
-          (get_or state c d)
-          (wanted left group s) all
-          (subst (λ n. IsTallied (get_or state c d) (get_or excludes n 0) (wanted (r ∷ left) group s)
-          all) here old))
-      | inr there ↦
-          let no : own ≡ false =
-          elim (cases_eq r.group group) [
-            | inl same ↦ absurd (
-                let one : get_or groups place 0 ≡ get_or groups g 0 = at ∙ same in
-                grind (arith, there, rises g place 0, rises place g 0, one, below, inside, count))
-            | inr apart ↦ grind (arith, nat_tests, apart)
-          ] in
-          let seen : get_or (set excludes place (excludes_after r.kind (get_or excludes place 0))) g
-          0
-          ≡ cond own (excludes_after r.kind (get_or excludes g 0)) (get_or excludes g 0) =
-          get_or-set_other excludes place g (excludes_after r.kind (get_or excludes place 0)) 0 there
-          ∙ sym (ap (λ b. cond b (excludes_after r.kind (get_or excludes g 0)) (get_or excludes g 0))
-          no) in
-          let new_state_is : get_or now c d
-          ≡ state_after_record (own && has r.sources s) r.kind (get_or excludes g 0) (get_or state c d) =
-          state_is
-          ∙ ap (λ b. state_after_record (b && has r.sources s) r.kind (get_or excludes place 0)
-          (get_or state c
-          d)) no
-          ∙ sym (ap (λ b. state_after_record (b && has r.sources s) r.kind (get_or excludes g 0)
-          (get_or state c
-          d)) no) in
-          rw (new_state_is, seen) (tallied_more own (has r.sources s) r.kind (get_or excludes g 0)
-          (get_or state c d) (wanted left group s) all old)
-    ]
+-- one more record, whose group is at a place
+module _ (groups channels : List ℕ) (records left : List Record) (excludes : List ℕ)
+    (state now : List ChannelState) (r : Record) (place : ℕ)
+    (found : IsGroupAt groups excludes r.group place)
+    (each : AreStatesAfterRecord channels r (get_or excludes place 0) state now)
+    (before : AreTallied groups channels records excludes state (r ∷ left)) where
+  -- how many EXCLUDE records the group had
+  abbrev own_count : ℕ
+  own_count = get_or excludes place 0
+
+  -- the numbers with this record
+  abbrev counted : List ℕ
+  counted = set excludes place (excludes_after r.kind own_count)
+
+  -- a channel of the record's group
+  tallied-own_group : (g c s : ℕ) (d : ChannelState) → g < length groups → c < length channels
+      → channel_numbered channels c ≡ (s, get_or groups g 0) → g ≡ place
+      → IsTallied (get_or now c d) (get_or counted g 0) (wanted left (get_or groups g 0) s)
+      (wanted records (get_or groups g 0) s)
+  tallied-own_group g c s d below within is here =
+      let group : ℕ = get_or groups g 0 in
+      let own : Bool = eqb r.group group in
+      let all : Bool = wanted records group s in
+      let yes : own ≡ true =
+      eq-eqb r.group group (sym found.group_is ∙ ap (λ n. get_or groups n 0) (sym here)) in
+      let seen : get_or counted g 0 ≡ cond own (excludes_after r.kind own_count) own_count =
+      ap (λ n. get_or counted n 0) here
+      ∙ get_or-set_same excludes place (excludes_after r.kind own_count) 0 found.within
+      ∙ sym (ap (λ b. cond b (excludes_after r.kind own_count) own_count) yes) in
+      rw (each c group s d within is, seen) (tallied_more own (has r.sources s) r.kind own_count
+      (get_or state c d) (wanted left group s) all
+      (subst (λ n. IsTallied (get_or state c d) (get_or excludes n 0) (wanted (r ∷ left) group s) all) here
+      (before g c s d below within is)))
+
+  -- a channel of another group
+  tallied-other_group : (g c s : ℕ) (d : ChannelState) → g < length groups → c < length channels
+      → channel_numbered channels c ≡ (s, get_or groups g 0) → ¬ (g ≡ place)
+      → IsTallied (get_or now c d) (get_or counted g 0) (wanted left (get_or groups g 0) s)
+      (wanted records (get_or groups g 0) s)
+  tallied-other_group g c s d below within is there =
+      let rises = AllPairs-from_increasing groups found.ascending in
+      let group : ℕ = get_or groups g 0 in
+      let excluded : ℕ = get_or excludes g 0 in
+      let own : Bool = eqb r.group group in
+      let all : Bool = wanted records group s in
+      let no : own ≡ false =
+      elim (cases_eq r.group group) [
+        | inl same ↦ absurd (
+            let one : get_or groups place 0 ≡ get_or groups g 0 = found.group_is ∙ same in
+            grind (arith, there, rises g place 0, rises place g 0, one, below, found.within, found.count))
+        | inr apart ↦ grind (arith, nat_tests, apart)
+      ] in
+      let seen : get_or counted g 0 ≡ cond own (excludes_after r.kind excluded) excluded =
+      get_or-set_other excludes place g (excludes_after r.kind own_count) 0 there
+      ∙ sym (ap (λ b. cond b (excludes_after r.kind excluded) excluded) no) in
+      let new_state_is : get_or now c d
+      ≡ state_after_record (own && has r.sources s) r.kind excluded (get_or state c d) =
+      each c group s d within is
+      ∙ ap (λ b. state_after_record (b && has r.sources s) r.kind own_count (get_or state c d)) no
+      ∙ sym (ap (λ b. state_after_record (b && has r.sources s) r.kind excluded (get_or state c d)) no) in
+      rw (new_state_is, seen) (tallied_more own (has r.sources s) r.kind excluded (get_or state c d)
+      (wanted left group s) all (before g c s d below within is))
+
+  -- so all channels are tallied
+  pub AreTallied-more : AreTallied groups channels records
+      (set excludes place (excludes_after r.kind (get_or excludes place 0))) now left
+  AreTallied-more g c s d below within is = elim (cases_eq g place) [
+    | inl here ↦ tallied-own_group g c s d below within is here
+    | inr there ↦ tallied-other_group g c s d below within is there
+  ]
 
 -- a record whose group isn't among the groups changes nothing
 pub AreTallied-other_group : (groups channels : List ℕ) (records left : List Record)

@@ -244,6 +244,7 @@ pub interfaces-same_for_each_flow : (d : DomainValue) (flow flow' lan : ℕ)
 unfolding interfaces
 interfaces-same_for_each_flow d flow flow' lan = refl
 
+-- so the list at a LAN's number has the interfaces of the LAN, whatever the flow
 pub interfaces_of-at_index : (d : DomainValue) (is : List (List Interface)) (own : List Interface)
     (lan flow : ℕ) → is ≡ interfaces_of d
     → lan < length d.topology.lans → own ≡ get_or is lan own → own ≡ interfaces (net_of d flow) lan

@@ -51,6 +51,7 @@ map_to_oif-oif_pairs : (oifs : List Oif) → map to_oif (oif_pairs oifs) ≡ oif
 map_to_oif-oif_pairs [] = refl
 map_to_oif-oif_pairs (o ∷ oifs) = ap (λ (os : List Oif). o ∷ os) (map_to_oif-oif_pairs oifs)
 
+-- an entry with this incoming vif and these outgoing ones
 abbrev entry_with : ℕ → List Oif → EntryValue
 entry_with iif oifs = record { iif = iif; oifs = oifs }
 

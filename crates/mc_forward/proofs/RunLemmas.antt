@@ -3,11 +3,13 @@ use Rattle.std.proofs.Common.{◌≡◌, ◌<◌, ◌↔◌, List, [], ◌∷◌
 use Rattle.mc_theory.specs.Nets.{Net}
 use Rattle.mc_theory.specs.Flights.{Flight, Pick, InRange, apply_pick, picked_index, run}
 
+-- the last pick is applied where the others lead,
 pub run-push : (n : Net) (ps : List Pick) (p : Pick) (f : Flight)
     → run n (ps ++ p ∷ []) f ≡ apply_pick n p (run n ps f)
 run-push n [] p f = refl
 run-push n (q ∷ ps) p f = run-push n ps p (apply_pick n q f)
 
+-- and is in range there
 pub in_range-push : (n : Net) (ps : List Pick) (p : Pick) (f : Flight)
     → InRange n (ps ++ p ∷ []) f ↔ (InRange n ps f × (picked_index p < length (run n ps f).waiting))
 in_range-push n [] p f = ((λ h. (tt, h.0)), (λ h. (h.1, tt)))

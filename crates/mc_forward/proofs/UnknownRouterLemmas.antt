@@ -10,6 +10,7 @@ use Rattle.mc_theory.specs.Nets.Row.{NoRow}
 use Rattle.mc_forward.specs.Domains.{VifsValue, DomainValue, AreRows, AreVifs, lan_of_vif, placed_of}
 use Rattle.mc_forward.specs.Domains.{row_of}
 
+-- a router past the last has no table of vifs,
 pub placed_of-none_past_last_router : (d : DomainValue) → AreVifs d.topology d.vifs → (router vif : ℕ)
     → length d.topology.routers ≤ router → placed_of d router vif ≡ None
 placed_of-none_past_last_router d ok router vif past =
@@ -17,6 +18,7 @@ placed_of-none_past_last_router d ok router vif past =
     (option_and_then (λ own. finite.get own vif) o))
     (slice_get_past d.vifs router (omega (arith, ok.routers)))
 
+-- and no row
 pub row_of-none_past_last_router : (d : DomainValue) → AreRows d.topology d.rows → (flow router : ℕ)
     → length d.topology.routers ≤ router → row_of d flow router ≡ NoRow
 row_of-none_past_last_router d ok flow router past =

@@ -62,6 +62,7 @@ are_answers-from_reports t ts rs wants counted size each = record {
       (each lan records.0 wanted records.1 at).count);
 }
 
+-- so the domain with these answers is the one that the tables and the reports make
 pub is_assembled-from_reports : (t : TopologyValue) (ts : List TablesValue) (rs : List (List Record))
     (wants : List (List Bool))
     → length wants ≡ length rs → RelatedAtEachIndex (AreWanted t.flows) rs wants

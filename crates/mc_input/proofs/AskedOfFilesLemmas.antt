@@ -57,6 +57,7 @@ same_list-read files name records read is again =
 
 -- ---- one answer
 
+-- a LAN's file is one part, which has one list of records
 IsListOf-unique : (files : List FileText) (lan : List ℕ) (a b : List Record) → IsListOf files lan a
     → IsListOf files lan b → a ≡ b
 IsListOf-unique files lan a b one other =
@@ -73,6 +74,7 @@ AreListsOf-unique files t a b one other =
     let lan = slice_get-exists t.lans k (omega (arith, within, one.count)) in
     IsListOf-unique files lan.0 x y (one.each k lan.0 x lan.1 at) (other.each k lan.0 y lan.1 here))
 
+-- a router's file is one part, which has one list of rows, and the states are computed from the rows
 AreStatesOfRouter-unique : (files : List FileText) (wants : List (Want × List ℕ))
     (vifs : FinMap nat_cmp VifValue) (r : RouterRow) (a b : List RouterState)
     → AreStatesOfRouter files wants vifs r a → AreStatesOfRouter files wants vifs r b → a ≡ b
@@ -96,6 +98,7 @@ AreStatesOf-unique files wants d a b rules one other =
     AreStatesOfRouter-unique files wants vifs.0 r.0 x y (one.each k r.0 vifs.0 x r.1 vifs.1 at)
     (other.each k r.0 vifs.0 y r.1 vifs.1 here))
 
+-- all that is asked is computed from the lists and the caches, of which there is one each
 pub IsAskedOf-unique : (all : Bool) (ignored : List (ℕ × ℕ)) (files : List FileText) (d : DomainValue)
     (a b : UnansweredWantsValue) → IsDomain d → IsAskedOf all ignored files d a
     → IsAskedOf all ignored files d b → a ≡ b

@@ -45,9 +45,11 @@ use Rattle.mc_input.proofs.WalkLemmas.{read_stream-Err_implied}
 -- ---- a source whose faults are those of an input
 
 module _ (source : ℕ → Slot → Result PartText InputFault) where
+  -- the source, with its faults made those of reading a domain
   abbrev converted : ℕ → Slot → Result PartText SourceFault
   converted n slot = map_fault Input (source n slot)
 
+  -- a part that it gives is read as before, but for the kind of the fault
   read_part-converted : {X : Type 0} (given : Result PartText InputFault)
       (read : PartText → Result X InputFault)
       → read_part Input (map_fault Input given) read ≡ map_fault Input (read_part (λ fault. fault) given read)
@@ -59,6 +61,7 @@ module _ (source : ℕ → Slot → Result PartText InputFault) where
       by (Err fault) = refl
   read_part-converted (Err fault) read = refl
 
+  -- so are a router's two parts,
   router_tables-converted : (n : ℕ) (name : List ℕ) (order : Order)
       → router_tables Input converted n name order
       ≡ map_fault Input (router_tables (λ fault. fault) source n name order)
@@ -79,6 +82,7 @@ module _ (source : ℕ → Slot → Result PartText InputFault) where
       by (Ok x) (Err fault) = refl
       by (Err fault) b = refl
 
+  -- those of all routers,
   all_tables-converted : (n : ℕ) (rs : List RouterRow)
       → all_tables Input converted n rs ≡ map_fault Input (all_tables (λ fault. fault) source n rs)
   unfolding all_tables
@@ -96,6 +100,7 @@ module _ (source : ℕ → Slot → Result PartText InputFault) where
       by (Ok x) (Err fault) = refl
       by (Err fault) b = refl
 
+  -- those of all LANs,
   all_reports-converted : (n : ℕ) (lans : List (List ℕ))
       → all_reports Input converted n lans ≡ map_fault Input (all_reports (λ fault. fault) source n lans)
   unfolding all_reports
@@ -113,6 +118,7 @@ module _ (source : ℕ → Slot → Result PartText InputFault) where
       by (Ok x) (Err fault) = refl
       by (Err fault) b = refl
 
+  -- and all together
   read_tables_and_reports-converted : (t : TopologyValue) → read_tables_and_reports Input converted t
       ≡ map_fault Input (read_tables_and_reports (λ fault. fault) source t)
   unfolding read_tables_and_reports
@@ -132,9 +138,11 @@ module _ (source : ℕ → Slot → Result PartText InputFault) where
 -- ---- the parts of a bundle, whose names are right
 
 module _ (whole : List PartText) where
+  -- the bundle as a source of parts: each has to have the name of its slot
   abbrev of_bundle : ℕ → Slot → Result PartText SourceFault
   of_bundle n slot = map_fault Input (part_with_slot_name whole n slot)
 
+  -- where the names are right, it gives the bundle's parts
   parts_of_slots-named : (n : ℕ) (ss : List Slot) (here : List PartText) → drop n whole ≡ here
       → map (λ part. part.name) here ≡ map part_name ss
       → parts_of_slots of_bundle n ss ≡ map (λ part. Ok part) here
@@ -184,9 +192,11 @@ module _ (whole : List PartText) where
 
 module _ (certified : Bool) (t : TopologyValue) (part : PartText) (here : List PartText)
     (name : part.name ≡ part_name topology_slot) where
+  -- all parts: the topology's and those after it
   abbrev all : List PartText
   all = part ∷ here
 
+  -- the input of this topology, from all parts
   abbrev read_all : Result InputValue InputFault
   read_all = read_tables_and_reports (λ fault. fault) (part_with_slot_name all) t
 

@@ -36,10 +36,12 @@ has_name-from_named (Some p) name n part e =
       subst (λ (q : PartText). q.name ≡ name) test.1 ((bytes_eq-Decides p.name name).0 test.0),
     )
 
+-- a bundle gives a part for a slot only under the slot's name
 GivesSlotNames-part_with_slot_name : (parts : List PartText) → GivesSlotNames (part_with_slot_name parts)
 GivesSlotNames-part_with_slot_name parts n slot part e =
     (has_name-from_named (slice_get parts n) (part_name slot) n part e).1
 
+-- and gives it where there is one
 pub part_with_slot_name-Ok : (parts : List PartText) (n : ℕ) (slot : Slot) (part : PartText)
     → slice_get parts n ≡ Some part → part.name ≡ part_name slot
     → part_with_slot_name parts n slot ≡ Ok part

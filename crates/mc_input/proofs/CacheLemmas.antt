@@ -38,6 +38,7 @@ cache_and_text-Err order part (Err own) each fault e =
     let same : Cache part.name own ≡ fault = cc in rw (each own refl) (ap Err same)
 
 module _ (order : Order) (pairs : List (ℕ × ℕ)) where
+  -- a cache whose listed rows are read is read whole, and they are the listed part of it,
   pub cache_and_text-from_listed : (part : PartText) (listed : CacheValue)
       → listed_part order pairs part ≡ Ok listed
       → (whole : CacheValue)
@@ -48,6 +49,7 @@ module _ (order : Order) (pairs : List (ℕ × ℕ)) where
       let whole = listed_in-is_part order (Some pairs) part.bytes listed found in
       (whole.0, rw whole.1 refl, whole.2)
 
+  -- and one that is refused for its listed rows is refused whole
   pub cache_and_text-listed_Err : (part : PartText) (fault : InputFault)
       → listed_part order pairs part ≡ Err fault → cache_and_text order part ≡ Err fault
   cache_and_text-listed_Err part fault e =
@@ -55,6 +57,7 @@ module _ (order : Order) (pairs : List (ℕ × ℕ)) where
       (λ own is. (listed_in-same_fault order (Some pairs) part.bytes own).0 is) fault e
 
   module _ (all : Bool) where
+    -- so it is of a cache that is read with a summary,
     pub cache_and_text-from_summary : (part : PartText) (own : SummarizedCache)
         → summary_of_part all order pairs part ≡ Ok own
         → (whole : CacheValue)
@@ -71,6 +74,7 @@ module _ (order : Order) (pairs : List (ℕ × ℕ)) where
           cache_rows_in-from_summary_in all order pairs part.bytes own found,
         )
 
+    -- and of its faults
     pub cache_and_text-summary_Err : (part : PartText) (fault : InputFault)
         → summary_of_part all order pairs part ≡ Err fault → cache_and_text order part ≡ Err fault
     cache_and_text-summary_Err part fault e =

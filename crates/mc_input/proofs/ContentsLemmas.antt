@@ -27,6 +27,8 @@ use Rattle.mc_input.specs.declared.fault.InputFault.{InputFault}
 use Rattle.mc_input.specs.declared.source_fault.SourceFault.{SourceFault}
 use Rattle.mc_input.specs.declared.source_fault.SourceFault.TheVariants.{Input}
 
+-- what is read of the routers, of which the definitions keep the tables, and of the LANs, each with the
+-- parts after it
 abbrev pub TablesAndRest : Type 0
 TablesAndRest = Result (List TablesValue × NextParts) SourceFault
 
@@ -40,12 +42,14 @@ ReportsAndRest = Result (List (List Record) × NextParts) SourceFault
 abbrev pub tables_alone : RoutersAndRest → TablesAndRest
 tables_alone found = found >>= λ reads. Ok (map (λ (read : RouterRead). read.tables) reads.0, reads.1)
 
+-- one router in front is one table in front
 tables_alone-in_front : (own : RouterRead) (found : RoutersAndRest)
     → tables_alone (found >>= λ others. Ok (own ∷ others.0, others.1))
     ≡ (tables_alone found >>= λ others. (let r : TablesAndRest = Ok (own.tables ∷ others.0, others.1) in r))
 tables_alone-in_front own (Ok found) = refl
 tables_alone-in_front own (Err fault) = refl
 
+-- a value in front leaves the parts after it
 with_rest-in_front : {X : Type 0} (own : X) (rest : NextParts) (found : Result (List X) SourceFault)
     → ((found >>= λ xs. (let r : Result (List X × NextParts) SourceFault = Ok (xs, rest) in r))
     >>= λ others. (let r : Result (List X × NextParts) SourceFault = Ok (own ∷ others.0, others.1) in r))

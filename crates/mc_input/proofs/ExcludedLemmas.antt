@@ -69,6 +69,7 @@ file_named-vif_slot (name ∷ names) files router =
       | false ↦ file_named-vif_slot names files router
     ]
 
+-- and so for the cache's file,
 pub file_named-cache_slot : (names : List (List ℕ)) (files : List FileText) (router : List ℕ)
     → file_named (files_with_exclusions names files) (file_name (cache_slot router))
     ≡ cond (is_excluded_name names router) (Some cache_header)
@@ -91,6 +92,7 @@ pub IsSameFile-reports_slot : (names : List (List ℕ)) (files : List FileText) 
 IsSameFile-reports_slot [] files lan = refl
 IsSameFile-reports_slot (name ∷ names) files lan = IsSameFile-reports_slot names files lan
 
+-- the topology's among them
 pub IsSameFile-topology_slot : (names : List (List ℕ)) (files : List FileText)
     → IsSameFile (files_with_exclusions names files) files topology_slot
 IsSameFile-topology_slot [] files = refl
@@ -110,6 +112,7 @@ is_excluded_name-at (own ∷ names) name (suc k) lt is =
       | false ↦ is_excluded_name-at names name k (omega (arith, lt)) is
     ]
 
+-- the same of a name that the list contains
 pub is_excluded_name-from_Contains : (names : List (List ℕ)) (name : List ℕ) → Contains names name
     → is_excluded_name names name ≡ true
 is_excluded_name-from_Contains names name there = is_excluded_name-at names name there.0 there.1 there.2
@@ -153,12 +156,14 @@ module _ (files : List FileText) where
 -- ---- where the files are the same, the same is read
 
 module _ (files others : List FileText) where
+  -- the part that a file makes
   file_part-same_file : (slot : Slot) → IsSameFile files others slot
       → file_part files slot ≡ file_part others slot
   file_part-same_file slot same =
       ap (λ found. bytes_within_max_part found
       >>= λ bytes. Ok (record { name = part_name slot; bytes = bytes })) same
 
+  -- the tables of a router
   pub router_tables-same_files : (n : ℕ) (name : List ℕ) (order : Order)
       → IsSameFile files others (vif_slot name) → IsSameFile files others (cache_slot name)
       → router_tables Input (part_from_file files) n name order
@@ -167,6 +172,7 @@ module _ (files others : List FileText) where
   router_tables-same_files n name order vif cache =
       rw (file_part-same_file (vif_slot name) vif, file_part-same_file (cache_slot name) cache) refl
 
+  -- the reports of all LANs
   pub all_reports-same_files : ((lan : List ℕ) → IsSameFile files others (reports_slot lan))
       → (n : ℕ) (lans : List (List ℕ))
       → all_reports Input (part_from_file files) n lans ≡ all_reports Input (part_from_file others) n lans
@@ -175,6 +181,7 @@ module _ (files others : List FileText) where
   all_reports-same_files same n (lan ∷ lans) =
       rw (file_part-same_file (reports_slot lan) (same lan), all_reports-same_files same (n + 1) lans) refl
 
+  -- the topology
   pub read_part-same_topology_file : (n : ℕ) → IsSameFile files others topology_slot
       → read_part Input (part_from_file files n topology_slot) topology_of
       ≡ read_part Input (part_from_file others n topology_slot) topology_of
@@ -264,6 +271,7 @@ is_some-position_from p i (x ∷ xs) =
       | false ↦ is_some-position_from p (i + 1) xs
     ]
 
+-- the same of the routers' names
 is_some-router_no_of : (name : List ℕ) (routers : List RouterRow)
     → is_some (router_no_of name routers) ≡ has_router name routers
 is_some-router_no_of name routers =
@@ -278,6 +286,7 @@ drop-map_now_suc [] i d lt = absurd (omega (arith, lt))
 drop-map_now_suc (text ∷ texts) zero d lt = refl
 drop-map_now_suc (text ∷ texts) (suc i) d lt = drop-map_now_suc texts i d (omega (arith, lt))
 
+-- the same with the next index as a sum
 drop-map_now : (texts : List (Bor (List ℕ))) (i : ℕ) (d : Bor (List ℕ)) → i < length texts
     → drop i (map (λ (text : Bor (List ℕ)). text.now) texts)
     ≡ (get_or texts i d).now ∷ drop (i + 1) (map (λ (text : Bor (List ℕ)). text.now) texts)
@@ -286,6 +295,7 @@ drop-map_now texts i d lt = rw (add-one) (drop-map_now_suc texts i d lt)
 module _ (t : TopologyValue) (texts : List (Bor (List ℕ))) (i : ℕ) (d : Bor (List ℕ))
     (no : Option ℕ) (lt : i < length texts)
     (is : no ≡ router_no_of (get_or texts i d).now t.routers) where
+  -- the check from a name on, by whether a router has the name
   check_router_names-by_case : (b : Bool) → is_some no ≡ b
       → check_router_names t (i + 1) (drop i (map (λ (text : Bor (List ℕ)). text.now) texts))
       ≡ cond b

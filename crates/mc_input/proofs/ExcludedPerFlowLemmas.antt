@@ -69,6 +69,7 @@ RouterRow-excluded names (Some r) e = (r, refl, e)
 
 module _ (names : List (List ℕ)) (files : List FileText) (part whole : DomainValue)
     (m : FilesMeanDomain (files_with_exclusions names files) part) (n : FilesMeanDomain files whole) where
+  -- the topology's file is the same, and so is the topology that is read of it,
   topology_read : m.input.topology ≡ n.input.topology
   topology_read = Ok-injective (sym (read_input-topology (part_from_file (files_with_exclusions names files))
       m.input (input_of_files-Ok (files_with_exclusions names files) m.input m.denotes))
@@ -76,9 +77,11 @@ module _ (names : List (List ℕ)) (files : List FileText) (part whole : DomainV
       (IsSameFile-topology_slot names files)
       ∙ read_input-topology (part_from_file files) n.input (input_of_files-Ok files n.input n.denotes))
 
+  -- and that of the two domains
   topology_same : part.topology ≡ whole.topology
   topology_same = m.assembled.topology ∙ topology_read ∙ sym n.assembled.topology
 
+  -- the LANs' files are the same, and so are the reports
   reports_same : m.input.reports ≡ n.input.reports
   reports_same =
       let theirs = subst (λ (t : TopologyValue).
@@ -90,6 +93,7 @@ module _ (names : List (List ℕ)) (files : List FileText) (part whole : DomainV
       (input_of_files-Ok (files_with_exclusions names files) m.input m.denotes))
       ∙ all_reports-with_exclusions names files m.input.topology ∙ theirs)
 
+  -- the files of a router that isn't excluded are the same, and so are its tables,
   tables_same : (router : ℕ) → is_excluded whole.topology names router ≡ false
       → slice_get m.input.tables router ≡ slice_get n.input.tables router
   tables_same router known =
@@ -102,6 +106,7 @@ module _ (names : List (List ℕ)) (files : List FileText) (part whole : DomainV
       (read_input-tables (part_from_file (files_with_exclusions names files)) m.input
       (input_of_files-Ok (files_with_exclusions names files) m.input m.denotes)) theirs here
 
+  -- its vifs
   vifs_same : (router vif : ℕ) → is_excluded whole.topology names router ≡ false
       → vif_of part.vifs router vif ≡ vif_of whole.vifs router vif
   vifs_same router vif known =
@@ -111,6 +116,7 @@ module _ (names : List (List ℕ)) (files : List FileText) (part whole : DomainV
       (tables_same router known)
       ∙ sym (ap own n.assembled.vifs ∙ vif_of-vifs_by_tables n.input.tables router vif)
 
+  -- and its row for each flow
   row_same : (flow router : ℕ) → is_excluded whole.topology names router ≡ false
       → row_of part flow router ≡ row_of whole flow router
   row_same flow router known =
@@ -122,6 +128,7 @@ module _ (names : List (List ℕ)) (files : List FileText) (part whole : DomainV
       ∙ sym (ap own n.assembled.rows
       ∙ rows_by_tables-at_router n.input.topology.flows n.input.tables flow router)
 
+  -- the same reports want the same flows
   wants_alike : part.wants ≡ whole.wants
   wants_alike =
       let theirs = subst (λ (rs : List (List Record)).
@@ -132,6 +139,7 @@ module _ (names : List (List ℕ)) (files : List FileText) (part whole : DomainV
       (AreCounted-from_PartsDenoteInput m.denotes.parts m.input None m.denotes.parts_denote).lans
       m.assembled theirs
 
+  -- so the nets agree for each flow but in the excluded routers, which have no vif and no row
   pub ExcludesRouters-from_files : (flow : ℕ)
       → ExcludesRouters (is_excluded whole.topology names) (net_of part flow) (net_of whole flow)
   ExcludesRouters-from_files flow = record {

@@ -8,6 +8,7 @@ use Rattle.mc_input.specs.declared.fault.InputFault.{InputFault}
 use Rattle.mc_input.specs.declared.fault.InputFault.TheVariants.{Memory}
 use Rattle.mc_input.specs.declared.source_fault.SourceFault.TheVariants.{Input}
 
+-- the fault of a source of files
 pub is_possible_for_files-from_file_fault : (fault : FileFault)
     → is_possible_for_files (from_file_fault fault) ≡ true
 is_possible_for_files-from_file_fault file.Failed = refl

@@ -27,6 +27,7 @@ IsReadOfFile files slot read kept =
 
 module _ {Y : Type 0} (files : List FileText) (t : TopologyValue) (n : ℕ) (slot : Slot)
     (at : slice_get (slots false t) n ≡ Some slot) (read : PartText → Result Y InputFault) where
+  -- the parts of the slots after this one
   abbrev others : NextParts
   others = parts_of_slots (part_from_file files) (n + 1) (drop (n + 1) (slots false t))
 
@@ -34,6 +35,7 @@ module _ {Y : Type 0} (files : List FileText) (t : TopologyValue) (n : ℕ) (slo
   given : files_give t n files ≡ (let s : Stream = Ok (part_from_file files n slot ∷ others) in s)
   given = rw (drop-slice_get (slots false t) n slot at) refl
 
+  -- so what is left after the first part is that of the file
   first_of_file : (part : PartText) (later : Stream) → files_give t n files ≡ part_then part later
       → file_part files slot ≡ Ok part
   first_of_file part later e =
@@ -66,6 +68,7 @@ module _ {Y : Type 0} (files : List FileText) (t : TopologyValue) (n : ℕ) (slo
       not_both : {x : Y} {fault : SourceFault} → (let r : Result Y SourceFault = Ok x in r) ≡ Err fault → ⊥
       not_both e = cc
 
+  -- what is kept of the first part is read of the file
   pub IsReadOfFile-of_slot : (gives later : Option Stream) (r : Result Y SourceFault)
       → gives ≡ Some (files_give t n files)
       → IfOk r (λ kept. KeepsOfFirst gives later read (λ value. kept ≡ value))

@@ -17,6 +17,7 @@ use Rattle.mc_input.specs.declared.source_fault.SourceFault.TheVariants.{Input}
 use Rattle.mc_input.proofs.SourceOfPartsLemmas.{Serves, GivesSlotNames}
 use Rattle.mc_input.proofs.SourceOfPartsLemmas.{HasInputParts-from_read_input, read_input-denoted}
 
+-- the part that a file makes has the name of its slot
 GivesSlotNames-part_from_file : (files : List FileText) → GivesSlotNames (part_from_file files)
 GivesSlotNames-part_from_file files n slot part e =
     (IsPartOfFile-from_file_part files slot part
@@ -35,6 +36,7 @@ ArePacked-from_Serves files n (slot ∷ slots) (part ∷ parts) h =
     let more = ArePacked-from_Serves files (n + 1) slots parts h.1 in
     ((made.0, made.1, more.0), (made.2, more.1))
 
+-- and parts that are packed of the files are given by them
 Serves-from_ArePacked : (files : List FileText) (n : ℕ) (slots : List Slot) (parts : List PartText)
     → ArePacked files slots parts → AllByRecursion IsWithinMaxPart parts
     → Serves (part_from_file files) n slots parts []

@@ -42,6 +42,7 @@ files_give-Ok t n seen files (Some own) later is e = (_, sym (some e))
 
 module _ (files : List FileText) where
   module _ (t : TopologyValue) where
+    -- the parts of the folder after the topology's
     abbrev parts : NextParts
     parts = parts_of_slots (part_from_file files) 1 (slots_after_topology false t)
 
@@ -86,6 +87,7 @@ module _ (files : List FileText) where
   -- ---- the summaries
 
   module _ (all : Bool) (t : TopologyValue) where
+    -- the summary is that of a router's cache as it was read
     abbrev IsOwn : RouterRead → SummaryValue → Type 0
     IsOwn = IsSummaryOfRead all (flow_pairs t.flows)
 

@@ -19,6 +19,7 @@ header_or_file-by_case true header found = refl
 header_or_file-by_case false header found = refl
 
 module _ (names : List (List ℕ)) (files : List FileText) where
+  -- the slot's file is seen as this header, if there is one, and else as the folder's
   abbrev Sees : Option (List ℕ) → Slot → Type 0
   Sees header s = file_named (files_with_exclusions names files) (file_name s)
       ≡ header_or_file header (file_named files (file_name s))

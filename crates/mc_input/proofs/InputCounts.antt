@@ -7,6 +7,7 @@ use Rattle.mc_forward.specs.Assembling.{HaveMatchingCounts}
 use Rattle.mc_forward.specs.Domains.{TablesValue}
 use Rattle.mc_input.specs.Input.{InputValue, PartsDenoteInput, PartsDenoteReports, PartsDenoteTables}
 
+-- the reports of the LANs
 length-PartsDenoteReports : (lans : List (List ℕ)) (here : List PartText) (all : List (List Record))
     (rest : List PartText)
     → PartsDenoteReports lans here all rest → length all ≡ length lans
@@ -17,6 +18,7 @@ length-PartsDenoteReports (lan ∷ lans) (part ∷ here) [] rest h = absurd h
 length-PartsDenoteReports (lan ∷ lans) (part ∷ here) (records ∷ all) rest h =
     ap suc (length-PartsDenoteReports lans here all rest h.1)
 
+-- the tables of the routers
 length-PartsDenoteTables : (routers : List RouterRow) (here : List PartText) (all : List TablesValue)
     (rest : List PartText)
     → PartsDenoteTables routers here all rest → length all ≡ length routers

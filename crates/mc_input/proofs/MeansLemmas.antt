@@ -90,6 +90,7 @@ IsReadOrMemory-by_contradiction (Input input.Memory) P loud none = inr refl
 IsReadOrMemory-by_contradiction (Input fault) P loud none =
     absurd (none (loud (λ silent. elim silent [ inl e ↦ absurd cc | inr e ↦ absurd cc ])))
 
+-- a bundle that means a domain is refused only where the input failed or memory ran out
 pub IsReadOrMemory-from_MeansDomain : (certified : Bool) (text : List ℕ) (certificate : Option (List ℕ))
     (d : DomainValue) (own : SourceFault) → is_some certificate ≡ certified
     → MeansDomain text certificate d
@@ -114,6 +115,7 @@ same_domain-from_MeansDomain certified text certificate own d read is own_is mea
 
 module _ {X : Type 0} (d : X → DomainValue) (cert : X → Option (List ℕ)) (certified : Bool)
     (s : PartsState) (start : s.stage ≡ stages.Start) where
+  -- what is read of a bundle is the domain that it means
   pub MeansDomain-from_result : (o : Option (List ℕ)) (r : Result X SourceFault) → s.remaining ≡ o
       → IfOk r (λ x. IsDomain (d x))
       → IfOk r (λ x. (text : List ℕ) → s.remaining ≡ Some text → ReadsDomain s text certified (d x) (cert x))
@@ -123,6 +125,7 @@ module _ {X : Type 0} (d : X → DomainValue) (cert : X → Option (List ℕ)) (
       MeansDomain-from_ReadsDomain certified s text (d x) (cert x) start rules (read text remaining)
   MeansDomain-from_result o (Err fault) remaining rules read = tt
 
+  -- a bundle that means a domain is read as that, unless the input fails or memory runs out
   pub same_domain-from_result : (r : Result X SourceFault) (text : List ℕ) (certificate : Option (List ℕ))
       (domain : DomainValue) → s.remaining ≡ Some text → is_some certificate ≡ certified
       → MeansDomain text certificate domain → IfOk r (λ x. IsDomain (d x))
@@ -137,6 +140,7 @@ module _ {X : Type 0} (d : X → DomainValue) (cert : X → Option (List ℕ)) (
       IsReadOrMemory-from_MeansDomain certified text certificate domain fault is means
       (input_of_bundle-Err certified s text fault start remaining refused)
 
+  -- the fault is that of the bundle
   pub input_of_bundle-Err_of_result : (r : Result X SourceFault) (text : List ℕ) → s.remaining ≡ Some text
       → IfErr r (IsFaultOf s (read_all_parts certified))
       → IfErr r (λ fault. ¬ IsReadOrMemory fault
@@ -157,6 +161,7 @@ pub is_some-certificate_text : (o : Option (Vec ℕ Global)) → is_some (certif
 is_some-certificate_text None = refl
 is_some-certificate_text (Some bytes) = refl
 
+-- the same of a result
 pub certificate_text-expected : {X : Type 0} (raw : X → Option (Vec ℕ Global)) (certified : Bool)
     (r : Result X SourceFault) → IfOk r (λ x. is_some (raw x) ≡ certified)
     → IfOk r (λ x. is_some (certificate_text (raw x)) ≡ certified)

@@ -20,15 +20,18 @@ abbrev part_name_fault_from : ℕ → Option ℕ → Result (Unit {0}) InputFaul
 part_name_fault_from n None = Ok tt
 part_name_fault_from n (Some k) = Err (Parts (n + k + 1))
 
+-- counting on by one is counting from one more
 part_name_fault_from-suc : (n : ℕ) (o : Option ℕ)
     → part_name_fault_from (n + 1) o ≡ part_name_fault_from n (option_map (λ k. k + 1) o)
 part_name_fault_from-suc n None = refl
 part_name_fault_from-suc n (Some k) = ap (λ m. Err (Parts m)) (omega arith)
 
+-- a mismatch of the first name is that at the number counted from
 Parts-add_zero : (n : ℕ) → (let r : Result (Unit {0}) InputFault = Err (Parts (n + 1)) in r)
     ≡ Err (Parts (n + 0 + 1))
 Parts-add_zero n = ap (λ m. Err (Parts m)) (omega arith)
 
+-- checking one by one finds the first mismatch of the two lists of names
 check_names_from-first_mismatch : (n : ℕ) (ss : List Slot) (parts : List PartText)
     → check_names_from n ss parts
     ≡ part_name_fault_from n (first_mismatch (map part_name ss) (map (λ part. part.name) parts))
@@ -46,11 +49,13 @@ check_names_from-first_mismatch n (slot ∷ ss) (part ∷ parts) =
     case_of true rest = rest ∙ part_name_fault_from-suc n _
     case_of false rest = Parts-add_zero n
 
+-- counted from the first part it is the fault of the whole
 part_name_fault_from-zero : (o : Option ℕ) → part_name_fault_from 0 o ≡ part_name_fault o
 part_name_fault_from-zero None = refl
 part_name_fault_from-zero (Some n) =
     let same : 0 + n + 1 ≡ n + 1 = omega arith in ap (λ m. Err (Parts m)) same
 
+-- so checking all one by one is the check of the whole
 pub check_names_from-zero : (certified : Bool) (t : TopologyValue) (parts : List PartText)
     → check_names_from 0 (slots certified t) parts ≡ check_part_names certified parts t
 check_names_from-zero certified t parts =

@@ -32,6 +32,7 @@ module _ {K Y : Type 0} (Keeps : K → Y → Type 0) where
   Err-from_IsPartResult input.Memory read is loud = absurd (loud refl)
   Err-from_IsPartResult fault read is loud = is
 
+  -- the same of a result that is known to be a fault
   pub Err-from_part_result : (part_result : Result K InputFault) (read : Result Y InputFault)
       (fault : InputFault) → IsPartResult Keeps part_result read → part_result ≡ Err fault
       → fault ≢ input.Memory → read ≡ Err fault

@@ -14,6 +14,7 @@ use Rattle.mc_input.specs.declared.fault.InputFault.{InputFault}
 use Rattle.mc_input.specs.declared.fault.InputFault.TheVariants.{Bundle}
 use Rattle.mc_input.proofs.BundleDenotesInputLemmas.{PartsDenoteInput-from_input_of_parts, input_of_parts-Ok}
 
+-- equal results have equal values
 pub Ok-injective : {A E : Type 0} {x y : A} → (let r : Result A E = Ok x in r) ≡ Ok y → x ≡ y
 Ok-injective e = cc
 
@@ -53,6 +54,7 @@ Err-from_with_certificate_text : (certified : Bool) (parts : List PartText) (r :
 Err-from_with_certificate_text certified parts (Ok v) fault e = absurd cc
 Err-from_with_certificate_text certified parts (Err other) fault e = cc
 
+-- so the bundle's input is refused with the same fault
 pub input_of_bundle-Err_from_read_bundle : (certified : Bool) (text : List ℕ) (fault : InputFault)
     → read_bundle certified text ≡ Err fault → input_of_bundle certified text ≡ Err fault
 unfolding input_of_bundle

@@ -34,6 +34,7 @@ from_bundle_fault-Bundle fault loud = (λ e. absurd cc, λ e. absurd cc, refl)
 
 module _ {X : Type 0} (s : PartsState) (text : List ℕ) (read : List PartText → Result X InputFault)
   where
+    -- what is wrong with the framing comes before whatever is read
     read_rest-framing_fault : (fault : BundleFault) → rest_of_bundle s text ≡ Err fault
         → read_rest s text read ≡ Err (Bundle fault)
     read_rest-framing_fault fault e = rw e refl
@@ -57,6 +58,7 @@ bind-same : {X : Type 0} (r : Result (List PartText) InputFault) (a b : List Par
 bind-same (Ok parts) a b each = each parts
 bind-same (Err fault) a b each = refl
 
+-- so two such readings of the rest of a bundle agree
 pub read_rest-same : {X : Type 0} (s : PartsState) (text : List ℕ)
     (a b : List PartText → Result X InputFault) → ((parts : List PartText) → a parts ≡ b parts)
     → read_rest s text a ≡ read_rest s text b
@@ -70,12 +72,14 @@ bind-both_Err : {X Y : Type 0} (r : Result (List PartText) InputFault)
 bind-both_Err (Ok parts) a b fault each e = each parts e
 bind-both_Err (Err other) a b fault each e = cc
 
+-- a fault of the input is one that was converted
 pub Err-from_map_fault : {X : Type 0} (r : Result X InputFault) (own : SourceFault)
     → map_fault Input r ≡ Err own
     → (fault : InputFault) × (r ≡ Err fault) × (own ≡ Input fault)
 Err-from_map_fault (Ok x) own e = absurd cc
 Err-from_map_fault (Err fault) own e = (fault, refl, cc)
 
+-- so the rest of a bundle is refused for both
 pub read_rest-both_Err : {X Y : Type 0} (s : PartsState) (text : List ℕ)
     (a : List PartText → Result X InputFault) (b : List PartText → Result Y InputFault)
     (own : SourceFault)
@@ -89,6 +93,7 @@ read_rest-both_Err s text a b own each e =
 -- ---- a part is read
 
 module _ {X : Type 0} where
+  -- what is read of the rest with a part in front is read of the rest, with the part put in front there
   before-bind_one : (part : PartText) (r : Result (List PartText) BundleFault)
       (read : List PartText → Result X InputFault)
       → (map_fault Bundle (prepend_parts (part ∷ []) r) >>= read)
@@ -115,6 +120,7 @@ module _ {X : Type 0} where
       let name = (bytes_eq-Decides part.name (part_name at.0)).1 at.2 in
       rw (from, name) refl
 
+  -- so a part that has its slot's name leaves the check to the parts after it
   pub read_rest-checked_part_passed : (certified : Bool) (t : TopologyValue) (n : ℕ) (s new : PartsState)
       (text later : List ℕ) (part : PartText) (read : List PartText → Result X InputFault)
       → rest_of_bundle s text ≡ prepend_parts (part ∷ []) (rest_of_bundle new later)
@@ -128,6 +134,7 @@ module _ {X : Type 0} where
 
 -- ---- to the end
 
+-- parts in front make no difference to a reading that ignores them
 prepend_parts-bind_ignored : (xs : List PartText) (r : Result (List PartText) BundleFault)
     → (map_fault Bundle (prepend_parts xs r) >>= λ _. Ok tt)
     ≡ (map_fault Bundle r >>= λ _. (let u : Result (Unit {0}) InputFault = Ok tt in u))
@@ -150,6 +157,7 @@ framing-part_passed s new done text later e =
 abbrev framing : PartsState → List ℕ → Result (Unit {0}) InputFault
 framing s text = read_rest s text (λ _. Ok tt)
 
+-- where it is right, there are parts
 pub framing-Ok : (s : PartsState) (text : List ℕ) (u : Unit {0})
     → map_fault Input (framing s text) ≡ Ok u
     → (parts : List PartText) × (rest_of_bundle s text ≡ Ok parts)
@@ -199,6 +207,7 @@ check_names_from-Err n slot others (part ∷ parts) fault e = by (bytes_eq part.
     by true e = absurd cc
     by false e = cc
 
+-- and so it is of the rest of a bundle
 pub IsFaultOf-check_names_from : (ss : List Slot) (s : PartsState) (n : ℕ) (slot : Slot)
     (r : Result (Unit {0}) SourceFault) → slice_get ss n ≡ Some slot
     → IfErr r (IsFaultOf s (λ parts. named (slice_get parts 0) (part_name slot) n))
@@ -213,6 +222,7 @@ IsFaultOf-check_names_from ss s n slot (Err own) at refused = λ text known loud
 
 -- ---- the names alone
 
+-- a part that has its slot's name leaves the check to the parts after it,
 check_names_from-part_passed : (certified : Bool) (t : TopologyValue) (n : ℕ) (part : PartText)
     (parts : List PartText) → HasNameOfSlot certified t n part.name
     → check_names_from n (drop n (slots certified t)) (part ∷ parts)
@@ -222,6 +232,7 @@ check_names_from-part_passed certified t n part parts at =
     let name = (bytes_eq-Decides part.name (part_name at.0)).1 at.2 in
     rw (from, name) refl
 
+-- and so it does in the rest of a bundle
 pub read_rest-name_passed : (certified : Bool) (t : TopologyValue) (n : ℕ) (s new : PartsState)
     (text later : List ℕ) (part : PartText)
     → rest_of_bundle s text ≡ prepend_parts (part ∷ []) (rest_of_bundle new later)
@@ -243,6 +254,7 @@ read_rest-names_Err s text names read own e =
     read_rest-both_Err s text names (λ parts. names parts >>= λ _. read parts) own
     (λ parts fault refused. rw refused refl) e
 
+-- a name that is there is one
 pub Some-from_IsSome_name : (s : PartsState) → IsSome s.name → (name : List ℕ) × (s.name ≡ Some name)
 Some-from_IsSome_name s there = by s.name there
   where

@@ -17,17 +17,12 @@ drop-slice_get_suc [] i x e = absurd (cc)
 drop-slice_get_suc (y ∷ ys) zero x e = cc
 drop-slice_get_suc (y ∷ ys) (suc i) x e = drop-slice_get_suc ys i x e
 
+-- the same with the next index as a sum
 pub drop-slice_get : {A : Type 0} (xs : List A) (i : ℕ) (x : A) → slice_get xs i ≡ Some x
     → drop i xs ≡ x ∷ drop (i + 1) xs
 drop-slice_get xs i x e = rw (add-one) (drop-slice_get_suc xs i x e)
 
 module _ {F : Type 0} (as_ours : InputFault → F) (source : ℕ → Slot → Result PartText F) where
-  -- ---- the routers' tables
-
-  -- ---- the LANs' reports
-
-  -- ---- the whole
-
   -- where the check passes, the result is that of the contents
   pub read_input-judged : (judge : TopologyValue → Result (Unit {0}) F) (t : TopologyValue) (x : Unit {0})
       → read_part as_ours (source 0 topology_slot) topology_of ≡ Ok t → judge t ≡ Ok x

@@ -98,6 +98,7 @@ file_fault-listed_part files slot order pairs = by (part_from_file files 0 slot)
     by (Ok part) = by_part part (listed_in order (Some pairs) part.bytes) refl
     by (Err fault) = refl
 
+-- so the cache's file is judged the same
 pub judged_file-listed_part : (files : List FileText) (slot : Slot) (order : Order) (pairs : List (ℕ × ℕ))
     → judged_file files slot (listed_part order pairs) ≡ judged_file files slot (cache_of order)
 judged_file-listed_part files slot order pairs =
@@ -105,6 +106,7 @@ judged_file-listed_part files slot order pairs =
 
 -- ---- lists
 
+-- what holds of two pairs of lists item by item holds of them put together
 Pairwise-append : {A B : Type 0} (R : A → B → Type 0) (xs ys : List A) (us vs : List B)
     → Pairwise R xs us → Pairwise R ys vs → Pairwise R (xs ++ ys) (us ++ vs)
 Pairwise-append R [] ys [] vs a b = b
@@ -112,6 +114,7 @@ Pairwise-append R [] ys (u ∷ us) vs a b = absurd a
 Pairwise-append R (x ∷ xs) ys [] vs a b = absurd a
 Pairwise-append R (x ∷ xs) ys (u ∷ us) vs a b = (a.0, Pairwise-append R xs ys us vs a.1 b)
 
+-- what is unread of two lists is counted together
 unread_count-append : (xs ys : List JudgedFile) → unread_count (xs ++ ys) ≡ unread_count xs + unread_count ys
 unread_count-append [] ys = omega arith
 unread_count-append (x ∷ xs) ys = omega (arith, unread_count-append xs ys)
@@ -129,11 +132,13 @@ unread_count-files_with_fault (file ∷ files) = by file.name file.fault (unread
     by name None rest = rest ∙ omega arith
     by name (Some fault) rest = ap (λ n. failure_count (Some fault) + n) rest
 
+-- what holds of the items of two lists holds of those of both
 AllByRecursion-append : {A : Type 0} (P : A → Type 0) (xs ys : List A)
     → AllByRecursion P xs → AllByRecursion P ys → AllByRecursion P (xs ++ ys)
 AllByRecursion-append P [] ys a b = b
 AllByRecursion-append P (x ∷ xs) ys a b = (a.0, AllByRecursion-append P xs ys a.1 b)
 
+-- the lists of the items so far, and then that of the next item
 flat_map-take_more : {A B : Type 0} (f : A → List B) (xs : List A) (i : ℕ) (x : A) → slice_get xs i ≡ Some x
     → flat_map f (take (suc i) xs) ≡ flat_map f (take i xs) ++ f x
 flat_map-take_more f [] i x at = absurd cc
@@ -142,6 +147,7 @@ flat_map-take_more f (y ∷ ys) (suc i) x at =
     ap (λ l. f y ++ l) (flat_map-take_more f ys i x at)
     ∙ sym (append_assoc (f y) (flat_map f (take i ys)) (f x))
 
+-- the same of one value for each item
 map-take_more : {A B : Type 0} (f : A → B) (xs : List A) (i : ℕ) (x : A) → slice_get xs i ≡ Some x
     → map f (take (suc i) xs) ≡ map f (take i xs) ++ f x ∷ []
 map-take_more f [] i x at = absurd cc
@@ -289,6 +295,7 @@ JudgesFiles-routers_all contents names rs i old new before after all judges =
 
 module _ (contents : Option (List FileText)) (lans : List (List ℕ)) (i : ℕ)
     (old between new : List JudgedFile) (before middle after : ℕ) where
+  -- of those of some LANs and of the next one
   pub JudgesFiles-lans_more : (lan : List ℕ) → slice_get lans i ≡ Some lan
       → JudgesFiles contents (λ known. map (judged_reports known) (take i lans)) old between before middle
       → JudgesFiles contents (λ known. judged_reports known lan ∷ []) between new middle after
@@ -302,6 +309,7 @@ module _ (contents : Option (List FileText)) (lans : List (List ℕ)) (i : ℕ)
       (JudgesFiles-append contents (λ known. map (judged_reports known) (take i lans))
       (λ known. judged_reports known lan ∷ []) old between new before middle after one other)
 
+-- and the files of all LANs
 pub JudgesFiles-lans_all : (contents : Option (List FileText)) (lans : List (List ℕ)) (i : ℕ)
     (old new : List JudgedFile) (before after : ℕ) → length lans ≤ i
     → JudgesFiles contents (λ known. map (judged_reports known) (take i lans)) old new before after
@@ -317,10 +325,12 @@ JudgesFiles-lans_all contents lans i old new before after all judges =
 abbrev IsReadOnlyIfMissing : List FileText → JudgedFile → Type 0
 IsReadOnlyIfMissing files file = file_named files file.name ≡ None → file.fault ≡ Some Read
 
+-- so it is of one slot's file,
 IsReadOnlyIfMissing-one : {X : Type 0} (files : List FileText) (slot : Slot)
     (read : PartText → Result X InputFault) → IsReadOnlyIfMissing files (judged_file files slot read)
 IsReadOnlyIfMissing-one files slot read none = rw (none) refl
 
+-- of a router's two files,
 IsReadOnlyIfMissing-tables : (names : List (List ℕ)) (files : List FileText) (r : RouterRow)
     → AllByRecursion (IsReadOnlyIfMissing files) (judged_tables names files r)
 IsReadOnlyIfMissing-tables names files r = by (list_any (λ name. bytes_eq name r.name) names)
@@ -334,6 +344,7 @@ IsReadOnlyIfMissing-tables names files r = by (list_any (λ name. bytes_eq name 
       (IsReadOnlyIfMissing-one files (cache_slot r.name) (cache_of r.order), tt),
     )
 
+-- of those of all routers,
 IsReadOnlyIfMissing-routers : (names : List (List ℕ)) (files : List FileText) (rs : List RouterRow)
     → AllByRecursion (IsReadOnlyIfMissing files) (flat_map (judged_tables names files) rs)
 IsReadOnlyIfMissing-routers names files [] = tt
@@ -342,6 +353,7 @@ IsReadOnlyIfMissing-routers names files (r ∷ rs) =
     (flat_map (judged_tables names files) rs)
     (IsReadOnlyIfMissing-tables names files r) (IsReadOnlyIfMissing-routers names files rs)
 
+-- and of those of all LANs
 IsReadOnlyIfMissing-lans : (files : List FileText) (lans : List (List ℕ))
     → AllByRecursion (IsReadOnlyIfMissing files) (map (judged_reports files) lans)
 IsReadOnlyIfMissing-lans files [] = tt
@@ -364,6 +376,7 @@ same_file-from_missing files own name (Some Read) given honest missing =
     let none = ap (file_named files) (sym given.name) ∙ missing refl in
     λ i. record { name = given.name i; fault = sym (honest none) i }
 
+-- and all such files
 same_files-from_missing : (files : List FileText) (own given : List JudgedFile)
     → Pairwise IsSameFileOrUnread own given → AllByRecursion (IsReadOnlyIfMissing files) own
     → AreUnreadFilesMissing files (files_with_fault given) → given ≡ own

@@ -43,6 +43,7 @@ module _ {F : Type 0} (source : ℕ → Slot → Result PartText F) where
   GivesSlotNames = (n : ℕ) (slot : Slot) (part : PartText) → source n slot ≡ Ok part
       → part.name ≡ part_name slot
 
+  -- the same from an equal number
   Serves-same_number : (m n : ℕ) (more : List Slot) (parts rest : List PartText) → n ≡ m
       → Serves n more parts rest → Serves m more parts rest
   Serves-same_number m n more parts rest is h = subst (λ (k : ℕ). Serves k more parts rest) is h
@@ -50,12 +51,14 @@ module _ {F : Type 0} (source : ℕ → Slot → Result PartText F) where
 module _ {F : Type 0} (as_ours : InputFault → F) (source : ℕ → Slot → Result PartText F) where
   -- ---- the routers' tables
 
+  -- the parts of these routers' slots denote the tables, and the source gives them before those of `more`
   record HasTableParts (n : ℕ) (rs : List RouterRow) (ts : List TablesValue) (rest : List PartText)
       (more : List Slot) (end : List PartText) : Type 0 where
     parts : List PartText
     denote : PartsDenoteTables rs parts ts rest
     served : Serves source n (flat_map router_slots rs ++ more) parts end
 
+  -- tables that are read are those of such parts
   HasTableParts-from_all_tables : GivesSlotNames source
       → (n : ℕ) (rs : List RouterRow) (ts : List TablesValue)
       (rest : List PartText) (more : List Slot) (end : List PartText)
@@ -108,6 +111,7 @@ module _ {F : Type 0} (as_ours : InputFault → F) (source : ℕ → Slot → Re
         );
       })
 
+  -- and tables that parts denote are read of them
   all_tables-denoted : (n : ℕ) (rs : List RouterRow) (here : List PartText) (ts : List TablesValue)
       (rest : List PartText) (more : List Slot) (end : List PartText)
       → PartsDenoteTables rs here ts rest → Serves source n (flat_map router_slots rs ++ more) here end
@@ -139,12 +143,14 @@ module _ {F : Type 0} (as_ours : InputFault → F) (source : ℕ → Slot → Re
 
   -- ---- the LANs' reports
 
+  -- the parts of these LANs' slots denote the reports, and the source gives them before those of `more`
   record HasReportParts (n : ℕ) (lans : List (List ℕ)) (all : List (List Record))
       (rest : List PartText) (more : List Slot) (end : List PartText) : Type 0 where
     parts : List PartText
     denote : PartsDenoteReports lans parts all rest
     served : Serves source n (map reports_slot lans ++ more) parts end
 
+  -- reports that are read are those of such parts
   HasReportParts-from_all_reports : GivesSlotNames source
       → (n : ℕ) (lans : List (List ℕ)) (all : List (List Record))
       (rest : List PartText) (more : List Slot) (end : List PartText)
@@ -179,6 +185,7 @@ module _ {F : Type 0} (as_ours : InputFault → F) (source : ℕ → Slot → Re
         served = (p.1, later.served);
       })
 
+  -- and reports that parts denote are read of them
   all_reports-denoted : (n : ℕ) (lans : List (List ℕ)) (here : List PartText)
       (all : List (List Record)) (rest : List PartText) (more : List Slot) (end : List PartText)
       → PartsDenoteReports lans here all rest → Serves source n (map reports_slot lans ++ more) here end

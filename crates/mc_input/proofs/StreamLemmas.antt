@@ -82,6 +82,7 @@ module _ (s : PartsState) (certified : Bool) (t : TopologyValue) (n : ℕ) where
       in_front (Err fault) = refl
       in_front (Ok parts) = by parts (names parts)
 
+  -- so the stream's first part is the one that the bundle's reader passes
   pub ReadsFirst-of_bundle : (new : PartsState) (Holds : PartText → Type 0)
       → ReadsPart s new (λ part. HasNameOfSlot certified t n part.name × Holds part)
       → ReadsFirst (option_map (bundle_gives s certified t n) s.remaining)
@@ -118,6 +119,7 @@ module _ (s : PartsState) (certified : Bool) (t : TopologyValue) (n : ℕ) where
       by [] is (Err fault) e = absurd cc
       by (slot ∷ ss) is r e = absurd cc
 
+  -- the same of the stream, if the bundle's bytes are known
   pub gives-ended : (u : Unit {0}) → drop n (slots certified t) ≡ []
       → ((text : List ℕ) → s.remaining ≡ Some text
       → map_fault Input (read_rest s text (check_names_from n (drop n (slots certified t)))) ≡ Ok u)
@@ -145,16 +147,19 @@ certificate_part-named true t n part bytes is number at same =
 -- ---- a folder
 
 module _ (t : TopologyValue) (n : ℕ) (slot : Slot) (at : slice_get (slots false t) n ≡ Some slot) where
+  -- the slot's own file is the first part,
   files_give-file : (files : List FileText) (part : PartText) → file_part files slot ≡ Ok part
       → files_give t n files ≡ part_then part (files_give t (n + 1) files)
   files_give-file files part made = rw (drop-slice_get (slots false t) n slot at, made) refl
 
+  -- and its fault is that of the first part
   files_give-file_Err : (files : List FileText) (own : FileFault) → file_part files slot ≡ Err own
       → (files_give t n files >>= first_part) ≡ Err (from_file_fault own)
   files_give-file_Err files own made = rw (drop-slice_get (slots false t) n slot at, made) refl
 
   -- what is seen of the files
   module _ (seen : List FileText → List FileText) where
+    -- the fault of the slot's file is that of the stream's first part
     pub IsFaultOfStream-of_file : (contents : Option (List FileText)) (own : FileFault)
         → ((files : List FileText) → contents ≡ Some files → (¬ IsFailedOrMemory own)
         → file_part (seen files) slot ≡ Err own)
@@ -166,6 +171,7 @@ module _ (t : TopologyValue) (n : ℕ) (slot : Slot) (at : slice_get (slots fals
         ap (λ (s : Stream). s >>= first_part) (sym (some_injective e))
         ∙ files_give-file_Err (seen files) own made
 
+    -- the part of the slot's file is the stream's first part
     pub ReadsFirst-of_file : (contents later : Option (List FileText)) (Holds : PartText → Type 0)
         → later ≡ contents
         → ((files : List FileText) → contents ≡ Some files

@@ -113,6 +113,7 @@ cache_rows_in-from_summary_in all order pairs text summarized e =
 
 -- ---- at most one list of summaries
 
+-- a router's file is one part, which has one list of rows
 IsSummaryOf-unique : (all : Bool) (files : List FileText) (flows : List Flow) (r : RouterRow)
     (a b : SummaryValue) → IsSummaryOf all files flows r a → IsSummaryOf all files flows r b → a ≡ b
 IsSummaryOf-unique all files flows r a b one other =
@@ -121,6 +122,7 @@ IsSummaryOf-unique all files flows r a b one other =
     (sym one.read ∙ ap (λ (p : PartText). cache_rows_in r.order p.bytes) part ∙ other.read) in
     one.summarized ∙ ap (summary_of all (flow_pairs flows)) rows ∙ sym other.summarized
 
+-- so each router has one summary
 pub AreSummariesOf-unique : (all : Bool) (files : List FileText) (t : TopologyValue) (a b : List SummaryValue)
     → AreSummariesOf all files t a → AreSummariesOf all files t b → a ≡ b
 AreSummariesOf-unique all files t a b one other =

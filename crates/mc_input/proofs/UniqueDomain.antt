@@ -28,12 +28,14 @@ same_lists-from_slice_get (x ∷ xs) (y ∷ ys) count each =
     let rest = same_lists-from_slice_get xs ys (omega (arith, count)) (λ k a b p q. each (suc k) a b p q) in
     λ i. first i ∷ rest i
 
+-- two tests of one fact have one answer
 same_Bool-from_iff : (a b : Bool) (W : Type 0) → (IsTrue a ↔ W) → (IsTrue b ↔ W) → a ≡ b
 same_Bool-from_iff true true W p q = refl
 same_Bool-from_iff true false W p q = sym (q.1 (p.0 refl))
 same_Bool-from_iff false true W p q = p.1 (q.0 refl)
 same_Bool-from_iff false false W p q = refl
 
+-- the answer for a LAN and a flow is the one in the LAN's row
 wants_of-slice_get : (d : DomainValue) (lan flow : ℕ) (row : List Bool) (b : Bool)
     → slice_get d.wants lan ≡ Some row
     → slice_get row flow ≡ Some b → wants_of d flow lan ≡ b

@@ -37,16 +37,19 @@ read_each_after read front xs parts = read_each read xs parts >>= λ found. Ok (
 -- where one reading is refused, so is one that begins with it
 module _ {X Y : Type 0} (a : NextParts → Result X SourceFault) (b : NextParts → Result Y SourceFault)
     (each : (parts : NextParts) (fault : SourceFault) → a parts ≡ Err fault → b parts ≡ Err fault) where
+  -- in one stream,
   pub read_stream-Err_implied : (stream : Stream) (own : SourceFault) → read_stream a stream ≡ Err own
       → read_stream b stream ≡ Err own
   read_stream-Err_implied (Ok parts) own e = each parts own e
   read_stream-Err_implied (Err fault) own e = cc
 
+  -- in a stream that may be known,
   pub IsFaultOfStream-implied : (gives : Option Stream) (own : SourceFault) → IsFaultOfStream gives a own
       → IsFaultOfStream gives b own
   IsFaultOfStream-implied gives own refused = λ stream known loud.
       read_stream-Err_implied stream own (refused stream known loud)
 
+  -- and as a clause of a call
   pub IfErr-IsFaultOfStream_implied : {K : Type 0} (gives : Option Stream) (r : Result K SourceFault)
       → IfErr r (IsFaultOfStream gives a) → IfErr r (IsFaultOfStream gives b)
   IfErr-IsFaultOfStream_implied gives (Ok kept) refused = tt
@@ -149,6 +152,7 @@ KeepsOfFirst-implied old new a b Keeps Other each keeps = λ stream known.
 -- ---- several parts
 
 module _ {A X : Type 0} (read : A → NextParts → Result (X × NextParts) SourceFault) where
+  -- before the first item nothing is read,
   pub read_each-start : (xs : List A) (stream : Stream)
       → read_stream (read_each read xs) stream ≡ read_stream (read_each_after read [] xs) stream
   read_each-start xs (Ok parts) = by (read_each read xs parts)
@@ -158,6 +162,7 @@ module _ {A X : Type 0} (read : A → NextParts → Result (X × NextParts) Sour
       by (Err fault) = refl
   read_each-start xs (Err fault) = refl
 
+  -- after the last one all is,
   pub read_each-end : (front : List X) (stream : Stream)
       → read_stream (read_each_after read front []) stream ≡ value_and_rest front stream
   unfolding read_each
@@ -165,11 +170,13 @@ module _ {A X : Type 0} (read : A → NextParts → Result (X × NextParts) Sour
   read_each-end front (Err fault) = refl
 
   module _ (front : List X) (x : A) (xs : List A) where
+    -- an item that is refused refuses the rest,
     pub read_each-Err : (parts : NextParts) (fault : SourceFault) → read x parts ≡ Err fault
         → read_each_after read front (x ∷ xs) parts ≡ Err fault
     unfolding read_each
     read_each-Err parts fault e = rw e refl
 
+    -- and one that is read goes behind those before it
     pub read_each-more : (stream later : Stream) (own : X)
         → read_stream (read x) stream ≡ value_and_rest own later
         → read_stream (read_each_after read front (x ∷ xs)) stream
@@ -191,10 +198,12 @@ module _ {A X : Type 0} (read : A → NextParts → Result (X × NextParts) Sour
 -- ---- a router, and a LAN
 
 module _ (order : Order) where
+  -- a router is refused for its vifs first,
   pub read_router-vifs_Err : (parts : NextParts) (fault : SourceFault) → read_first vifs_of parts ≡ Err fault
       → read_router order parts ≡ Err fault
   read_router-vifs_Err parts fault e = rw e refl
 
+  -- then for its cache,
   pub read_router-cache_Err : (later : Stream) (part : PartText) (vifs : FinMap nat_cmp VifValue)
       (own : SourceFault) → vifs_of part ≡ Ok vifs
       → read_stream (read_first (cache_and_text order)) later ≡ Err own
@@ -202,6 +211,7 @@ module _ (order : Order) where
   read_router-cache_Err (Ok parts) part vifs own known e = rw (known, e) refl
   read_router-cache_Err (Err fault) part vifs own known e = cc
 
+  -- and is read of its two parts otherwise
   pub read_router-Ok : (later : Stream) (vif cache : PartText) (vifs : FinMap nat_cmp VifValue)
       (found : CacheValue × List ℕ) → vifs_of vif ≡ Ok vifs → cache_and_text order cache ≡ Ok found
       → read_stream (read_router order) (part_then vif (part_then cache later))
@@ -209,20 +219,24 @@ module _ (order : Order) where
   read_router-Ok (Ok parts) vif cache vifs found known own = rw (known, own) refl
   read_router-Ok (Err fault) vif cache vifs found known own = refl
 
+-- a router's byte order is that of its row,
 pub order-at : (o : Option RouterRow) (r : RouterRow) (order : Order)
     → option_map (λ q. q.order) o ≡ Some order → o ≡ Some r → order ≡ r.order
 order-at None r order e is = absurd cc
 order-at (Some q) r order e is = cc
 
+-- and so is its name
 pub name-at : (o : Option RouterRow) (r : RouterRow) (name : List ℕ)
     → option_map (λ q. q.name) o ≡ Some name → o ≡ Some r → name ≡ r.name
 name-at None r name e is = absurd cc
 name-at (Some q) r name e is = cc
 
+-- a LAN is refused for its one part
 pub read_lan-Err : (parts : NextParts) (fault : SourceFault) → read_first reports_of parts ≡ Err fault
     → read_lan parts ≡ Err fault
 read_lan-Err parts fault e = rw e refl
 
+-- and is read of it otherwise
 pub read_lan-Ok : (later : Stream) (part : PartText) (records : List Record) → reports_of part ≡ Ok records
     → read_stream read_lan (part_then part later) ≡ value_and_rest records later
 read_lan-Ok (Ok parts) part records known = rw known refl
@@ -231,10 +245,12 @@ read_lan-Ok (Err fault) part records known = refl
 -- ---- all contents
 
 module _ (t : TopologyValue) where
+  -- the contents are refused for the routers' parts first,
   pub read_contents-tables_Err : (parts : NextParts) (fault : SourceFault)
       → read_routers t.routers parts ≡ Err fault → read_contents t parts ≡ Err fault
   read_contents-tables_Err parts fault e = rw e refl
 
+  -- then for the LANs',
   pub read_contents-reports_Err : (stream later : Stream) (routers : List RouterRead) (own : SourceFault)
       → read_stream (read_routers t.routers) stream ≡ value_and_rest routers later
       → read_stream (read_lans t.lans) later ≡ Err own → read_stream (read_contents t) stream ≡ Err own
@@ -244,6 +260,7 @@ module _ (t : TopologyValue) where
   read_contents-reports_Err (Err fault) (Ok others) routers own e refused = absurd cc
   read_contents-reports_Err (Err fault) (Err other) routers own e refused = cc
 
+  -- and are read of both otherwise
   pub read_contents-Ok : (stream between later : Stream) (routers : List RouterRead)
       (reports : List (List Record))
       → read_stream (read_routers t.routers) stream ≡ value_and_rest routers between

@@ -19,12 +19,14 @@ use mc_tables::{CacheReader, CacheSummary, CacheTable, ListedPairs, SummaryPairs
 use mc_text::Order;
 use std::alloc::Global;
 
-/// What reads a router's cache, and keeps something of it.
+/// What reads the routers' caches one after another: it gives the rows of the flows, and may keep more of each
+/// cache for itself.
 pub(crate) trait CacheKeeper {
-    // the sources and groups of which it gives the rows, and whether it keeps all others
+    // the sources and groups of which it gives the rows, and whether it keeps all others or the lowest ones,
+    // if it keeps any
     ghost settings: { Self → List (ℕ × ℕ) × Bool };
 
-    // for these flows it has kept something of the caches of these routers
+    // what it has kept is of the caches of these routers, which were read for these flows
     ghost has_kept: { Self → List Flow → List RouterRead → Type 0 };
 
     /// Reads the cache of a router with this byte order from the part of its slot, and gives the rows of
@@ -55,7 +57,7 @@ pub(crate) trait CacheKeeper {
         ensures failures { S.failed slots.new ≡ failures_after is_read result (S.failed slots.old) };
 }
 
-/// It keeps nothing but the rows.
+/// Gives the rows alone, and keeps nothing.
 impl CacheKeeper for ListedPairs {
     ghost use Rattle.std.specs.Prelude.{⊤, false};
 
@@ -76,7 +78,7 @@ impl CacheKeeper for ListedPairs {
     }
 }
 
-/// It also keeps a summary of each cache.
+/// Gives the rows, and keeps a summary of each cache.
 #[derive(Drop)]
 pub(crate) struct SummaryKeeper {
     /// The sources and groups of the flows.

@@ -16,7 +16,7 @@ use mc_text::Memory;
 use mc_topology::{LanNo, Topology};
 use std::alloc::Global;
 
-/// What keeps something of the lists, LAN by LAN.
+/// What is shown the LANs' lists one after another, and may keep something of each.
 pub(crate) trait ListKeeper {
     // it is made for a topology with these flows
     ghost is_ready: { Self → List Flow → Type 0 };
@@ -24,7 +24,7 @@ pub(crate) trait ListKeeper {
     // whether it keeps all wants, and what answers them
     ghost settings: { Self → Bool × AnswersValue };
 
-    // it has kept something of these lists
+    // what it has kept is of these lists, the first of which is that of LAN 0
     ghost has_kept: { Self → List (List Record) → Type 0 };
 
     /// Keeps something of the list of the next LAN. `wants` says of each flow whether the list wants it, and
@@ -47,7 +47,7 @@ pub(crate) trait ListKeeper {
             has_kept self.old lists → has_kept self.new (lists ++ list.now ∷ [])) };
 }
 
-/// It keeps nothing.
+/// Keeps nothing.
 #[derive(Drop)]
 pub(crate) struct NoLists;
 
@@ -72,7 +72,7 @@ impl ListKeeper for NoLists {
     }
 }
 
-/// It keeps what the hosts of each LAN ask for and no flow answers.
+/// Keeps what the hosts of each LAN ask for and no flow answers.
 #[derive(Drop)]
 pub(crate) struct WantKeeper {
     /// What answers wants.

@@ -45,10 +45,12 @@ pub entries_of-each : (n : Net) (P : Entry → Type 0) (cs : List Copy)
     → (e : Entry) → In e (entries_of n cs) → P e
 entries_of-each n P cs new = entries_after-each n P [] cs new (λ e h. absurd h)
 
+-- a need is 1 or more,
 need_over-at_least_one : (threshold : ℕ) (o : Option Entry) → 1 ≤ need_over threshold o
 need_over-at_least_one threshold None = omega arith
 need_over-at_least_one threshold (Some p) = omega arith
 
+-- whatever sent the copy
 need_after-at_least_one : (n : Net) (ds : List Entry) (x : Option Interface) → 1 ≤ need_after n ds x
 need_after-at_least_one n ds None = omega arith
 need_after-at_least_one n ds (Some i) = need_over-at_least_one (threshold_of i.1 (row_pairs (n.row i.0)))
@@ -67,6 +69,7 @@ in_lans-entry_lan n cs = entries_of-each n (λ e. In e.lan (lans cs)) cs
 
 -- ---- of the copies of a clean travel
 
+-- a packet with TTL 255 made each of these copies, so none of them needs more
 entries_of-needs_at_most_255 : (n : Net) (count : ℕ) (picks : List ℕ) → IsNet n
     → IsTravel n count [] false picks (start n 255) Clean
     → (e : Entry) → In e (entries_of n (run n (handles picks) (start n 255)).carried) → e.need ≤ 255
@@ -116,6 +119,7 @@ are_clean_copies-of_travel d a flow t g cs ok same is none carried on by =
 
 -- ---- what a certificate can hold
 
+-- the entries of clean copies are of the topology's LANs and routers
 is_entry_of-entries_of : (d : DomainValue) (flow : ℕ) (cs : List Copy) → AreCleanCopies d flow cs
     → (e : Entry)
     → In e (entries_of (net_of d flow) cs) → IsEntryOf d.topology e
@@ -141,6 +145,7 @@ lans_below_count-reordered d flow cs es clean made =
     all-from_each_member (λ (e : Entry). e.lan < length d.topology.lans) es
     (λ e h. (is_entry_of-entries_of d flow cs clean e (made.from e h)).lan)
 
+-- a forwarder sends by a vif that is placed on a LAN, and such vifs are below 32
 forwarder_vif-at_most_31 : (n : Net) (es : List Entry) (e : Entry) (o : Option Interface) → IsNet n
     → IsTree n es
     → In e es → e.forwarder ≡ o → IfSome o (λ i. i.1 ≤ 31)
@@ -150,6 +155,7 @@ forwarder_vif-at_most_31 n es e (Some i) net tree h q =
     let lt : i.1 < 32 = net.vif i.0 i.1 e.lan fed.4 in
     omega (arith, lt)
 
+-- entries of different LANs are no more than the topology has
 length-listed_entries : (d : DomainValue) (es : List Entry) → Distinct (map (λ (e : Entry). e.lan) es)
     → All (IsEntryOf d.topology) es → length es ≤ length d.topology.lans
 length-listed_entries d es once all =

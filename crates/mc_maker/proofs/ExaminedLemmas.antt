@@ -33,6 +33,7 @@ use Rattle.mc_maker.proofs.ServedLemmas.{is_served-each, is_served-not}
 
 -- ---- a picker's travel is unique
 
+-- two travels by the same choices find the same, pick by pick
 is_travel-same_finding : (n : Net) (count : ℕ) (numbers : List ℕ) (last : Bool) (is js : List ℕ) (f : Flight)
     (x y : Finding)
     → IsTravel n count numbers last is f x → IsTravel n count numbers last js f y → x ≡ y
@@ -46,6 +47,7 @@ is_travel-same_finding n count numbers last (i ∷ is) (j ∷ js) f x y a b =
     is_travel-same_finding n count (numbers_left numbers) last is js (step n i f) x y a.2
     (subst (λ (k : ℕ). IsTravel n count (numbers_left numbers) last js (step n k f) y) pick b.2)
 
+-- so the travels that always take the first waiting copy find one thing
 finding_value-unique : (d : DomainValue) (flow ttl : ℕ) (t u : Travel) → IsFirstPickTravel d flow ttl t
     → IsFirstPickTravel d flow ttl u → finding_value t.finding ≡ finding_value u.finding
 finding_value-unique d flow ttl t u a b =
@@ -134,6 +136,7 @@ entries_of_clean_travel-reordered d flow t g cs es is none made carried =
 
 -- ---- the travels of a right flow
 
+-- what can't be anything else is `Clean`
 clean-not_not : (x : Finding) → (x ≢ Clean → ⊥) → x ≡ Clean
 clean-not_not Clean h = refl
 clean-not_not (Duplicate l) h = absurd (h (λ e. cc))

@@ -69,6 +69,7 @@ need_by_held-need_after n by_lan es (Some i) is = ap (need_over (threshold_of i.
     by None = refl
     by (Some l) = is l ∙ first_with_key-entry_on es l
 
+-- the entries of one copy more are those so far, and the one that is made after them
 entries_of-take_more : (n : Net) (cs : List Copy) (k : ℕ) (c : Copy) → k < length cs → c ≡ get_or cs k c
     → entries_of n (take (k + 1) cs) ≡ entries_of n (take k cs) ++ entry_after n
     (entries_of n (take k cs)) c ∷ []

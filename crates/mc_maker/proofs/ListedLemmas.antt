@@ -29,6 +29,7 @@ in-entry_on (x ∷ es) l e h = by (x.lan == l) refl h (in-entry_on es l e)
     )
     by false q h rest = (inr (rest h).0, (rest h).1)
 
+-- what a place holds is a held entry
 in-held_entries : (places : List (Option Entry)) (l : ℕ) (e : Entry) → item_on_lan places l ≡ Some e
     → In e (held_entries places)
 in-held_entries [] l e h = absurd cc
@@ -37,6 +38,7 @@ in-held_entries (Some x ∷ places) zero e h = inl cc
 in-held_entries (None ∷ places) (suc l) e h = in-held_entries places l e h
 in-held_entries (Some x ∷ places) (suc l) e h = inr (in-held_entries places l e h)
 
+-- and each held entry is at some place
 item_on_lan-held_entry : (places : List (Option Entry)) (e : Entry) → In e (held_entries places)
     → (l : ℕ) × (item_on_lan places l ≡ Some e)
 item_on_lan-held_entry [] e h = absurd h
@@ -47,6 +49,7 @@ item_on_lan-held_entry (Some x ∷ places) e (inr h) = let r = item_on_lan-held_
 
 -- ---- ascending
 
+-- a number below all others in front of an increasing list
 strictly_increasing-cons : (x : ℕ) (xs : List ℕ) → ((y : ℕ) → In y xs → x < y) → IsStrictlyIncreasing xs
     → IsStrictlyIncreasing (x ∷ xs)
 strictly_increasing-cons x [] above rest i lt = absurd (omega (arith, lt))
@@ -60,11 +63,13 @@ strictly_increasing-cons x (y ∷ xs) above rest (suc i) lt =
 abbrev pub HoldsLansFrom : ℕ → List (Option Entry) → Type 0
 HoldsLansFrom k places = (l : ℕ) (e : Entry) → item_on_lan places l ≡ Some e → e.lan ≡ k + l
 
+-- without its first place the list holds LANs from the next number on
 holds_lans_from-drop_one : (k : ℕ) (o : Option Entry) (places : List (Option Entry))
     → HoldsLansFrom k (o ∷ places)
     → HoldsLansFrom (suc k) places
 holds_lans_from-drop_one k o places at l e h = let q : e.lan ≡ k + suc l = at (suc l) e h in omega (arith, q)
 
+-- the LANs of the held entries are numbered from the first place's number on
 held_entries-at_least_first : (k : ℕ) (places : List (Option Entry)) (l : ℕ) → HoldsLansFrom k places
     → In l (map (λ (e : Entry). e.lan) (held_entries places)) → k ≤ l
 held_entries-at_least_first k places l at h =
@@ -74,6 +79,7 @@ held_entries-at_least_first k places l at h =
     let r : e.0.lan ≡ l = e.2 in
     omega (arith, q, r)
 
+-- so they ascend
 ascending-holds_lans_from : (k : ℕ) (places : List (Option Entry)) → HoldsLansFrom k places
     → IsStrictlyIncreasing (map (λ (e : Entry). e.lan) (held_entries places))
 ascending-holds_lans_from k [] at = λ i lt. absurd (omega (arith, lt))
@@ -88,6 +94,7 @@ ascending-holds_lans_from k (Some x ∷ places) at =
 
 -- ---- the entries by the numbers of their LANs
 
+-- the entries that are held by their LANs begin at LAN 0
 holds_lans_from-zero : (by_lan : List (Option Entry)) (es : List Entry) → AreEntriesByLan by_lan es
     → HoldsLansFrom 0 by_lan
 holds_lans_from-zero by_lan es is l e h = let q : e.lan ≡ l =

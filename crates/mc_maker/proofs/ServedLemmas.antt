@@ -13,6 +13,7 @@ use Rattle.mc_maker.proofs.FilledLemmas.{each_in-all, in-entries_after}
 
 -- ---- the entry of a LAN that carried a copy
 
+-- each copy of a LAN makes an entry of the LAN, after whatever entries
 entry_after-of_copy : (n : Net) (es : List Entry) (cs : List Copy) (c : Copy) → In c cs
     → (e : Entry) × In e (entries_after n es cs) × (e.lan ≡ c.lan)
 entry_after-of_copy n es [] c h = absurd h
@@ -24,6 +25,7 @@ entry_after-of_copy n es (x ∷ cs) c (inl q) = (
 )
 entry_after-of_copy n es (x ∷ cs) c (inr h) = entry_after-of_copy n (es ++ entry_after n es x ∷ []) cs c h
 
+-- so a LAN that carried a copy has an entry
 entries_of-entry_of_lan : (n : Net) (cs : List Copy) (l : ℕ) → In l (lans cs)
     → (e : Entry) × In e (entries_of n cs) × (e.lan ≡ l)
 entries_of-entry_of_lan n cs l h =
@@ -32,11 +34,13 @@ entries_of-entry_of_lan n cs l h =
 
 -- ---- served LANs
 
+-- an entry that serves its LAN meets the need, where the LAN wants the flow
 served_if_wanted : (m w : Bool) → w ≡ true → (m || not w) ≡ true → m ≡ true
 served_if_wanted true w q e = refl
 served_if_wanted false true q e = absurd cc
 served_if_wanted false false q e = absurd cc
 
+-- one that doesn't is of a LAN that wants the flow, and doesn't meet the need
 wanted_and_not_served : (m w : Bool) → (m || not w) ≡ false → (m ≡ false) × (w ≡ true)
 wanted_and_not_served true w e = absurd cc
 wanted_and_not_served false true e = (refl, refl)

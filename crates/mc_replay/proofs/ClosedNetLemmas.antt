@@ -48,6 +48,7 @@ in_filter-in_list p x (y ∷ ys) h = by (p y) (in_filter-in_list p x ys) h
     by true rest (inr k) = inr (rest k)
     by false rest k = inr (rest k)
 
+-- a vif of a filtered list of pairs is one of the list
 in_map-filter : (p : ℕ × ℕ → Bool) (v : ℕ) (xs : List (ℕ × ℕ)) → In v (map (λ (q : ℕ × ℕ). q.0) (filter p xs))
     → In v (map (λ (q : ℕ × ℕ). q.0) xs)
 in_map-filter p v [] h = h
@@ -61,6 +62,7 @@ in_map-filter p v (y ∷ ys) h = by (p y) (in_map-filter p v ys) h
     by true rest (inr k) = inr (rest k)
     by false rest k = inr (rest k)
 
+-- so a filtered list of pairs with different vifs has different vifs
 distinct-filter : (p : ℕ × ℕ → Bool) (xs : List (ℕ × ℕ)) → Distinct (map (λ (q : ℕ × ℕ). q.0) xs)
     → Distinct (map (λ (q : ℕ × ℕ). q.0) (filter p xs))
 distinct-filter p [] h = h
@@ -95,6 +97,7 @@ is_net-closed n net = record {
 
 -- ---- its runs
 
+-- a copy that leaves onto a LAN does so in the closed domain
 without_strays-leave : (n : Net) (t : ℕ) (i : Interface) (o : Option ℕ) (f : Flight)
     → is_some o ≡ true → without_strays (leave n t i o f) ≡ leave (closed n) t i o (without_strays f)
 unfolding interfaces
@@ -126,6 +129,7 @@ without_strays-lost n r t p f unplaced = by (nat_lt p.1 t)
     by true = gone (n.placed r p.0) unplaced
     by false = refl
 
+-- a router sends the same copies onto LANs, by the pairs that are left
 without_strays-sends : (n : Net) (r t : ℕ) (ps : List (ℕ × ℕ)) (f : Flight)
     → without_strays (sends n r t ps f)
     ≡ sends (closed n) r t (filter (λ p. is_some (n.placed r p.0)) ps) (without_strays f)
@@ -146,6 +150,7 @@ without_strays-sends n r t (p ∷ ps) f =
     by false e = ap (sends (closed n) r t (filter (λ (q : ℕ × ℕ). is_some (n.placed r q.0)) ps))
         (without_strays-lost n r t p f e)
 
+-- a copy is handled by a closed row as by the row, but for strays
 without_strays-row : (n : Net) (w : Waiting) (row : Row) (f : Flight)
     → without_strays (handle_by_row n w row f)
     ≡ handle_by_row (closed n) w (closed_row (n.placed w.router) row) (without_strays f)
@@ -159,6 +164,7 @@ without_strays-row n w (Exact incoming pairs) f = by (incoming == w.vif)
 without_strays-row n w Open f = refl
 without_strays-row n w NoRow f = refl
 
+-- so it is by the router, if there is a waiting copy
 without_strays-handle : (n : Net) (o : Option Waiting) (f : Flight)
     → without_strays (handle n o f) ≡ handle (closed n) o (without_strays f)
 without_strays-handle n None f = refl
@@ -169,6 +175,7 @@ pub without_strays-step : (n : Net) (i : ℕ) (f : Flight)
     → without_strays (step n i f) ≡ step (closed n) i (without_strays f)
 without_strays-step n i f = without_strays-handle n (slice_get f.waiting i) (without_waiting i f)
 
+-- and by each pick
 without_strays-pick : (n : Net) (p : Pick) (f : Flight)
     → without_strays (apply_pick n p f) ≡ apply_pick (closed n) p (without_strays f)
 without_strays-pick n (Handles i) f = without_strays-step n i f
@@ -186,6 +193,7 @@ pub without_strays-start : (n : Net) (t : ℕ) → without_strays (start n t) �
 unfolding interfaces
 without_strays-start n t = refl
 
+-- the picks are in range in the closed domain too, since the same copies wait
 in_range-closed : (n : Net) (ps : List Pick) (f : Flight) → InRange n ps f
     → InRange (closed n) ps (without_strays f)
 in_range-closed n [] f h = tt
@@ -208,12 +216,14 @@ is_complete_run-closed n t ps complete = record {
 
 -- ---- where its copies came from
 
+-- a closed row takes from the same LAN
 taken_from-closed_row : (n : Net) (r : ℕ) (row : Row)
     → taken_from (closed n) r (closed_row (n.placed r) row) ≡ taken_from n r row
 taken_from-closed_row n r (Exact incoming pairs) = refl
 taken_from-closed_row n r Open = refl
 taken_from-closed_row n r NoRow = refl
 
+-- so a sender took its copy from the same LAN
 from_lan-closed : (n : Net) (x : Option Interface) → from_lan (closed n) x ≡ from_lan n x
 from_lan-closed n None = refl
 from_lan-closed n (Some i) = taken_from-closed_row n i.0 (n.row i.0)
@@ -240,6 +250,7 @@ is_walk_back-of_closed n cs c [] h = h
 is_walk_back-of_closed n cs c (d ∷ ds) h =
     (sym (from_lan-closed n c.sender) ∙ h.0, h.1, is_walk_back-of_closed n cs d ds h.2)
 
+-- a hop in the closed domain is one in the domain
 is_hop-of_closed : (n : Net) (h : Hop) → IsHop (closed n) h → IsHop n h
 is_hop-of_closed n h is =
     let x = exact-of_closed_row (n.placed h.router) (n.row h.router) is.incoming is.pairs is.row in
@@ -261,6 +272,7 @@ came_by_hops-of_closed n cs c (h ∷ hs) by =
     let b = by.3 in
     (by.0, by.1, is_hop-of_closed n h by.2, (b.0, b.1, came_by_hops-of_closed n cs b.0 hs b.2))
 
+-- and a copy that was sent by it there was sent by it here
 is_sent_by_hop-of_closed : (n : Net) (c : Copy) (h : Hop) → IsSentByHop (closed n) c h → IsSentByHop n c h
 is_sent_by_hop-of_closed n c h sent = (sent.0, sent.1, is_hop-of_closed n h sent.2)
 

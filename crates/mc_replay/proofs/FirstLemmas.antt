@@ -84,6 +84,7 @@ first_copies_so_far-none firsts cs k filled once = record {
       ∙ ap (λ o. first_some o (first_double (take k cs) (drop k cs))) once));
 }
 
+-- what is found with one copy more, and then among the rest, is what was to be found before
 second_copy_so_far-more : (second : Option Copy) (earlier cs : List Copy) (c : Copy) (b : Bool)
     → is_some (first_copy_on earlier c.lan) ≡ b
     → first_some (second_copy_so_far second b c) (first_double (earlier ++ c ∷ []) cs)
@@ -129,6 +130,7 @@ first_copies_so_far-more firsts firsts' old cs k second second' c put t lt at wi
           ∙ (ap (λ xs. first_some second (first_double (take k cs) xs)) (sym rest) ∙ t.second)));
     }
 
+-- where nothing comes later, the earlier one is left
 first_some-none : (o : Option Copy) → first_some o None ≡ o
 first_some-none None = refl
 first_some-none (Some c) = refl

@@ -8,6 +8,7 @@ use Rattle.mc_theory.specs.Flights.{Copy}
 use Rattle.mc_theory.specs.Findings.{first_copy_on, missed}
 use Rattle.mc_replay.proofs.FirstLemmas.{first_some}
 
+-- the missed LAN of a list with one more is that of the list, or else the last one if it is missed
 missed-push : (n : Net) (cs : List Copy) (xs : List ℕ) (x : ℕ)
     → missed n cs (xs ++ x ∷ []) ≡ first_some (missed n cs xs) (missed n cs (x ∷ []))
 missed-push n cs [] x = refl
@@ -22,6 +23,7 @@ missed-push n cs (y ∷ xs) x = by (n.wants y) (is_some (first_copy_on cs y)) (m
     by true false e = refl
     by false b e = e
 
+-- where none below k is missed, the missed LAN up to k is k, if it is missed
 missed-below_more : (n : Net) (cs : List Copy) (k : ℕ) → missed n cs (below k) ≡ None
     → missed n cs (below (k + 1)) ≡ missed n cs (k ∷ [])
 unfolding below
@@ -33,15 +35,18 @@ pub missed-below_none : (n : Net) (cs : List Copy) → missed n cs (below 0) ≡
 unfolding below
 missed-below_none n cs = refl
 
+-- a LAN that wants the flow and carried no copy is missed
 missed-one_wanting : (n : Net) (cs : List Copy) (k : ℕ) → n.wants k ≡ true
     → is_some (first_copy_on cs k) ≡ false
     → missed n cs (k ∷ []) ≡ Some k
 missed-one_wanting n cs k w b = ap (λ x. cond x (cond (is_some (first_copy_on cs k)) None (Some k)) None) w
     ∙ ap (λ x. cond x None (Some k)) b
 
+-- one that doesn't want the flow isn't
 missed-one_unwanting : (n : Net) (cs : List Copy) (k : ℕ) → n.wants k ≡ false → missed n cs (k ∷ []) ≡ None
 missed-one_unwanting n cs k w = ap (λ x. cond x (cond (is_some (first_copy_on cs k)) None (Some k)) None) w
 
+-- nor is one that carried a copy
 missed-one_with_copy : (n : Net) (cs : List Copy) (k : ℕ) (w : Bool) → is_some (first_copy_on cs k) ≡ true
     → n.wants k ≡ w → missed n cs (k ∷ []) ≡ None
 missed-one_with_copy n cs k true b e = ap (λ x. cond x (cond (is_some (first_copy_on cs k)) None
@@ -60,6 +65,7 @@ pub missed-below_more_with_copy : (n : Net) (cs : List Copy) (k : ℕ) → misse
 missed-below_more_with_copy n cs k h b = missed-below_more n cs k h
     ∙ missed-one_with_copy n cs k (n.wants k) b refl
 
+-- the missed LAN stays the same with more LANs after it
 missed-kept_by_more : (n : Net) (cs : List Copy) (k d l : ℕ) → missed n cs (below (k + 1)) ≡ Some l
     → missed n cs (below (k + 1 + d)) ≡ Some l
 unfolding below
@@ -83,6 +89,7 @@ is_some-first_some : (a b : Option ℕ) → is_some (first_some a b) ≡ (is_som
 is_some-first_some None b = refl
 is_some-first_some (Some x) b = refl
 
+-- a LAN is missed exactly if it wants the flow and carried no copy
 is_some-missed_one : (k : ℕ) (w b : Bool) → is_some (cond w (cond b None (Some k)) None) ≡ (w && not b)
 is_some-missed_one k true true = refl
 is_some-missed_one k true false = refl

@@ -47,6 +47,7 @@ run_so_far-start n f is = record {
   more = λ g ends. ends;
 }
 
+-- what the run ends with after a step, it ends with before the step
 ends_past_strays-step : (n : Net) (f g : Flight) → goes_on f ≡ true → EndsPastStrays n (step n 0 f) g
     → EndsPastStrays n f g
 ends_past_strays-step n f g goes rest = record {
@@ -81,6 +82,7 @@ room_left-step n f0 f g so_far goes next =
 
 -- ---- it begins as the travel
 
+-- a flight without a finding has no second copy, and a copy waits
 goes_on-without_finding : (n : Net) (count : ℕ) (f : Flight) → finding n count f ≡ None → goes_on f ≡ true
 goes_on-without_finding n count f none =
     let waits = (finding-none n count f none).1 in

@@ -34,6 +34,7 @@ use Rattle.mc_replay.proofs.ClosedNetLemmas.{without_strays-start, without_stray
 
 -- ---- it is a travel of the closed domain
 
+-- where the run goes on, there is no finding but for strays
 finding-where_it_goes_on : (n : Net) (count : ℕ) (f : Flight) → goes_on f ≡ true
     → finding n count (without_strays f) ≡ None
 finding-where_it_goes_on n count f e = by (first_double [] f.carried) f.waiting e
@@ -44,6 +45,7 @@ finding-where_it_goes_on n count f e = by (first_double [] f.carried) f.waiting 
     by None (w ∷ ws) e = refl
     by (Some c) ws e = absurd cc
 
+-- where it ends, there is one
 finding-where_it_ends : (n : Net) (count : ℕ) (f : Flight) → goes_on f ≡ false
     → (x : Finding) × (finding n count (without_strays f) ≡ Some x)
 finding-where_it_ends n count f e = by (first_double [] f.carried) f.waiting e
@@ -55,6 +57,7 @@ finding-where_it_ends n count f e = by (first_double [] f.carried) f.waiting e
     by None (w ∷ ws) e = absurd (let z = ltb-false 0 (length (w ∷ ws)) e in omega (arith, z))
     by (Some c) ws e = (_, refl)
 
+-- so without strays its picks are those of a travel
 is_travel-past_strays : (n : Net) (count : ℕ) (is : List ℕ) (f : Flight) → IsRunPastStrays n is f
     → (x : Finding) × IsTravel (closed n) count [] false is (without_strays f) x
 is_travel-past_strays n count [] f e = finding-where_it_ends (closed n) count f e
@@ -74,6 +77,7 @@ pub record IsClosedTravel (n : Net) (count t : ℕ) (g : Flight) (x : Finding) :
   pub travel : IsTravel (closed n) count [] false picks (start (closed n) t) x
   pub ends : without_strays g ≡ run (closed n) (handles picks) (start (closed n) t)
 
+-- which is one of the closed domain, whose flights are those without strays
 is_closed_travel-past_strays : (n : Net) (count t : ℕ) (g : Flight) → EndsPastStrays n (start n t) g
     → (x : Finding) × IsClosedTravel n count t g x
 is_closed_travel-past_strays n count t g past =
@@ -149,6 +153,7 @@ is_second_copy-of_finding n cs x e = by (first_double [] cs) e
     by None e = absurd cc
     by (Some c) e = which (walk_visits n cs c.lan (length cs) c.sender) c.lan x cc
 
+-- a second copy that a flight shows there, it shows here
 shows-of_closed : (n : Net) (g : Flight) (x : Finding) → IsSecondCopy x
     → Shows (closed n) (without_strays g) x → Shows n g x
 shows-of_closed n g Clean is shows = absurd is
@@ -157,6 +162,7 @@ shows-of_closed n g (Loop l) is shows = (first_double_walk-of_closed n g l shows
 shows-of_closed n g (Stray r v) is shows = absurd is
 shows-of_closed n g (Missed l) is shows = absurd is
 
+-- the travel's last flight shows its finding
 shows-in_closed : (n : Net) (count t : ℕ) (g : Flight) (x : Finding) → WantsBelow n count
     → IsClosedTravel n count t g x → Shows (closed n) (without_strays g) x
 shows-in_closed n count t g x wants r = subst (λ f. Shows (closed n) f x) (sym r.ends)
@@ -171,6 +177,7 @@ shows-past_strays n count t g x wants past e =
 
 -- ---- from which TTL on packets show it
 
+-- a path of a LAN's first copy is the same in both domains
 first_came-of_closed : (n : Net) (cs : List Copy) (l : ℕ) (hs : List Hop) → FirstCameByHops (closed n) cs l hs
     → FirstCameByHops n cs l hs
 first_came-of_closed n cs l hs first = record {
@@ -179,6 +186,7 @@ first_came-of_closed n cs l hs first = record {
   came = came_by_hops-of_closed n cs first.first hs first.came;
 }
 
+-- so what rests on the paths of two copies is the same
 two_copies-of_closed : (n : Net) (cs : List Copy) (l k : ℕ) → RestsOnTwoCopies (closed n) cs l k
     → RestsOnTwoCopies n cs l k
 two_copies-of_closed n cs l k r = record {
@@ -192,6 +200,7 @@ two_copies-of_closed n cs l k r = record {
   need_is = r.need_is;
 }
 
+-- and the TTL from which on packets show a second copy
 is_shown_from-of_closed : (n : Net) (cs : List Copy) (x : Finding) (k : ℕ) → IsSecondCopy x
     → IsShownFrom (closed n) cs x k → IsShownFrom n cs x k
 is_shown_from-of_closed n cs Clean k is r = absurd is
@@ -200,6 +209,7 @@ is_shown_from-of_closed n cs (Loop l) k is r = two_copies-of_closed n cs l k r
 is_shown_from-of_closed n cs (Stray r v) k is q = absurd is
 is_shown_from-of_closed n cs (Missed l) k is r = absurd is
 
+-- a second copy is a second copy or a stray
 second_copy_or_stray-of_second_copy : (x : Finding) → IsSecondCopy x → IsSecondCopyOrStray x
 second_copy_or_stray-of_second_copy Clean is = is
 second_copy_or_stray-of_second_copy (Duplicate l) is = tt
@@ -207,6 +217,7 @@ second_copy_or_stray-of_second_copy (Loop l) is = tt
 second_copy_or_stray-of_second_copy (Stray r v) is = tt
 second_copy_or_stray-of_second_copy (Missed l) is = is
 
+-- the second copy of a travel has a need of at most the packet's TTL
 has_need-in_closed : (n : Net) (count s : ℕ) (g : Flight) (x : Finding) → IsNet n → WantsBelow n count → 1 ≤ s
     → IsSecondCopy x → IsClosedTravel n count s g x → HasNeedUpTo (closed n) g.carried x s
 has_need-in_closed n count s g x net wants low is r =
@@ -224,6 +235,7 @@ has_need-past_strays n count s g x net wants low past e =
     (is_closed_travel-of_second_copy n count s g x past e) in
     (has.0, is_shown_from-of_closed n g.carried x has.0 is has.1, has.2)
 
+-- a flight that shows a second copy without its strays shows it with them
 has_fault-of_closed : (f : Flight) (x : Finding) → IsSecondCopy x → HasFault x (without_strays f)
     → HasFault x f
 has_fault-of_closed f Clean is h = absurd is
@@ -339,6 +351,7 @@ none_waits-past_strays n f g past once =
 
 -- ---- no other run
 
+-- there is one run past strays from a flight
 is_run_past_strays-unique : (n : Net) (is js : List ℕ) (f : Flight) → IsRunPastStrays n is f
     → IsRunPastStrays n js f → is ≡ js
 is_run_past_strays-unique n [] [] f p q = refl

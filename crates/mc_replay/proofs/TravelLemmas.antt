@@ -24,22 +24,27 @@ use Rattle.mc_replay.specs.Travels.{IsTravelTo}
 abbrev pub ExtendsCarried : Flight → Flight → Type 0
 ExtendsCarried f g = (cs : List Copy) × (g.carried ≡ f.carried ++ cs)
 
+-- a flight with the same copies
 extends_carried-same : (f g : Flight) → g.carried ≡ f.carried → ExtendsCarried f g
 extends_carried-same f g e = ([], e ∙ sym (append-nil f.carried))
 
+-- one flight after another
 extends_carried-more : (f g h : Flight) → ExtendsCarried f g → ExtendsCarried g h → ExtendsCarried f h
 extends_carried-more f g h a b =
     (a.0 ++ b.0, b.1 ∙ (ap (λ cs. cs ++ b.0) a.1 ∙ append_assoc f.carried a.0 b.0))
 
+-- a copy that leaves by an interface is carried after the others, or strays
 extends_carried-leave : (n : Net) (t : ℕ) (i : Interface) (o : Option ℕ) (f : Flight)
     → ExtendsCarried f (leave n t i o f)
 extends_carried-leave n t i None f = extends_carried-same f (leave n t i None f) refl
 extends_carried-leave n t i (Some l) f = (record { lan = l; ttl = t; sender = Some i } ∷ [], refl)
 
+-- whichever of the two happens
 extends_carried-cond : (f g : Flight) (b : Bool) → ExtendsCarried f g → ExtendsCarried f (cond b g f)
 extends_carried-cond f g true h = h
 extends_carried-cond f g false h = extends_carried-same f f refl
 
+-- a router's copies, pair by pair
 extends_carried-sends : (n : Net) (r t : ℕ) (ps : List (ℕ × ℕ)) (f : Flight)
     → ExtendsCarried f (sends n r t ps f)
 extends_carried-sends n r t [] f = extends_carried-same f f refl
@@ -49,6 +54,7 @@ extends_carried-sends n r t (p ∷ ps) f =
     (extends_carried-leave n (t - 1) (r, p.0) (n.placed r p.0) f))
     (extends_carried-sends n r t ps (send n r t p f))
 
+-- a copy that is handled by a row
 extends_carried-handle_by : (n : Net) (w : Waiting) (row : Row) (f : Flight)
     → ExtendsCarried f (handle_by_row n w row f)
 extends_carried-handle_by n w (Exact incoming pairs) f = extends_carried-cond f
@@ -57,6 +63,7 @@ extends_carried-handle_by n w (Exact incoming pairs) f = extends_carried-cond f
 extends_carried-handle_by n w Open f = extends_carried-same f (handle_by_row n w Open f) refl
 extends_carried-handle_by n w NoRow f = extends_carried-same f f refl
 
+-- so each step of a run keeps the carried copies in front
 extends_carried-step : (n : Net) (i : ℕ) (f : Flight) → ExtendsCarried f (step n i f)
 extends_carried-step n i f = by (slice_get f.waiting i)
   where
@@ -132,6 +139,7 @@ pub record IsTravelSoFar (n : Net) (lans : ℕ) (c0 : Choices) (f0 : Flight) (c 
   pub travel : (more : List Event) (g : Flight) (x : Finding) → IsTravelTo n lans c f more g x
       → IsTravelTo n lans c0 f0 (es ++ more) g x
 
+-- before the first event
 travel_so_far-none : (n : Net) (lans t : ℕ) (c : Choices) (f : Flight) (es : List Event) → f ≡ start n t
     → es ≡ [] → IsTravelSoFar n lans c (start n t) c f es
 travel_so_far-none n lans t c f es e q = subst (λ (xs : List Event). IsTravelSoFar n lans c
@@ -178,6 +186,7 @@ pub length-travel_so_far_below : (n : Net) (lans : ℕ) (c0 : Choices) (f0 : Fli
 length-travel_so_far_below n lans c0 f0 c f es pick travel_so_far none chosen = let le =
     travel_so_far.room (pick ∷ []) (none, chosen, tt) in omega (arith, le)
 
+-- the event of a handled copy comes in front of the later ones
 prepend_event-handled : (n : Net) (o : Option Waiting) (e : Event) (es : List Event)
     → option_map (event_of n) o ≡ Some e → e ∷ es ≡ prepend_event n o es
 prepend_event-handled n None e es h = absurd cc

@@ -262,21 +262,6 @@ pub get-at_most_31 : (rows : List (ℕ × VifValue)) (index : ℕ) → AllByRecu
 get-at_most_31 rows index all there =
     find-at_most_31 rows index all (subst IsSome (get-from_entries nat_cmp_total rows index) there)
 
--- an index that has a device is there
-is_some-has_device : (device : List ℕ) (o : Option VifValue) → HasThisDevice device o → IsSome o
-is_some-has_device device None has = absurd has
-is_some-has_device device (Some vif) has = refl
-
--- and so is an index that is found
-pub answer-at_most_31 : (device : List ℕ) (rows : List (ℕ × VifValue)) (answer : Option ℕ)
-    → AllByRecursion (λ row. row.0 ≤ 31) rows
-    → IfSome answer (λ index. HasDevice (from_entries rows) index device)
-    → IfSome answer (λ index. index ≤ 31)
-answer-at_most_31 device rows None all has = tt
-answer-at_most_31 device rows (Some index) all has =
-    get-at_most_31 rows index all
-    (is_some-has_device device (get (from_entries {R = nat_cmp} rows) index) has)
-
 -- ---- the map's own entries, in the order of their indexes
 
 is_eq-less : (o : Ordering) → T (is_lt o) → is_eq o ≡ false

@@ -1,6 +1,6 @@
 //! The readers of kernel tables as readers that are fed in pieces.
 
-ghost use Rattle.std.specs.Prelude.{◌≡◌, ◌≢◌, Err, OnOk};
+ghost use Rattle.std.specs.Prelude.{◌≡◌, ◌≢◌, Err, OnOk, OnErr, IsErrAnd};
 ghost use Rattle.mc_tables.specs.Steps.{out_of_memory};
 
 use crate::cache::{CacheReader, EachRowReader, RowFold};
@@ -11,7 +11,8 @@ use mc_text::{Memory, PieceReader};
 
 /// Passes on that memory ran out. Any other fault is kept by the table's reader.
 fn memory_fault_only(fed: Result<(), TableFault>) -> Result<(), Memory>
-    ensures { OnOk result (fed ≢ Err out_of_memory) }
+    ensures kept { OnOk result (fed ≢ Err out_of_memory) }
+    ensures memory { OnErr result (IsErrAnd fed (λ fault. fault.kind ≡ TableFaultKind.Memory)) }
 {
     match fed {
         Ok(()) => Ok(()),

@@ -64,7 +64,7 @@ position-slash text range is =
     ap (position (λ b. b == 47)) is
     ∙ position-append_byte 47 (dotted range.0) (decimal range.1) (HasNoByte-slash_dotted range.0)
 
--- what stands before the slash
+-- what is before the slash
 pub take-slash : (text : List ℕ) (range : ℕ × ℕ) (n : ℕ) → text ≡ range_text range
     → position (λ b. b == 47) text ≡ Some n → take n text ≡ dotted range.0
 take-slash text range n is at =
@@ -72,7 +72,7 @@ take-slash text range n is at =
     ap (λ (m : ℕ). take m text) (same_Some n (length address) (sym at ∙ position-slash text range is))
     ∙ ap (take (length address)) is ∙ take_at address (47 ∷ decimal range.1) (length address) refl
 
--- what stands behind the slash
+-- what is after the slash
 pub drop-slash : (text : List ℕ) (range : ℕ × ℕ) (n : ℕ) → text ≡ range_text range
     → position (λ b. b == 47) text ≡ Some n → drop (n + 1) text ≡ decimal range.1
 drop-slash text range n is at =

@@ -177,7 +177,7 @@ twice-none earlier (e ∷ es) h =
       ],
     )
 
--- and the other way round
+-- and the converse
 twice-from_distinct : (earlier es : List Entry) → Distinct (map lan es) →
     ((d e : Entry) → In d earlier → In e es → d.lan ≢ e.lan) → twice earlier es ≡ None
 twice-from_distinct earlier [] apart h = refl
@@ -218,7 +218,7 @@ others_fed-from_test : (n : Net) (e : Entry) → ((e.lan == n.source) || is_some
 others_fed-from_test n e h other = elim (or_cases (e.lan == n.source) (is_some e.forwarder) h)
     [ inl q ↦ absurd (other (eqb-true e.lan n.source q)) | inr q ↦ q ]
 
--- and the other way round
+-- and the converse
 others_fed_test-from_fed : (n : Net) (e : Entry) → (e.lan ≢ n.source → IsSome e.forwarder) →
     ((e.lan == n.source) || is_some e.forwarder) ≡ true
 others_fed_test-from_fed n e h = elim (cases_eq e.lan n.source) [
@@ -234,7 +234,7 @@ others_fed_test-from_fed n e h = elim (cases_eq e.lan n.source) [
 is_live-true : (rank h : ℕ) → is_live rank h ≡ true → IsLive rank h
 is_live-true rank h e = let z = ltb-true (rank + h) 255 e in omega arith
 
--- and the other way round
+-- and the converse
 is_live-from_live : (rank h : ℕ) → IsLive rank h → is_live rank h ≡ true
 is_live-from_live rank h e = lt-ltb (rank + h) 255 (omega arith)
 
@@ -243,7 +243,7 @@ none-from_cond_true : (b : Bool) (x : Option Reason) → cond b x None ≡ None 
 none-from_cond_true true x e h = e
 none-from_cond_true false x e h = absurd cc
 
--- and the other way round
+-- and the converse
 cond_none-from_branch : (b : Bool) (x : Option Reason) → (b ≡ true → x ≡ None) → cond b x None ≡ None
 cond_none-from_branch true x h = h refl
 cond_none-from_branch false x h = refl
@@ -361,7 +361,7 @@ feeds-from_is_fed n es e r v h q =
     let f = feeds-from_row n es r v (n.row r) refl both.0 in
     (f.0, f.1, f.2, f.3, is_lan-true (n.placed r v) e.lan both.1)
 
--- and the other way round
+-- and the converse
 is_fed-from_feeds : (n : Net) (es : List Entry) (l : ℕ) (o : Option Interface) → Distinct (map lan es) →
     ((r v : ℕ) → o ≡ Some (r, v) → (p : Entry) × (h : ℕ) × In p es × Feeds n p r v h ×
     (n.placed r v ≡ Some l)) → is_fed n es l o ≡ true
@@ -394,7 +394,7 @@ is_served-from_no_reason n es l (Some e) q h =
           (unless-true (not (nat_lt n.ttl e.need)) (Low l) h)),
     )
 
--- and the other way round
+-- and the converse
 need_reason-from_served : (n : Net) (es : List Entry) (l : ℕ) → Distinct (map lan es) →
     (e : Entry) → In e es →
     e.lan ≡ l → e.need ≤ n.ttl → need_reason n.ttl l (entry_on es l) ≡ None

@@ -110,7 +110,7 @@ first_double-from_distinct_step earlier c cs true q no_copy h =
     absurd (no_copy (in_lans-from_first_copy_on earlier c.lan q))
 first_double-from_distinct_step earlier c cs false q no_copy h = h
 
--- and the other way round
+-- and the converse
 first_double-from_distinct : (earlier cs : List Copy) → Distinct (lans cs) →
     ((l : ℕ) → In l (lans earlier) → In l (lans cs) → ⊥) → first_double earlier cs ≡ None
 first_double-from_distinct earlier [] d apart = refl

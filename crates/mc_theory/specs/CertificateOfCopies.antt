@@ -10,10 +10,10 @@ use Rattle.mc_theory.specs.Certificates.{Entry, IsAccepted}
 use Rattle.mc_theory.specs.Reasons.{entry_at}
 use Rattle.mc_theory.specs.Findings.{from_lan}
 
--- the threshold of vif v among these pairs; 0 if it has none
+-- the threshold of a vif among these pairs; 0 if it has none
 abbrev pub threshold_of : ℕ → List (ℕ × ℕ) → ℕ
-threshold_of v [] = 0
-threshold_of v (p ∷ ps) = if p.0 == v then p.1 else threshold_of v ps
+threshold_of vif [] = 0
+threshold_of vif (pair ∷ pairs) = if pair.0 == vif then pair.1 else threshold_of vif pairs
 
 -- the pairs of a row; only an (S,G) entry has any
 abbrev pub row_pairs : Row → List (ℕ × ℕ)
@@ -25,34 +25,36 @@ row_pairs NoRow = []
 -- without such an entry
 abbrev pub need_over : ℕ → Option Entry → ℕ
 need_over threshold None = 1
-need_over threshold (Some p) = max p.need (p.rank + threshold + 1)
+need_over threshold (Some parent) = max parent.need (parent.rank + threshold + 1)
 
 -- The need of a copy's LAN, by the copy's sender, after the entries of the earlier copies: 1 for
 -- the source's copy, and for another the greater of the need of the LAN that its sender took it
 -- from, and of what passes the threshold there.
 abbrev pub need_after : Net → List Entry → Option Interface → ℕ
-need_after n es None = 1
-need_after n es (Some i) =
-    need_over (threshold_of i.1 (row_pairs (n.row i.0))) (entry_at es (from_lan n (Some i)))
+need_after net entries None = 1
+need_after net entries (Some sender) =
+    need_over (threshold_of sender.1 (row_pairs (net.row sender.0)))
+    (entry_at entries (from_lan net (Some sender)))
 
 -- a copy's entry, after those of the earlier copies; its rank is what its TTL has lost since 255
 abbrev pub entry_after : Net → List Entry → Copy → Entry
-entry_after n es c = record {
-  lan = c.lan;
-  rank = 255 - c.ttl;
-  need = need_after n es c.sender;
-  forwarder = c.sender;
+entry_after net entries copy = record {
+  lan = copy.lan;
+  rank = 255 - copy.ttl;
+  need = need_after net entries copy.sender;
+  forwarder = copy.sender;
 }
 
--- the entries `es` of the earlier copies, and then those of these copies
+-- the entries of the earlier copies, and then those of these copies
 abbrev pub entries_after : Net → List Entry → List Copy → List Entry
-entries_after n es [] = es
-entries_after n es (c ∷ cs) = entries_after n (es ++ entry_after n es c ∷ []) cs
+entries_after net entries [] = entries
+entries_after net entries (copy ∷ copies) =
+    entries_after net (entries ++ entry_after net entries copy ∷ []) copies
 
 -- the entries of the carried copies
 abbrev pub entries_of : Net → List Copy → List Entry
-entries_of n cs = entries_after n [] cs
+entries_of net copies = entries_after net [] copies
 
 -- The entries of the flight's carried copies certify the flow.
 abbrev pub IsCertifiedBy : Net → Flight → Type 0
-IsCertifiedBy n f = IsAccepted n (entries_of n f.carried)
+IsCertifiedBy net flight = IsAccepted net (entries_of net flight.carried)

@@ -6,26 +6,27 @@ use Rattle.mc_theory.specs.Nets.{Net, Interface}
 use Rattle.mc_theory.specs.Nets.Row.{Exact}
 use Rattle.mc_theory.specs.Flights.{Copy}
 
--- Interface i sent copy c when its router handled copy b: the router's (S,G) entry takes from b's
--- LAN, it has a pair of i's vif whose threshold b's TTL passed, and c has one TTL less.
-pub record IsSentOn (n : Net) (b c : Copy) (i : Interface) : Type 0 where
+-- The interface sent the copy `sent` when its router handled the copy `taken`: the router's (S,G)
+-- entry takes from the LAN of `taken`, it has a pair of the interface's vif whose threshold the TTL
+-- of `taken` passed, and `sent` has one TTL less.
+pub record IsSentOn (net : Net) (taken sent : Copy) (interface : Interface) : Type 0 where
   pub incoming : ℕ
   pub pairs : List (ℕ × ℕ)
   pub threshold : ℕ
-  pub row : n.row i.0 ≡ Exact incoming pairs
-  pub from : n.placed i.0 incoming ≡ Some b.lan
-  pub pair : In (i.1, threshold) pairs
-  pub passed : threshold < b.ttl
-  pub ttl : c.ttl + 1 ≡ b.ttl
-  pub onto : n.placed i.0 i.1 ≡ Some c.lan
+  pub row : net.row interface.0 ≡ Exact incoming pairs
+  pub from : net.placed interface.0 incoming ≡ Some taken.lan
+  pub pair : In (interface.1, threshold) pairs
+  pub passed : threshold < taken.ttl
+  pub ttl : sent.ttl + 1 ≡ taken.ttl
+  pub onto : net.placed interface.0 interface.1 ≡ Some sent.lan
 
 -- If an interface sent the copy, it sent it on from one of the earlier ones.
 abbrev pub IsSentOnFromSome : Net → List Copy → Copy → Type 0
-IsSentOnFromSome n earlier c = (i : Interface) → c.sender ≡ Some i →
-    (b : Copy) × In b earlier × IsSentOn n b c i
+IsSentOnFromSome net earlier copy = (interface : Interface) → copy.sender ≡ Some interface →
+    (taken : Copy) × In taken earlier × IsSentOn net taken copy interface
 
 -- Each of these copies, after the `earlier` ones, was sent on from one before it.
 abbrev pub AreInSendingOrder : Net → List Copy → List Copy → Type 0
-AreInSendingOrder n earlier [] = ⊤
-AreInSendingOrder n earlier (c ∷ cs) =
-    IsSentOnFromSome n earlier c × AreInSendingOrder n (earlier ++ c ∷ []) cs
+AreInSendingOrder net earlier [] = ⊤
+AreInSendingOrder net earlier (copy ∷ copies) =
+    IsSentOnFromSome net earlier copy × AreInSendingOrder net (earlier ++ copy ∷ []) copies

@@ -25,43 +25,47 @@ pub record Event : Type 0 where
   pub ttl : ℕ
   pub outcome : Outcome
 
--- how many of the pairs send a copy that came to router r with TTL t onto a LAN
+-- how many of the pairs send a copy that came to the router with this TTL onto a LAN
 abbrev pub onto_lan_count : Net → ℕ → ℕ → List (ℕ × ℕ) → ℕ
-onto_lan_count n r t pairs = count_of (λ p. nat_lt p.1 t && is_some (n.placed r p.0)) pairs
+onto_lan_count net router ttl pairs =
+    count_of (λ pair. nat_lt pair.1 ttl && is_some (net.placed router pair.0)) pairs
 
 -- how many of the pairs send that copy out of the known domain
 abbrev pub astray_count : Net → ℕ → ℕ → List (ℕ × ℕ) → ℕ
-astray_count n r t pairs = count_of (λ p. nat_lt p.1 t && not (is_some (n.placed r p.0))) pairs
+astray_count net router ttl pairs =
+    count_of (λ pair. nat_lt pair.1 ttl && not (is_some (net.placed router pair.0))) pairs
 
--- what comes of a copy that these pairs send, which came to router r with TTL t
-abbrev pub outcome_of_sending : Net → (r t : ℕ) → List (ℕ × ℕ) → Outcome
-outcome_of_sending n r t pairs = Sent (onto_lan_count n r t pairs) (astray_count n r t pairs)
+-- what comes of a copy that these pairs send, which came to the router with this TTL
+abbrev pub outcome_of_sending : Net → (router ttl : ℕ) → List (ℕ × ℕ) → Outcome
+outcome_of_sending net router ttl pairs =
+    Sent (onto_lan_count net router ttl pairs) (astray_count net router ttl pairs)
 
 -- what comes of a waiting copy, by the router's row
 abbrev pub outcome_by_row : Net → Waiting → Row → Outcome
-outcome_by_row n w open_row = Open
-outcome_by_row n w no_row = NoRow
-outcome_by_row n w (Exact incoming pairs) =
-    if incoming == w.vif then outcome_of_sending n w.router w.ttl pairs else OtherVif
+outcome_by_row net waiting open_row = Open
+outcome_by_row net waiting no_row = NoRow
+outcome_by_row net waiting (Exact incoming pairs) =
+    if incoming == waiting.vif then outcome_of_sending net waiting.router waiting.ttl pairs else OtherVif
 
 -- the event in which a waiting copy is handled
 abbrev pub event_of : Net → Waiting → Event
-event_of n w = record {
-  router = w.router;
-  vif = w.vif;
-  ttl = w.ttl;
-  outcome = outcome_by_row n w (n.row w.router);
+event_of net waiting = record {
+  router = waiting.router;
+  vif = waiting.vif;
+  ttl = waiting.ttl;
+  outcome = outcome_by_row net waiting (net.row waiting.router);
 }
 
 -- the event of a waiting copy, if there is one, and then others
 abbrev pub prepend_event : Net → Option Waiting → List Event → List Event
-prepend_event n None es = es
-prepend_event n (Some w) es = event_of n w ∷ es
+prepend_event net None others = others
+prepend_event net (Some waiting) others = event_of net waiting ∷ others
 
 -- the events of a run without loss, which handles the waiting copies at these places
 abbrev pub events : Net → List ℕ → Flight → List Event
-events n [] f = []
-events n (i ∷ is) f = prepend_event n (slice_get f.waiting i) (events n is (step n i f))
+events net [] flight = []
+events net (place ∷ places) flight =
+    prepend_event net (slice_get flight.waiting place) (events net places (step net place flight))
 
 -- how many copies an outcome put on LANs
 abbrev pub copies_in : Outcome → ℕ

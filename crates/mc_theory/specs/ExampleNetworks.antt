@@ -15,15 +15,17 @@ use Rattle.mc_theory.specs.Paths.{Hop}
 abbrev pub Placement : Type 0
 Placement = ℕ × ℕ × ℕ
 
--- the LAN on which vif v of router r is placed, by a table of placements
+-- the LAN on which a vif of a router is placed, by a table of placements
 abbrev pub placed_by_table : List Placement → ℕ → ℕ → Option ℕ
-placed_by_table [] r v = None
-placed_by_table (p ∷ ps) r v = cond ((p.0 == r) && (p.1 == v)) (Some p.2) (placed_by_table ps r v)
+placed_by_table [] router vif = None
+placed_by_table (placement ∷ others) router vif =
+    cond ((placement.0 == router) && (placement.1 == vif)) (Some placement.2)
+    (placed_by_table others router vif)
 
--- router r's row, by a table of routers with their rows; no row for a router that isn't there
+-- a router's row, by a table of routers with their rows; no row for a router that isn't there
 abbrev pub row_by_table : List (ℕ × Row) → ℕ → Row
-row_by_table [] r = NoRow
-row_by_table (t ∷ ts) r = cond (t.0 == r) t.1 (row_by_table ts r)
+row_by_table [] router = NoRow
+row_by_table (first ∷ others) router = cond (first.0 == router) first.1 (row_by_table others router)
 
 -- a network of `routers` routers, with these placements, rows, wanting LANs and TTL
 abbrev pub network : ℕ → List Placement → List (ℕ × Row) → (ℕ → Bool) → ℕ → Net
@@ -56,11 +58,11 @@ finished_flight copies = record { carried = copies; waiting = []; strays = [] }
 -- the picks of the first waiting copy, again and again, as many as the number says
 abbrev pub fifo_picks : ℕ → List ℕ
 fifo_picks zero = []
-fifo_picks (suc k) = 0 ∷ fifo_picks k
+fifo_picks (suc count) = 0 ∷ fifo_picks count
 
--- the flight of a packet with TTL 255 after k picks of the first waiting copy
+-- the flight of a packet with TTL 255 after so many picks of the first waiting copy
 abbrev pub fifo_flight : Net → ℕ → Flight
-fifo_flight n k = run n (handles (fifo_picks k)) (start n 255)
+fifo_flight net count = run net (handles (fifo_picks count)) (start net 255)
 
 -- the row that takes by vif 0 and sends by vif 1, with threshold 1
 abbrev pub onward : Row
@@ -90,7 +92,7 @@ line_places = (0, 0, 0) ∷ (0, 1, 1) ∷ (1, 0, 1) ∷ (1, 1, 2) ∷ []
 
 -- the line's placements with these rows and this TTL
 abbrev pub line_with : List (ℕ × Row) → ℕ → Net
-line_with rows ttl = network 2 line_places rows (λ l. l == 2) ttl
+line_with rows ttl = network 2 line_places rows (λ lan. lan == 2) ttl
 
 -- the line's rows
 abbrev pub line_rows : List (ℕ × Row)
@@ -122,7 +124,7 @@ line_that_sends_back = line_with ((0, sends_back) ∷ (1, onward) ∷ []) 3
 
 -- the line without r2, where r1 has this row
 abbrev pub r1_alone : Row → Net
-r1_alone row = network 2 ((0, 0, 0) ∷ (0, 1, 1) ∷ []) ((0, row) ∷ []) (λ l. l == 2) 3
+r1_alone row = network 2 ((0, 0, 0) ∷ (0, 1, 1) ∷ []) ((0, row) ∷ []) (λ lan. lan == 2) 3
 
 -- the entry of l0, the source's LAN
 abbrev pub l0_entry : Entry
@@ -145,7 +147,7 @@ line_entries = l0_entry ∷ l1_entry ∷ l2_entry ∷ []
 -- the line and r3, with this row and its vifs at these placements
 abbrev pub line_with_third_router : List Placement → Row → ℕ → Net
 line_with_third_router places row ttl = network 3 (places ++ line_places)
-    ((2, row) ∷ (0, onward) ∷ (1, onward) ∷ []) (λ l. l == 2) ttl
+    ((2, row) ∷ (0, onward) ∷ (1, onward) ∷ []) (λ lan. lan == 2) ttl
 
 -- r3 forwards from l0 to l2 as well
 abbrev pub line_with_shortcut : ℕ → Net
@@ -169,11 +171,11 @@ diamond_rows = (0, onward) ∷ (1, onward) ∷ (2, onward) ∷ []
 
 -- the diamond, in which r4 doesn't forward
 abbrev pub diamond : Net
-diamond = network 4 diamond_places diamond_rows (λ l. l == 3) 3
+diamond = network 4 diamond_places diamond_rows (λ lan. lan == 3) 3
 
 -- the diamond in which r4 forwards too
 abbrev pub closed_diamond : Net
-closed_diamond = network 4 diamond_places ((3, onward) ∷ diamond_rows) (λ l. l == 3) 3
+closed_diamond = network 4 diamond_places ((3, onward) ∷ diamond_rows) (λ lan. lan == 3) 3
 
 -- the closed diamond's last flight of a packet with TTL 4, handled by each router in turn, and by
 -- r4 and r3 at the vifs by which they hear each other
@@ -203,7 +205,7 @@ fork_rows = (0, Exact 0 ((1, 1) ∷ (2, 64) ∷ [])) ∷ []
 
 -- the fork, for a flow with this TTL
 abbrev pub fork : ℕ → Net
-fork ttl = network 1 fork_places fork_rows (λ l. (l == 1) || (l == 2)) ttl
+fork ttl = network 1 fork_places fork_rows (λ lan. (lan == 1) || (lan == 2)) ttl
 
 -- the fork's last flight of a packet with TTL 65
 abbrev pub fork_end : Flight
@@ -219,7 +221,7 @@ fork_entries = l0_entry ∷ l1_entry ∷ entry 2 1 65 (Some (0, 2)) ∷ []
 -- the twins, for a flow with TTL 65
 abbrev pub twins : Net
 twins = network 2 ((0, 0, 0) ∷ (0, 1, 1) ∷ (1, 0, 0) ∷ (1, 1, 1) ∷ [])
-    ((0, Exact 0 ((1, 64) ∷ [])) ∷ (1, onward) ∷ []) (λ l. l == 1) 65
+    ((0, Exact 0 ((1, 64) ∷ [])) ∷ (1, onward) ∷ []) (λ lan. lan == 1) 65
 
 -- the entries of l0 and of l1, with r1 as its forwarder
 abbrev pub twins_entries : List Entry

@@ -12,26 +12,26 @@ pub record ExcludesRouters (excluded : ℕ → Bool) (part whole : Net) : Type 0
   pub routers : part.routers ≡ whole.routers
   pub source : part.source ≡ whole.source
   pub ttl : part.ttl ≡ whole.ttl
-  pub wants : (l : ℕ) → part.wants l ≡ whole.wants l
-  pub placed : (r v : ℕ) → excluded r ≡ false → part.placed r v ≡ whole.placed r v
-  pub row : (r : ℕ) → excluded r ≡ false → part.row r ≡ whole.row r
-  pub nothing : (r v : ℕ) → excluded r ≡ true → part.placed r v ≡ None
+  pub wants : (lan : ℕ) → part.wants lan ≡ whole.wants lan
+  pub placed : (router vif : ℕ) → excluded router ≡ false → part.placed router vif ≡ whole.placed router vif
+  pub row : (router : ℕ) → excluded router ≡ false → part.row router ≡ whole.row router
+  pub nothing : (router vif : ℕ) → excluded router ≡ true → part.placed router vif ≡ None
 
 -- By some picks of waiting copies of the whole net the same comes of a packet as by these picks of
 -- the part: the same copies were carried and the same strays are there, in the same order. If none
 -- was lost in the part, none was lost in the whole. (The copies that wait at the excluded routers
 -- aren't picked.)
-pub record HasSameCopiesAndStrays (part whole : Net) (t : ℕ) (ps : List Pick) : Type 0 where
+pub record HasSameCopiesAndStrays (part whole : Net) (ttl : ℕ) (part_picks : List Pick) : Type 0 where
   pub picks : List Pick
-  pub in_range : InRange whole picks (start whole t)
-  pub carried : (run whole picks (start whole t)).carried ≡ (run part ps (start part t)).carried
-  pub strays : (run whole picks (start whole t)).strays ≡ (run part ps (start part t)).strays
-  pub lossless : IsLossless ps → IsLossless picks
+  pub in_range : InRange whole picks (start whole ttl)
+  pub carried : (run whole picks (start whole ttl)).carried ≡ (run part part_picks (start part ttl)).carried
+  pub strays : (run whole picks (start whole ttl)).strays ≡ (run part part_picks (start part ttl)).strays
+  pub lossless : IsLossless part_picks → IsLossless picks
 
 -- The finding is that a LAN carried two copies, or that one left the known domain.
 abbrev pub IsSecondCopyOrStray : Finding → Type 0
 IsSecondCopyOrStray Clean = ⊥
-IsSecondCopyOrStray (Duplicate l) = ⊤
-IsSecondCopyOrStray (Loop l) = ⊤
-IsSecondCopyOrStray (Stray r v) = ⊤
-IsSecondCopyOrStray (Missed l) = ⊥
+IsSecondCopyOrStray (Duplicate lan) = ⊤
+IsSecondCopyOrStray (Loop lan) = ⊤
+IsSecondCopyOrStray (Stray router vif) = ⊤
+IsSecondCopyOrStray (Missed lan) = ⊥

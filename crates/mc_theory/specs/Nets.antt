@@ -38,35 +38,38 @@ pub record Net : Type 0 where
   -- the least TTL that the source sends with
   pub ttl : ℕ
 
--- whether LAN l is the one on which a vif is placed, if it is placed on any
+-- whether the LAN is the one on which a vif is placed, if it is placed on any
 abbrev pub is_lan : Option ℕ → ℕ → Bool
-is_lan None l = false
-is_lan (Some q) l = q == l
+is_lan None lan = false
+is_lan (Some placed_on) lan = placed_on == lan
 
 -- the vifs below `width` of each router, by router and then by vif
 abbrev pub router_vif_pairs : ℕ → ℕ → List Interface
-router_vif_pairs width routers = flat_map (λ r. map (λ v. (r, v)) (below width)) (below routers)
+router_vif_pairs width routers =
+    flat_map (λ router. map (λ vif. (router, vif)) (below width)) (below routers)
 
--- The interfaces of LAN l: the vifs that are placed on it, by router and then by vif. A kernel has
+-- The interfaces of a LAN: the vifs that are placed on it, by router and then by vif. A kernel has
 -- vifs 0 to 31 (MAXVIFS in include/uapi/linux/mroute.h).
 unfoldable pub interfaces : Net → ℕ → List Interface
-interfaces n l = filter (λ i. is_lan (n.placed i.0 i.1) l) (router_vif_pairs 32 n.routers)
+interfaces net lan =
+    filter (λ interface. is_lan (net.placed interface.0 interface.1) lan) (router_vif_pairs 32 net.routers)
 
 -- the interfaces of all LANs, by router and then by vif
 abbrev pub placed_interfaces : Net → List Interface
-placed_interfaces n = filter (λ i. is_some (n.placed i.0 i.1)) (router_vif_pairs 32 n.routers)
+placed_interfaces net =
+    filter (λ interface. is_some (net.placed interface.0 interface.1)) (router_vif_pairs 32 net.routers)
 
 -- What holds of every domain. All that is proved of flights rests on these three facts and, where a law
 -- says so, on `WantsBelow` and on a TTL of 1 to 255.
-pub record IsNet (n : Net) : Type 0 where
+pub record IsNet (net : Net) : Type 0 where
   -- a placed vif belongs to a router of the domain
-  pub router : (r v l : ℕ) → n.placed r v ≡ Some l → r < n.routers
+  pub router : (router vif lan : ℕ) → net.placed router vif ≡ Some lan → router < net.routers
   -- and is one of 0 to 31
-  pub vif : (r v l : ℕ) → n.placed r v ≡ Some l → v < 32
+  pub vif : (router vif lan : ℕ) → net.placed router vif ≡ Some lan → vif < 32
   -- a row has one pair at most for each outgoing vif
-  pub vifs : (r v : ℕ) (pairs : List (ℕ × ℕ)) →
-      n.row r ≡ Exact v pairs → Distinct (map (λ p. p.0) pairs)
+  pub vifs : (router vif : ℕ) (pairs : List (ℕ × ℕ)) →
+      net.row router ≡ Exact vif pairs → Distinct (map (λ pair. pair.0) pairs)
 
 -- LANs that want the flow are numbered below the count.
 abbrev pub WantsBelow : Net → ℕ → Type 0
-WantsBelow n count = (l : ℕ) → n.wants l ≡ true → l < count
+WantsBelow net count = (lan : ℕ) → net.wants lan ≡ true → lan < count

@@ -23,150 +23,152 @@ pub record Hop : Type 0 where
 
 -- The hop is one of the domain: its router's (S,G) entry takes from the one LAN, and has a pair of
 -- the vif and the threshold, where the vif is placed on the other LAN.
-pub record IsHop (n : Net) (h : Hop) : Type 0 where
+pub record IsHop (net : Net) (hop : Hop) : Type 0 where
   pub incoming : ℕ
   pub pairs : List (ℕ × ℕ)
-  pub row : n.row h.router ≡ Exact incoming pairs
-  pub takes : n.placed h.router incoming ≡ Some h.from
-  pub pair : In (h.vif, h.threshold) pairs
-  pub sends : n.placed h.router h.vif ≡ Some h.onto
+  pub row : net.row hop.router ≡ Exact incoming pairs
+  pub takes : net.placed hop.router incoming ≡ Some hop.from
+  pub pair : In (hop.vif, hop.threshold) pairs
+  pub sends : net.placed hop.router hop.vif ≡ Some hop.onto
 
--- These hops lead from LAN a to LAN b.
+-- These hops lead from the one LAN to the other.
 abbrev pub IsPath : Net → ℕ → List Hop → ℕ → Type 0
-IsPath n a [] b = a ≡ b
-IsPath n a (h ∷ hs) b = (h.onto ≡ b) × IsHop n h × IsPath n a hs h.from
+IsPath net from [] to = from ≡ to
+IsPath net from (hop ∷ hops) to = (hop.onto ≡ to) × IsHop net hop × IsPath net from hops hop.from
 
--- One of these hops takes from LAN l.
+-- One of these hops takes from the LAN.
 abbrev pub PassesLan : ℕ → List Hop → Type 0
-PassesLan l hs = In l (map (λ (h : Hop). h.from) hs)
+PassesLan lan hops = In lan (map (λ (hop : Hop). hop.from) hops)
 
 -- ---- which packets get through
 
--- A packet sent with TTL t gets through: at each hop its TTL, which each hop before has lowered by
--- one, is greater than the threshold.
+-- A packet sent with this TTL gets through: at each hop its TTL, which each hop before has lowered
+-- by one, is greater than the threshold.
 abbrev pub PassesHops : ℕ → List Hop → Type 0
-PassesHops t [] = ⊤
-PassesHops t (h ∷ hs) = (length hs + h.threshold < t) × PassesHops t hs
+PassesHops ttl [] = ⊤
+PassesHops ttl (hop ∷ hops) = (length hops + hop.threshold < ttl) × PassesHops ttl hops
 
 -- the least TTL with which a packet gets through these hops
 abbrev pub need : List Hop → ℕ
 need [] = 1
-need (h ∷ hs) = max (need hs) (length hs + h.threshold + 1)
+need (hop ∷ hops) = max (need hops) (length hops + hop.threshold + 1)
 
--- A packet sent with TTL t is stopped at hop h: it gets through the hops before, and what is left
--- of its TTL there isn't greater than the threshold.
-pub record IsStopped (t : ℕ) (hs : List Hop) (h : Hop) (left : ℕ) : Type 0 where
+-- A packet sent with `packet_ttl` is stopped at the hop: it gets through the hops before, and what
+-- is left of its TTL there isn't greater than the threshold.
+pub record IsStopped (packet_ttl : ℕ) (hops : List Hop) (hop : Hop) (left : ℕ) : Type 0 where
   pub after : List Hop
   pub before : List Hop
-  pub split : hs ≡ after ++ h ∷ before
-  pub comes : PassesHops t before
-  pub ttl : left + length before ≡ t
-  pub stops : left ≤ h.threshold
+  pub split : hops ≡ after ++ hop ∷ before
+  pub comes : PassesHops packet_ttl before
+  pub ttl : left + length before ≡ packet_ttl
+  pub stops : left ≤ hop.threshold
 
--- LAN l is reached: some path leads to it from the source's LAN, whatever TTL it needs.
+-- The LAN is reached: some path leads to it from the source's LAN, whatever TTL it needs.
 abbrev pub IsReached : Net → ℕ → Type 0
-IsReached n l = (hs : List Hop) × IsPath n n.source hs l
+IsReached net lan = (hops : List Hop) × IsPath net net.source hops lan
 
--- LAN l is reached with TTL t: by some path to it packets sent with TTL t get through.
+-- The LAN is reached with this TTL: by some path to it packets sent with it get through.
 abbrev pub IsReachedWithTtl : Net → ℕ → ℕ → Type 0
-IsReachedWithTtl n t l = (hs : List Hop) × IsPath n n.source hs l × PassesHops t hs
+IsReachedWithTtl net ttl lan = (hops : List Hop) × IsPath net net.source hops lan × PassesHops ttl hops
 
--- k is the least TTL with which LAN l is reached: with a TTL from 1 to 255 it is reached exactly if
--- that is at least k.
-abbrev pub IsLeastReachingTtl : Net → (l k : ℕ) → Type 0
-IsLeastReachingTtl n l k = (t : ℕ) → 1 ≤ t → t ≤ 255 → IsReachedWithTtl n t l ↔ (k ≤ t)
+-- `least` is the least TTL with which the LAN is reached: with a TTL from 1 to 255 it is reached
+-- exactly if that is at least so much.
+abbrev pub IsLeastReachingTtl : Net → (lan least : ℕ) → Type 0
+IsLeastReachingTtl net lan least =
+    (ttl : ℕ) → 1 ≤ ttl → ttl ≤ 255 → IsReachedWithTtl net ttl lan ↔ (least ≤ ttl)
 
 -- ---- the path of a copy
 
--- Copy c came by these hops from the source's LAN: by its own sender's, from a LAN whose first copy
--- came by the hops before that one.
+-- The copy came by these hops from the source's LAN: by its own sender's, from a LAN whose first
+-- copy came by the hops before that one.
 abbrev pub CameByHops : Net → List Copy → Copy → List Hop → Type 0
-CameByHops n cs c [] = c.sender ≡ None
-CameByHops n cs c (h ∷ hs) =
-    (c.sender ≡ Some (h.router, h.vif)) × (h.onto ≡ c.lan) × IsHop n h
-    × ((b : Copy) × (first_copy_on cs h.from ≡ Some b) × CameByHops n cs b hs)
+CameByHops net copies copy [] = copy.sender ≡ None
+CameByHops net copies copy (hop ∷ hops) =
+    (copy.sender ≡ Some (hop.router, hop.vif)) × (hop.onto ≡ copy.lan) × IsHop net hop
+    × ((first : Copy) × (first_copy_on copies hop.from ≡ Some first) × CameByHops net copies first hops)
 
--- Hop h is the one by which copy c was sent: its sender's, onto its LAN.
+-- The hop is the one by which the copy was sent: its sender's, onto its LAN.
 abbrev pub IsSentByHop : Net → Copy → Hop → Type 0
-IsSentByHop n c h = (c.sender ≡ Some (h.router, h.vif)) × (h.onto ≡ c.lan) × IsHop n h
+IsSentByHop net copy hop =
+    (copy.sender ≡ Some (hop.router, hop.vif)) × (hop.onto ≡ copy.lan) × IsHop net hop
 
--- Copy c came by these hops from LAN l, without passing l in between: by the one that it was sent
--- by, from l itself, or from another LAN, whose first copy came from l by the hops before that one.
+-- The copy came by these hops from the LAN, without passing it in between: by the one that it was
+-- sent by, from the LAN itself, or from another one, whose first copy came from it by the hops
+-- before that one.
 abbrev pub CameFromLan : Net → List Copy → ℕ → Copy → List Hop → Type 0
-CameFromLan n cs l c [] = ⊥
-CameFromLan n cs l c (h ∷ []) = IsSentByHop n c h × (h.from ≡ l)
-CameFromLan n cs l c (h ∷ g ∷ hs) =
-    IsSentByHop n c h × (h.from ≢ l)
-    × ((first : Copy) × (first_copy_on cs h.from ≡ Some first) × CameFromLan n cs l first (g ∷ hs))
+CameFromLan net copies lan copy [] = ⊥
+CameFromLan net copies lan copy (hop ∷ []) = IsSentByHop net copy hop × (hop.from ≡ lan)
+CameFromLan net copies lan copy (hop ∷ before ∷ hops) =
+    IsSentByHop net copy hop × (hop.from ≢ lan)
+    × ((first : Copy) × (first_copy_on copies hop.from ≡ Some first)
+    × CameFromLan net copies lan first (before ∷ hops))
 
 -- ---- a remedy
 
--- a row without its pairs of vif v
+-- a row without its pairs of the vif
 abbrev pub row_without_vif : ℕ → Row → Row
-row_without_vif v (Exact incoming pairs) = Exact incoming (filter (λ p. not (p.0 == v)) pairs)
-row_without_vif v Open = Open
-row_without_vif v NoRow = NoRow
+row_without_vif vif (Exact incoming pairs) = Exact incoming (filter (λ pair. not (pair.0 == vif)) pairs)
+row_without_vif vif Open = Open
+row_without_vif vif NoRow = NoRow
 
--- The domain in which interface i is taken out of its router's row; all else is the same.
+-- The domain in which the interface is taken out of its router's row; all else is the same.
 abbrev pub take_out : Interface → Net → Net
-take_out i n = record {
-  routers = n.routers;
-  placed = n.placed;
-  row = λ r. if r == i.0 then row_without_vif i.1 (n.row r) else n.row r;
-  wants = n.wants;
-  source = n.source;
-  ttl = n.ttl;
+take_out interface net = record net {
+  row = λ router.
+      if router == interface.0 then row_without_vif interface.1 (net.row router) else net.row router;
 }
 
--- Each LAN that is reached with TTL t in the domain n is reached with it in the domain `after`.
-abbrev pub KeepsReach : Net → Net → (t : ℕ) → Type 0
-KeepsReach n after t = (l : ℕ) → IsReachedWithTtl n t l → IsReachedWithTtl after t l
+-- Each LAN that is reached with this TTL in the domain is reached with it in the domain `after`.
+abbrev pub KeepsReach : Net → Net → (ttl : ℕ) → Type 0
+KeepsReach net after ttl = (lan : ℕ) → IsReachedWithTtl net ttl lan → IsReachedWithTtl after ttl lan
 
--- Each LAN that carries a copy in some run of a packet with TTL t in the domain n carries one in
+-- Each LAN that carries a copy in some run of a packet with this TTL in the domain carries one in
 -- each complete run that loses none in the domain `after`.
-abbrev pub KeepsDelivery : Net → Net → (t : ℕ) → Type 0
-KeepsDelivery n after t = (ps qs : List Pick) (l : ℕ) →
-    IsCompleteRun after t qs → CarriesCopy n t ps l → CarriesCopy after t qs l
+abbrev pub KeepsDelivery : Net → Net → (ttl : ℕ) → Type 0
+KeepsDelivery net after ttl = (picks after_picks : List Pick) (lan : ℕ) →
+    IsCompleteRun after ttl after_picks → CarriesCopy net ttl picks lan →
+    CarriesCopy after ttl after_picks lan
 
--- Interface i sent c, the flight's first copy that has an earlier one on its LAN, and the first
--- copy of that LAN came by these hops.
-pub record IsSpareInterface (n : Net) (f : Flight) (c : Copy) (i : Interface) (hs : List Hop) : Type 0 where
-  pub first_double : IsFirstDouble f.carried c
-  pub sender : c.sender ≡ Some i
+-- The interface sent the copy, the flight's first copy that has an earlier one on its LAN, and the
+-- first copy of that LAN came by these hops.
+pub record IsSpareInterface (net : Net) (flight : Flight) (copy : Copy) (interface : Interface)
+    (hops : List Hop) : Type 0 where
+  pub first_double : IsFirstDouble flight.carried copy
+  pub sender : copy.sender ≡ Some interface
   pub first : Copy
-  pub first_on : first_copy_on f.carried c.lan ≡ Some first
-  pub came_by_hops : CameByHops n f.carried first hs
+  pub first_on : first_copy_on flight.carried copy.lan ≡ Some first
+  pub came_by_hops : CameByHops net flight.carried first hops
 
 -- ---- two copies of a LAN
 
--- LAN l's first copy and its second, the first of these copies that has an earlier one on its LAN,
--- came by two paths: their last hops are those of two senders, and the second path doesn't pass the
--- LAN before its end.
-pub record ReachedByTwoPaths (n : Net) (cs : List Copy) (l : ℕ) : Type 0 where
+-- The first copy of the LAN `onto` and its second, the first of these copies that has an earlier
+-- one on its LAN, came by two paths: their last hops are those of two senders, and the second path
+-- doesn't pass the LAN before its end.
+pub record ReachedByTwoPaths (net : Net) (copies : List Copy) (onto : ℕ) : Type 0 where
   pub first : Copy
   pub second : Copy
-  pub first_on : first_copy_on cs l ≡ Some first
-  pub first_double : IsFirstDouble cs second
-  pub lan : second.lan ≡ l
+  pub first_on : first_copy_on copies onto ≡ Some first
+  pub first_double : IsFirstDouble copies second
+  pub lan : second.lan ≡ onto
   pub senders : first.sender ≢ second.sender
   pub first_path : List Hop
-  pub first_came : CameByHops n cs first first_path
-  pub first_leads : IsPath n n.source first_path l
+  pub first_came : CameByHops net copies first first_path
+  pub first_leads : IsPath net net.source first_path onto
   pub second_path : List Hop
-  pub second_came : CameByHops n cs second second_path
-  pub second_leads : IsPath n n.source second_path l
-  pub not_before : ¬ PassesLan l second_path
+  pub second_came : CameByHops net copies second second_path
+  pub second_leads : IsPath net net.source second_path onto
+  pub not_before : ¬ PassesLan onto second_path
 
--- LAN l's second copy came from the LAN itself: the walk back from that copy to the LAN is a path
--- that leads from the LAN back to it, whose last hop's interface sent the copy. It has fewer hops
--- than there are carried copies.
-pub record LoopedBack (n : Net) (cs : List Copy) (l : ℕ) : Type 0 where
+-- The second copy of the LAN `onto` came from the LAN itself: the walk back from that copy to the
+-- LAN is a path that leads from the LAN back to it, whose last hop's interface sent the copy. It
+-- has fewer hops than there are carried copies.
+pub record LoopedBack (net : Net) (copies : List Copy) (onto : ℕ) : Type 0 where
   pub second : Copy
-  pub first_double : IsFirstDouble cs second
-  pub lan : second.lan ≡ l
+  pub first_double : IsFirstDouble copies second
+  pub lan : second.lan ≡ onto
   pub last_hop : Hop
   pub sender : second.sender ≡ Some (last_hop.router, last_hop.vif)
   pub before : List Hop
-  pub closed : IsPath n l (last_hop ∷ before) l
-  pub came_by_hops : CameFromLan n cs l second (last_hop ∷ before)
-  pub few : length (last_hop ∷ before) < length cs
+  pub closed : IsPath net onto (last_hop ∷ before) onto
+  pub came_by_hops : CameFromLan net copies onto second (last_hop ∷ before)
+  pub few : length (last_hop ∷ before) < length copies

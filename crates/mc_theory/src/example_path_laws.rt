@@ -31,7 +31,7 @@ pub fn diamond_stops_low_ttl_packets()
     ensures last_hop { IsStopped 2 upper_path (onward_hop 1 2 3) 1 }
     ensures first_hop { IsStopped 1 upper_path (onward_hop 0 0 1) 1 }
     ensures not_again { IsStopped 1 upper_path (onward_hop 1 2 3) 0 → ⊥ }
-    ensures least_ttl { (h : Hop) (left : ℕ) → IsStopped 3 upper_path h left → ⊥ }
+    ensures least_ttl { (hop : Hop) (left : ℕ) → IsStopped 3 upper_path hop left → ⊥ }
     ensures last_found { stopping_hop 2 upper_path ≡ Some (onward_hop 1 2 3, 1) }
     ensures first_found { stopping_hop 1 upper_path ≡ Some (onward_hop 0 0 1, 1) }
     ensures none_found { stopping_hop 3 upper_path ≡ None }

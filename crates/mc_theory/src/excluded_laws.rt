@@ -13,28 +13,28 @@ ghost use Rattle.mc_theory.specs.ExampleNetworks.{line, line_that_sends_back, on
 /// What comes of a packet without the excluded routers comes of it in the whole net as well,
 /// whatever their tables are: the same copies are carried, and the same strays are there.
 pub fn run_without_routers_occurs_with_them()
-    ensures { (out : ℕ → Bool) (part whole : Net) (t : ℕ) (ps : List Pick) →
-        ExcludesRouters out part whole → InRange part ps (start part t) →
-        HasSameCopiesAndStrays part whole t ps }
+    ensures { (excluded : ℕ → Bool) (part whole : Net) (ttl : ℕ) (picks : List Pick) →
+        ExcludesRouters excluded part whole → InRange part picks (start part ttl) →
+        HasSameCopiesAndStrays part whole ttl picks }
 {}
 
 /// The whole flow isn't right where a run without them, of a packet with the flow's TTL or more, has
 /// two copies on a LAN or a stray, or where a travel finds that.
 pub fn fault_without_routers_is_fault_with_them()
-    ensures runs { (out : ℕ → Bool) (part whole : Net) → ExcludesRouters out part whole →
-        EveryRun part part.ttl (λ t ps f. ¬ IsClean f → ¬ IsRight whole) }
-    ensures travels { (out : ℕ → Bool) (part whole : Net) (count t : ℕ) (x : Finding) →
-        ExcludesRouters out part whole → part.ttl ≤ t → t ≤ 255 → IsSecondCopyOrStray x →
-        OnFinding part count t x (λ f. ¬ IsRight whole) }
+    ensures runs { (excluded : ℕ → Bool) (part whole : Net) → ExcludesRouters excluded part whole →
+        EveryRun part part.ttl (λ ttl picks flight. ¬ IsClean flight → ¬ IsRight whole) }
+    ensures travels { (excluded : ℕ → Bool) (part whole : Net) (count ttl : ℕ) (found : Finding) →
+        ExcludesRouters excluded part whole → part.ttl ≤ ttl → ttl ≤ 255 → IsSecondCopyOrStray found →
+        OnFinding part count ttl found (λ flight. ¬ IsRight whole) }
 {}
 
 /// On the line r1 does without r2 what it does with it.
 pub fn r1_acts_alike_without_r2()
-    ensures onward { ExcludesRouters (λ r. r == 1) (r1_alone onward) (line 3) }
-    ensures sends_back { ExcludesRouters (λ r. r == 1) (r1_alone sends_back) line_that_sends_back }
+    ensures onward { ExcludesRouters (λ router. router == 1) (r1_alone onward) (line 3) }
+    ensures sends_back { ExcludesRouters (λ router. router == 1) (r1_alone sends_back) line_that_sends_back }
     // With another row of r1, or with r2's vifs, it isn't that line without r2.
-    ensures own_row { ¬ ExcludesRouters (λ r. r == 1) (r1_alone onward) line_that_sends_back }
-    ensures own_vifs { ¬ ExcludesRouters (λ r. r == 1) (line 3) (line 3) }
+    ensures own_row { ¬ ExcludesRouters (λ router. router == 1) (r1_alone onward) line_that_sends_back }
+    ensures own_vifs { ¬ ExcludesRouters (λ router. router == 1) (line 3) (line 3) }
     // l2 is missed without r2, though the line is right: a missed LAN shows nothing of the whole.
     ensures missed { IsTravel (r1_alone onward) 3 [] false (0 ∷ []) (start (r1_alone onward) 3)
         (Missed 2) × ¬ IsSecondCopyOrStray (Missed 2) }

@@ -16,21 +16,21 @@ ghost use Rattle.mc_theory.specs.ExampleNetworks.{fork, fork_end};
 /// waiting copies, in counts of what was carried.
 pub fn the_headline_in_counts()
     // No LAN carried two copies,
-    ensures no_two_copies { (n : Net) (named t : ℕ) (ps : List Pick) (l : ℕ)
-        → HeadlineHolds n named → n.ttl ≤ t → t ≤ 255 → InRange n ps (start n t)
-        → length (filter (λ c. c.lan == l) (run n ps (start n t)).carried) ≤ 1 }
+    ensures no_two_copies { (net : Net) (named ttl : ℕ) (picks : List Pick) (lan : ℕ)
+        → HeadlineHolds net named → net.ttl ≤ ttl → ttl ≤ 255 → InRange net picks (start net ttl)
+        → length (filter (λ copy. copy.lan == lan) (run net picks (start net ttl)).carried) ≤ 1 }
     // none left the known domain,
-    ensures none_leaves { (n : Net) (named t : ℕ) (ps : List Pick)
-        → HeadlineHolds n named → n.ttl ≤ t → t ≤ 255 → InRange n ps (start n t)
-        → (run n ps (start n t)).strays ≡ [] }
+    ensures none_leaves { (net : Net) (named ttl : ℕ) (picks : List Pick)
+        → HeadlineHolds net named → net.ttl ≤ ttl → ttl ≤ 255 → InRange net picks (start net ttl)
+        → (run net picks (start net ttl)).strays ≡ [] }
     // and no more were made than are named.
-    ensures no_more_than_named { (n : Net) (named t : ℕ) (ps : List Pick)
-        → HeadlineHolds n named → n.ttl ≤ t → t ≤ 255 → InRange n ps (start n t)
-        → length (run n ps (start n t)).carried ≤ named }
+    ensures no_more_than_named { (net : Net) (named ttl : ℕ) (picks : List Pick)
+        → HeadlineHolds net named → net.ttl ≤ ttl → ttl ≤ 255 → InRange net picks (start net ttl)
+        → length (run net picks (start net ttl)).carried ≤ named }
     // Where each pick handled its copy, and none waits, each wanting LAN carried exactly one.
-    ensures each_wanting_one { (n : Net) (named l : ℕ)
-        → HeadlineHolds n named → n.wants l ≡ true
-        → EveryHandledFlight n (λ f. length (filter (λ c. c.lan == l) f.carried) ≡ 1) }
+    ensures each_wanting_one { (net : Net) (named lan : ℕ)
+        → HeadlineHolds net named → net.wants lan ≡ true
+        → EveryHandledFlight net (λ flight. length (filter (λ copy. copy.lan == lan) flight.carried) ≡ 1) }
 {}
 
 /// The line, where r1 forwards from l0 to l1 and r2 on to l2, keeps the headline at TTL 3.
@@ -42,8 +42,10 @@ pub fn the_line_is_right()
     // A certificate that names one LAN less allows too few copies.
     ensures too_few_named { HeadlineHolds (line 3) 2 → ⊥ }
     // Copies are handled at the four interfaces at most: a fifth step is one too many.
-    ensures one_step_too_many { (i j k l m : ℕ) (f : Flight) → IsSafe (line 3) line_entries 3
-        (Handles i ∷ Handles j ∷ Handles k ∷ Handles l ∷ Handles m ∷ []) f → ⊥ }
+    ensures one_step_too_many { (first second third fourth fifth : ℕ) (flight : Flight) →
+        IsSafe (line 3) line_entries 3
+        (Handles first ∷ Handles second ∷ Handles third ∷ Handles fourth ∷ Handles fifth ∷ [])
+        flight → ⊥ }
 {}
 
 /// With a TTL of 2 r2 doesn't send on, since 1 isn't greater than its threshold 1, and l2 isn't served.

@@ -13,18 +13,20 @@ ghost use Rattle.mc_theory.specs.ExampleNetworks.{line_with_loop, twins};
 /// A travel's second copy of a LAN, or its stray, comes of each packet with at least the greatest need of the
 /// copies that it rests on, in whatever order copies are handled, if none is lost.
 pub fn finding_is_shown_from_its_need()
-    ensures shown { (n : Net) (count s t k : ℕ) (x : Finding) → IsNet n →
-        OnFinding n count s x (λ f. IsShownFrom n f.carried x k → k ≤ t → EachCompleteRunHasFault n t x) }
+    ensures shown { (net : Net) (count travel_ttl ttl least_ttl : ℕ) (found : Finding) → IsNet net →
+        OnFinding net count travel_ttl found (λ flight. IsShownFrom net flight.carried found least_ttl →
+        least_ttl ≤ ttl → EachCompleteRunHasFault net ttl found) }
     // There is such a need, and the travel's own TTL meets it.
-    ensures exists { (n : Net) (count s : ℕ) (x : Finding) → IsNet n → WantsBelow n count → 1 ≤ s →
-        IsSecondCopyOrStray x → OnFinding n count s x (λ f.
-        (k : ℕ) × IsShownFrom n f.carried x k × (k ≤ s)) }
+    ensures exists { (net : Net) (count travel_ttl : ℕ) (found : Finding) → IsNet net →
+        WantsBelow net count → 1 ≤ travel_ttl →
+        IsSecondCopyOrStray found → OnFinding net count travel_ttl found (λ flight.
+        (least_ttl : ℕ) × IsShownFrom net flight.carried found least_ttl × (least_ttl ≤ travel_ttl)) }
 {}
 
 /// The domain and the carried copies determine that need.
 pub fn need_of_finding_is_unique()
-    ensures { (n : Net) (cs : List Copy) (x : Finding) (k m : ℕ) → IsNet n →
-        IsShownFrom n cs x k → IsShownFrom n cs x m → k ≡ m }
+    ensures { (net : Net) (copies : List Copy) (found : Finding) (least_ttl other : ℕ) → IsNet net →
+        IsShownFrom net copies found least_ttl → IsShownFrom net copies found other → least_ttl ≡ other }
 {}
 
 /// Both copies count. Of the twins' copies on l1 r2's needs TTL 2, and r1's 65: with TTL 64 there is one

@@ -28,14 +28,17 @@ if_add-le : (b : Bool) (n m : ℕ) → (if b then n + m else n) ≤ n + m
 if_add-le true n m = omega arith
 if_add-le false n m = omega arith
 
+-- or decreases by one,
 if_sub-le_one_more : (b : Bool) (n : ℕ) → (if b then n - 1 else n) ≤ n + 1
 if_sub-le_one_more true n = omega arith
 if_sub-le_one_more false n = omega arith
 
+-- or either,
 nested_if-le_one_more : (b d : Bool) (n : ℕ) → (if b then n + 1 else if d then n - 1 else n) ≤ n + 1
 nested_if-le_one_more true d n = omega arith
 nested_if-le_one_more false d n = if_sub-le_one_more d n
 
+-- so that a header grows by at most one byte
 header_after-le_one_more : (part : LinePart) (header : ℕ) (state : LexState) (c : ℕ)
     → header_after part header state c ≤ header + 1
 header_after-le_one_more Margin header state c = if-le_one_more (c == 91) header 1 (omega arith)
@@ -62,6 +65,7 @@ with_byte-growth scan c =
       if-le_one_more (outside && is_mark c) scan.marks (scan.marks + 1) (omega arith),
     )
 
+-- one more byte is scanned, by which each count grows by no more than its bound
 pub IsScannedTo-more : (text : List ℕ) (scan : Scan) (place : ℕ) → IsScannedTo text scan place
     → place < length text → length text ≤ 16777216
     → IsScannedTo text (with_byte scan (slice_index_or text place 0)) (place + 1)
@@ -76,6 +80,7 @@ IsScannedTo-more text scan place is inside small =
       few = omega (arith, grown.3, is.few);
     }
 
+-- when all bytes are scanned, the scan is that of the whole text
 IsScannedTo-all : (text : List ℕ) (scan : Scan) (place : ℕ) → IsScannedTo text scan place
     → length text ≤ place → scan ≡ fold with_byte initial_scan text
 IsScannedTo-all text scan place is ended =

@@ -2,7 +2,7 @@
 use Rattle.std.proofs.Common.{◌≡◌, ℕ, ◌+◌, ◌<◌, ◌≤◌, List, [], ◌∷◌, ◌++◌, length, get_or, drop, map}
 use Rattle.std.proofs.Common.{Result, Ok, Err, refl}
 use Rattle.std.proofs.lemmas.List.{drop_more, drop_all}
-use Rattle.mc_topology.specs.Answer.{read_rows}
+use Rattle.mc_topology.specs.EachRow.{read_rows}
 
 module _ {A D X E : Type 0} (one : List X → D → Result X E) (see : A → D) (earlier : List X)
     (rows : List A) (i : ℕ) where

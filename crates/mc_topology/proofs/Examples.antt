@@ -7,7 +7,7 @@ use Rattle.toml.proofs.OnLiterals.{toml_on_literals}
 use Rattle.mc_text.specs.AddressReading.{address_of_text}
 use Rattle.mc_text.specs.declared.text.addr.Order.TheVariants.{Big}
 use Rattle.mc_topology.specs.Addresses.{source_address_of, group_address_of}
-use Rattle.mc_topology.specs.Answer.{read_rows}
+use Rattle.mc_topology.specs.EachRow.{read_rows}
 use Rattle.mc_topology.specs.Bounds.{after_byte, with_byte, is_bounded}
 use Rattle.mc_topology.specs.Document.{known_table, text_at, number_at, list_at, optional_text_at}
 use Rattle.mc_topology.specs.Document.{optional_list_at, rows_at}

@@ -20,11 +20,13 @@ ttl_of-within (pos n) low high =
     rw (le-leb 1 n l, le-leb n 255 h) refl
 ttl_of-within (negsuc n) low high = absurd (omega (arith, ints))
 
+-- a number below 1 is none,
 pub ttl_of-low : (z : ℤ) → z <ℤ pos 1 → ttl_of z ≡ Err BadTtl
 unfolding ttl_of
 ttl_of-low (pos n) low = let none : n ≡ 0 = omega (arith, ints) in rw none refl
 ttl_of-low (negsuc n) low = refl
 
+-- and neither is one over 255
 pub ttl_of-high : (z : ℤ) → pos 255 <ℤ z → ttl_of z ≡ Err BadTtl
 unfolding ttl_of
 ttl_of-high (pos n) high =

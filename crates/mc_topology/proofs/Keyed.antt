@@ -30,6 +30,7 @@ bytes_eq-flip a b =
     test_eq-from_iff (bytes_eq a b) (bytes_eq b a) (bytes_eq-Decides a b) (bytes_eq-Decides b a)
     (λ e. sym e) (λ e. sym e)
 
+-- and whichever number
 pub nat_eq-flip : (a b : ℕ) → (a == b) ≡ (b == a)
 nat_eq-flip a b =
     test_eq-from_iff (a == b) (b == a) (unsigned_Decides a b) (unsigned_Decides b a) (λ e. sym e)

@@ -15,7 +15,8 @@ use Rattle.mc_topology.specs.Routers.{routers_in}
 use Rattle.mc_topology.specs.Interfaces.{interfaces_in}
 use Rattle.mc_topology.specs.Sources.{sources_in}
 use Rattle.mc_topology.specs.Flows.{flows_in}
-use Rattle.mc_topology.specs.Answer.{◌>>=◌, out_of_memory}
+use Rattle.mc_text.specs.Steps.{◌>>=◌}
+use Rattle.mc_topology.specs.Answer.{out_of_memory}
 use Rattle.mc_topology.specs.Bounds.{is_bounded}
 use Rattle.mc_topology.specs.Reading.{parse_toml, document_of, check_version, topology_in}
 use Rattle.mc_topology.specs.Reading.{sources_and_flows_in, interfaces_and_flows_in, parse_topology}
@@ -78,9 +79,11 @@ document_of-NotToml text few bounded none =
 abbrev ok_topology : TopologyValue → Result TopologyValue TopologyFault
 ok_topology t = Ok t
 
+-- of the sources and flows,
 abbrev ok_sources_and_flows : List SourceRow → List Flow → Result (List SourceRow × List Flow) TopologyFault
 ok_sources_and_flows sources flows = Ok (sources, flows)
 
+-- and of the interfaces with these
 abbrev ok_interfaces_and_flows : List InterfaceRow → List SourceRow × List Flow
     → Result (List InterfaceRow × List SourceRow × List Flow) TopologyFault
 ok_interfaces_and_flows interfaces sourced = Ok (interfaces, sourced.0, sourced.1)

@@ -24,7 +24,7 @@ use Rattle.mc_topology.specs.declared.fault.TopologyFaultKind.TheVariants.{Repea
 use Rattle.mc_topology.specs.declared.flow.Flow.{Flow}
 use Rattle.mc_topology.specs.SectionRows.{RouterRow, InterfaceRow, SourceRow}
 use Rattle.mc_topology.specs.Addresses.{checked_address, source_address_of, group_address_of}
-use Rattle.mc_topology.specs.Answer.{read_rows, each_row}
+use Rattle.mc_topology.specs.EachRow.{read_rows, each_row}
 use Rattle.mc_topology.specs.Document.{known_table, text_of, text_at, number_at, optional_text_at}
 use Rattle.mc_topology.specs.Names.{is_name, is_device, index_of}
 use Rattle.mc_topology.specs.Lans.{has_lan, lan_name_of}

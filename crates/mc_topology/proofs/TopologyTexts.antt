@@ -22,7 +22,9 @@ use Rattle.mc_topology.specs.declared.fault.TopologyFaultKind.TheVariants.{Unkno
 use Rattle.mc_topology.specs.declared.fault.TopologyFaultKind.TheVariants.{TooMany}
 use Rattle.mc_topology.specs.declared.flow.Flow.{Flow}
 use Rattle.mc_topology.specs.SectionRows.{RouterRow, InterfaceRow, SourceRow}
-use Rattle.mc_topology.specs.Answer.{◌>>=◌, locate_fault, each_row}
+use Rattle.mc_text.specs.Steps.{◌>>=◌}
+use Rattle.mc_topology.specs.Faults.{locate_fault}
+use Rattle.mc_topology.specs.EachRow.{each_row}
 use Rattle.mc_topology.specs.Document.{has_only, rows_in, list_at, number_at, rows_at}
 use Rattle.mc_topology.specs.Document.{optional_list_at}
 use Rattle.mc_topology.specs.Lans.{lan_name_of, lan_rows, lans_in}
@@ -354,6 +356,7 @@ parse_topology-unbounded text t beyond e =
     let (few, bounded) = and_parts (nat_le (length text) 16777216) (is_bounded text) small.0 in
     false≢true (sym beyond ∙ bounded)
 
+-- a text that is read denotes the topology and is within the bounds, as one beyond them is refused
 parse_topology-denotes_by_cases : (b : Bool) (text : List ℕ) (t : TopologyValue) → is_bounded text ≡ b
     → parse_topology text ≡ Ok t → DenotesBoundedTopology text t
 parse_topology-denotes_by_cases true text t is e = record {

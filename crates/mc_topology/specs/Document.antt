@@ -8,7 +8,7 @@ use Rattle.toml.specs.Data.{as_str, as_integer, as_table, as_array}
 use Rattle.mc_topology.specs.declared.fault.TopologyFaultKind.{TopologyFaultKind}
 use Rattle.mc_topology.specs.declared.fault.TopologyFaultKind.TheVariants.{MissingKey, BadKind}
 use Rattle.mc_topology.specs.declared.fault.TopologyFaultKind.TheVariants.{UnknownKey, TooMany}
-use Rattle.mc_topology.specs.Answer.{◌>>=◌}
+use Rattle.mc_text.specs.Steps.{◌>>=◌}
 
 -- the keys of a table, in their order
 abbrev pub keys_in : Members → List (List ℕ)

@@ -9,7 +9,9 @@ use Rattle.mc_topology.specs.declared.fault.TopologyFaultKind.{TopologyFaultKind
 use Rattle.mc_topology.specs.declared.fault.TopologyFaultKind.TheVariants.{BadName, UnknownName}
 use Rattle.mc_topology.specs.declared.fault.TopologyFaultKind.TheVariants.{RepeatedInterface}
 use Rattle.mc_topology.specs.declared.fault.TopologyFault.{TopologyFault}
-use Rattle.mc_topology.specs.Answer.{◌>>=◌, locate_fault, each_row}
+use Rattle.mc_text.specs.Steps.{◌>>=◌}
+use Rattle.mc_topology.specs.Faults.{locate_fault}
+use Rattle.mc_topology.specs.EachRow.{each_row}
 use Rattle.mc_topology.specs.Document.{known_table, text_at, rows_at}
 use Rattle.mc_topology.specs.Names.{is_device, index_of}
 use Rattle.mc_topology.specs.Lookup.{router_no_of, has_interface}

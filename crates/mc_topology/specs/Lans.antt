@@ -10,7 +10,9 @@ use Rattle.mc_topology.specs.declared.fault.TopologyFaultKind.{TopologyFaultKind
 use Rattle.mc_topology.specs.declared.fault.TopologyFaultKind.TheVariants.{BadName, RepeatedName}
 use Rattle.mc_topology.specs.declared.fault.TopologyFaultKind.TheVariants.{TooMany}
 use Rattle.mc_topology.specs.declared.fault.TopologyFault.{TopologyFault}
-use Rattle.mc_topology.specs.Answer.{◌>>=◌, locate_fault, each_row}
+use Rattle.mc_text.specs.Steps.{◌>>=◌}
+use Rattle.mc_topology.specs.Faults.{locate_fault}
+use Rattle.mc_topology.specs.EachRow.{each_row}
 use Rattle.mc_topology.specs.Document.{text_of, list_at}
 use Rattle.mc_topology.specs.Names.{is_name}
 

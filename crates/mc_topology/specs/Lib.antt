@@ -2,6 +2,8 @@ pub mod Addresses
 pub mod Answer
 pub mod Bounds
 pub mod Document
+pub mod EachRow
+pub mod Faults
 pub mod Flows
 pub mod Interfaces
 pub mod Lans

@@ -13,7 +13,8 @@ use Rattle.mc_topology.specs.declared.fault.TopologyFaultKind.{TopologyFaultKind
 use Rattle.mc_topology.specs.declared.fault.TopologyFaultKind.TheVariants.{NotToml, BadVersion}
 use Rattle.mc_topology.specs.declared.fault.TopologyFaultKind.TheVariants.{UnknownKey, TooMany}
 use Rattle.mc_topology.specs.declared.fault.TopologyFault.{TopologyFault}
-use Rattle.mc_topology.specs.Answer.{◌>>=◌, locate_fault}
+use Rattle.mc_text.specs.Steps.{◌>>=◌}
+use Rattle.mc_topology.specs.Faults.{locate_fault}
 use Rattle.mc_topology.specs.Bounds.{is_bounded}
 use Rattle.mc_topology.specs.SectionRows.{RouterRow, InterfaceRow, SourceRow}
 use Rattle.mc_topology.specs.Document.{has_only, number_at}

@@ -12,7 +12,9 @@ use Rattle.mc_topology.specs.declared.fault.TopologyFaultKind.{TopologyFaultKind
 use Rattle.mc_topology.specs.declared.fault.TopologyFaultKind.TheVariants.{BadKind, BadName}
 use Rattle.mc_topology.specs.declared.fault.TopologyFaultKind.TheVariants.{RepeatedName}
 use Rattle.mc_topology.specs.declared.fault.TopologyFault.{TopologyFault}
-use Rattle.mc_topology.specs.Answer.{◌>>=◌, locate_fault, each_row}
+use Rattle.mc_text.specs.Steps.{◌>>=◌}
+use Rattle.mc_topology.specs.Faults.{locate_fault}
+use Rattle.mc_topology.specs.EachRow.{each_row}
 use Rattle.mc_topology.specs.Document.{known_table, text_at, optional_text_at, rows_at}
 use Rattle.mc_topology.specs.Lookup.{has_router}
 use Rattle.mc_topology.specs.Names.{is_name}

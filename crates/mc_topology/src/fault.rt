@@ -1,8 +1,8 @@
 //! Why a topology is refused.
 
 ghost use Rattle.std.specs.Prelude.{◌≡◌, Some};
-ghost use Rattle.mc_topology.specs.Answer.{out_of_memory, locate_fault};
-ghost use Rattle.mc_topology.specs.Answer.{section_text};
+ghost use Rattle.mc_topology.specs.Answer.{out_of_memory};
+ghost use Rattle.mc_topology.specs.Faults.{locate_fault, section_text};
 
 use std::alloc::{AllocError, AllocFailed};
 use std::fmt;

@@ -1,6 +1,6 @@
 //! The table of virtual interfaces, `/proc/net/ip_mr_vif`.
 
-ghost use Rattle.std.specs.Prelude.{◌≡◌, ◌≢◌, ◌≤◌, ◌↔◌, ℕ, nat_eq, [], IfOk, IfErr, IfSome, IsSome};
+ghost use Rattle.std.specs.Prelude.{◌≡◌, ◌≢◌, ◌≤◌, ◌↔◌, ℕ, nat_eq, [], IfOk, IfErr, IsSome};
 ghost use Rattle.std.specs.Prelude.{Ok, Err, Some, find};
 ghost use Rattle.std.specs.Option.{option_copied, option_map};
 ghost use Rattle.std.specs.List.{list_any};
@@ -96,11 +96,6 @@ impl VifTable {
 
     /// The index of the vif that has this device. There is none for `none`.
     pub fn index_of(&self, device: &[u8]) -> Option<u8>
-        ensures found { IfSome result (λ index. HasDevice self.now index device.now) }
-        ensures numbered { IfSome result (λ index. index ≤ 31) }
-        ensures no_device { device.now ≡ no_device → result ≡ None }
-        ensures only { (index : ℕ) → device.now ≢ no_device →
-            HasDevice self.now index device.now → result ≡ Some index }
         ensures exact { (index : ℕ) → (result ≡ Some index) ↔
             ((device.now ≢ no_device) × HasDevice self.now index device.now) }
         ensures value { result ≡ index_of self.now device.now }

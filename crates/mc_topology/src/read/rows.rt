@@ -6,7 +6,9 @@ ghost use Rattle.toml.specs.Data.{Data};
 ghost use Rattle.toml.specs.View.{view};
 ghost use Rattle.mc_topology.specs.declared.fault.Section.{Section};
 ghost use Rattle.mc_topology.specs.declared.fault.TopologyFaultKind.{TopologyFaultKind};
-ghost use Rattle.mc_topology.specs.Answer.{ResultsAgree, out_of_memory, locate_fault, each_row};
+ghost use Rattle.mc_topology.specs.Answer.{ResultsAgree, out_of_memory};
+ghost use Rattle.mc_topology.specs.Faults.{locate_fault};
+ghost use Rattle.mc_topology.specs.EachRow.{each_row};
 
 use crate::fault::TopologyFault;
 use std::alloc::Global;

@@ -5,6 +5,8 @@ use Rattle.mc_text.specs.Pair.{pair_number}
 use Rattle.mc_asked.proofs.IndexLemmas.{is_index_of_pairs}
 use Rattle.mc_asked.proofs.answers.index_of_sources.Goals as goal
 
+-- At the end of the loop the numbers are those of all sources, and each gives its source and LAN back, so
+-- that no other pair has it.
 pub returns : goal.returns
 returns c =
     let whole = take_all c.loop-source.source-index c.args.sources.now c.loop-source-test.false in

@@ -4,6 +4,7 @@ use Rattle.std.proofs.lemmas.Option.{get_or_from_slice_get, slice_get_within}
 use Rattle.mc_topology.specs.SectionRows.{SourceRow}
 use Rattle.mc_asked.proofs.answers.sources_of.Goals as goal
 
+-- The source that is pushed is the topology's next one.
 pub loop-number-preserved : goal.loop-number-preserved
 loop-number-preserved c =
     let sources = c.args.topology.now.sources in

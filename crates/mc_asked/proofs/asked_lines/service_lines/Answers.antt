@@ -9,6 +9,7 @@ use Rattle.mc_asked.specs.PairParts.{with_parts}
 use Rattle.mc_asked.proofs.MergeLemmas.{is_strictly_sorted_by-in_order}
 use Rattle.mc_asked.proofs.asked_lines.service_lines.Goals as goal
 
+-- What is sorted without repeats ascends strictly.
 pub with_service_lans-requires : goal.with_service_lans-requires
 with_service_lans-requires c = record {
   sorted = subst (IsStrictlySortedBy key_cmp)
@@ -17,6 +18,8 @@ with_service_lans-requires c = record {
   few = c.requires.few;
 }
 
+-- The services of all LANs in order, each once, are what `shared_pairs` shows where it shows all; each then
+-- has its LANs.
 pub returns : goal.returns
 returns c =
     let shown = c.deref.ensures.value ∙ c.sorted_without_repeats-services.ensures

@@ -7,6 +7,8 @@ use Rattle.mc_asked.specs.LanWants.{LanWantsValue}
 use Rattle.mc_asked.proofs.SharedPairLemmas.{is_strictly_sorted_by-shown_pairs}
 use Rattle.mc_asked.proofs.asked_lines.shown_of_lans.Goals as goal
 
+-- The kept wants of all LANs in order, each once, and of these all or the 20 lowest: that is what is shown
+-- by the definition.
 pub returns-clause-value : goal.returns-clause-value
 returns-clause-value c =
     c.shown_wants.ensures
@@ -15,6 +17,7 @@ returns-clause-value c =
     ∙ sym (flat_map-map (λ (part : List (ℕ × ℕ)). part) (λ (own : LanWantsValue). own.lowest)
     c.args.lans.now)))
 
+-- What is in order ascends, and so do its first pairs.
 pub returns-clause-ascending : goal.returns-clause-ascending
 returns-clause-ascending c =
     subst (IsStrictlySortedBy key_cmp)

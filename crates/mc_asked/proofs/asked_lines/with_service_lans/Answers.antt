@@ -7,6 +7,7 @@ use Rattle.mc_asked.specs.LanWants.{LanWantsValue}
 use Rattle.mc_asked.specs.PairParts.{with_parts}
 use Rattle.mc_asked.proofs.asked_lines.with_service_lans.Goals as goal
 
+-- Before the first LAN no service has any.
 pub loop-number-init : goal.loop-number-init
 unfolding below
 loop-number-init c = record {
@@ -15,6 +16,7 @@ loop-number-init c = record {
   lines = c.in_ok-lines.ensures;
 }
 
+-- The LAN's services are one part more, and its number is the count of the parts before.
 pub loop-number-preserved : goal.loop-number-preserved
 loop-number-preserved c =
     let lans = c.args.lans.now in
@@ -34,6 +36,7 @@ loop-number-preserved c =
           ∙ ap (λ (ps : List (List (ℕ × ℕ))). map (with_parts ps) c.args.services.now) next;
     }
 
+-- After the last LAN the parts are the services of all.
 pub returns : goal.returns
 returns c =
     c.loop-number.invariant.lines

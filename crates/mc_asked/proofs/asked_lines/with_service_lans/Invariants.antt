@@ -3,7 +3,7 @@ use Rattle.mc_asked.specs.AskedLines.{services_of_lans}
 use Rattle.mc_asked.specs.PairParts.{with_parts}
 use Rattle.mc_asked.proofs.asked_lines.with_service_lans.Given as goal
 
--- with the LANs so far
+-- There is a line for each service, with those of the LANs so far that ask for it.
 abbrev pub invariant-loop-number : goal.invariant-loop-number
 invariant-loop-number l = record {
   count : length l.lines.items ≡ length l.fn.services;

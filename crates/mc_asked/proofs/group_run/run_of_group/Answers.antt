@@ -4,6 +4,8 @@ use Rattle.std.proofs.lemmas.List.Sorted.{IsPartitionedBy-ltb}
 use Rattle.mc_asked.proofs.GroupRunLemmas.{firsts-ascend, is_run-from_points}
 use Rattle.mc_asked.proofs.group_run.run_of_group.Goals as goal
 
+-- The groups of ascending pairs ascend. So the first partition point is behind all lower groups and the
+-- second is before all higher ones, and between them are exactly the pairs of this group.
 pub returns : goal.returns
 returns c =
     let pairs = c.args.pairs.now in

@@ -4,12 +4,14 @@ use Rattle.std.proofs.lemmas.List.{map-append}
 use Rattle.mc_asked.proofs.GroupRunLemmas.{filter-run, take_run-more}
 use Rattle.mc_asked.proofs.group_run.seconds_of.Goals as goal
 
+-- Before the first place of the run there is nothing.
 pub loop-place-init : goal.loop-place-init
 loop-place-init c =
     let a = c.run_of_group-start.result.0 in
     let none : 0 ≡ a - a = omega arith in
     c.new-seconds.ensures.items ∙ ap (λ n. map (λ (p : ℕ × ℕ). p.1) (take n (drop a c.args.pairs.now))) none
 
+-- The pair at this place is the next of the run.
 pub loop-place-preserved : goal.loop-place-preserved
 loop-place-preserved c =
     let pairs = c.args.pairs.now in
@@ -27,6 +29,7 @@ loop-place-preserved c =
     ∙ ap (map (λ (p : ℕ × ℕ). p.1)) (take_run-more pairs a k x c.loop-place.auto.place within
     c.index-pairs-place.is)
 
+-- At the end the run is whole, and no pair outside it has the group.
 pub returns : goal.returns
 returns c =
     let pairs = c.args.pairs.now in

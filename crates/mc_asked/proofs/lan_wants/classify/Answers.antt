@@ -5,6 +5,7 @@ use Rattle.mc_asked.specs.LanWants.{is_asked_class, is_service_class}
 use Rattle.mc_asked.proofs.WantLemmas.{filter-take_more, map_filter-take_more}
 use Rattle.mc_asked.proofs.lan_wants.classify.Goals as goal
 
+-- The class of a want decides whether it is added to either list, as it decides in the filters.
 pub loop-want-preserved : goal.loop-want-preserved
 loop-want-preserved c = λ records index.
     let before = c.loop-want.invariant records index in
@@ -22,6 +23,7 @@ loop-want-preserved c = λ records index.
           _ _ c.loop-want-test.true c.want-item.is (ap is_service_class is) before.1,
     )
 
+-- At the end the wants so far are all wants.
 pub returns : goal.returns
 returns c = λ records index.
     let whole = take_all c.loop-want.want-index c.args.wants.now c.loop-want-test.false in

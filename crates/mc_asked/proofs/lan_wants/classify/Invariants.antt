@@ -5,6 +5,7 @@ use Rattle.mc_asked.specs.Indexes.{IsIndexOfWantedGroups}
 use Rattle.mc_asked.specs.LanWants.{is_asked_class, is_service_class}
 use Rattle.mc_asked.proofs.lan_wants.classify.Given as goal
 
+-- Each list has those of the wants so far that are of its class, where the index is as required.
 abbrev pub invariant-loop-want : goal.invariant-loop-want
 invariant-loop-want l = (records : List Record) →
     IsIndexOfWantedGroups l.fn.answers.flows records l.fn.wanted_groups →

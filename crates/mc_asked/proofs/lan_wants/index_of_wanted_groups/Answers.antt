@@ -6,6 +6,8 @@ use Rattle.mc_asked.proofs.lan_wants.index_of_wanted_groups.Goals as goal
 use Rattle.mc_asked.proofs.lan_wants.index_of_wanted_groups.Goals.{then-wanted-flow+in_ok-push}
 use Rattle.mc_asked.proofs.lan_wants.index_of_wanted_groups.Goals.{else-wanted-flow}
 
+-- A wanted flow's group is the first of those to come, and becomes the last number. A flow that isn't
+-- wanted is not among those to come.
 pub loop-flow-preserved : goal.loop-flow-preserved
 loop-flow-preserved c =
     let flows = c.args.flows.now in
@@ -28,6 +30,7 @@ loop-flow-preserved c =
           w.if-wanted-flow.false c.loop-flow.invariant
     ]
 
+-- At the end no group is to come, so that the index has the groups of all wanted flows and no other.
 pub returns : goal.returns
 returns c = IfOk-weaker c.of.result _ _ (λ index same records each.
     is_index_of_wanted_groups records c.args.flows.now c.args.wanted.now index c.loop-flow.numbers.items

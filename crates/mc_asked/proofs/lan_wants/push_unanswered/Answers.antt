@@ -6,6 +6,7 @@ use Rattle.mc_asked.specs.Answers.{is_answered}
 use Rattle.mc_asked.proofs.WantLemmas.{filter-take_more}
 use Rattle.mc_asked.proofs.lan_wants.push_unanswered.Goals as goal
 
+-- A want is appended exactly where the filter keeps it: where no flow answers it.
 pub loop-want-preserved : goal.loop-want-preserved
 loop-want-preserved c = λ records index.
     let want : ℕ × ℕ = c.want-item.result in
@@ -20,6 +21,7 @@ loop-want-preserved c = λ records index.
     (filter-take_more test c.args.wants.now c.loop-want.want-index want first (test want)
     c.loop-want-test.true c.want-item.is refl refl)
 
+-- At the end the wants so far are all wants.
 pub returns : goal.returns
 returns c = λ records index.
     c.loop-want.invariant records index

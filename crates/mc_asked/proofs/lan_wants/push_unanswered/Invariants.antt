@@ -5,6 +5,7 @@ use Rattle.mc_asked.specs.Answers.{is_answered}
 use Rattle.mc_asked.specs.Indexes.{IsIndexOfWantedGroups}
 use Rattle.mc_asked.proofs.lan_wants.push_unanswered.Given as goal
 
+-- Those of the wants so far that no flow answers have been appended, where the index is as required.
 abbrev pub invariant-loop-want : goal.invariant-loop-want
 invariant-loop-want l = (records : List Record) →
     IsIndexOfWantedGroups l.fn.answers.flows records l.fn.wanted_groups →

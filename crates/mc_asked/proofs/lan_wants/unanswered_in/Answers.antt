@@ -8,6 +8,8 @@ use Rattle.mc_asked.specs.Answers.{is_answered}
 use Rattle.mc_asked.specs.ListWants.{asked_by}
 use Rattle.mc_asked.proofs.lan_wants.unanswered_in.Goals as goal
 
+-- The record's unanswered wants are appended, and they were the first of those to come. Which numbers are
+-- there then isn't changed by dropping repeats, and the order of pairs depends on that alone.
 pub loop-group_record-preserved : goal.loop-group_record-preserved
 loop-group_record-preserved c = λ index.
     let list = c.args.list.now in

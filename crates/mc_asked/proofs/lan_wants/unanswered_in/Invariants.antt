@@ -6,6 +6,8 @@ use Rattle.mc_asked.specs.Indexes.{IsIndexOfWantedGroups}
 use Rattle.mc_asked.specs.ListWants.{asked_by}
 use Rattle.mc_asked.proofs.lan_wants.unanswered_in.Given as goal
 
+-- The unanswered wants so far and those of the records to come, put in order together, are those of the
+-- whole list.
 abbrev pub invariant-loop-group_record : goal.invariant-loop-group_record
 invariant-loop-group_record l =
     IsIndexOfWantedGroups l.fn.answers.flows l.fn.list l.fn.wanted_groups →

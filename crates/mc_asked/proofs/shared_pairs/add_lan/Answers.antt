@@ -1,4 +1,3 @@
--- Pair by pair.
 use Rattle.std.proofs.Common.{◌≡◌, ℕ, ◌+◌, ◌++◌, ◌∷◌, [], List, Vec, Global, get_or, map, set, take, refl}
 use Rattle.std.proofs.Common.{sym, ap, ◌∙◌, length}
 use Rattle.std.proofs.lemmas.List.{take_more, take_all, length-set}
@@ -11,12 +10,15 @@ use Rattle.mc_asked.proofs.SharedPairLemmas.{with_part_so_far-none}
 use Rattle.mc_asked.proofs.shared_pairs.add_lan.Goals as goal
 use Rattle.mc_asked.proofs.shared_pairs.add_lan.Goals.{in-Ok+in_ok-add, in_default}
 
+-- Before the LAN's first pair, no pair has gained the LAN.
 pub loop-pair-init : goal.loop-pair-init
 loop-pair-init c = record {
   count = c.requires.count;
   added = λ parts number before. before ∙ with_part_so_far-none parts c.args.pairs.now;
 }
 
+-- A pair that is found gains the LAN at its place, the only place where it is. One that isn't found is none
+-- of the ascending pairs, and changes nothing.
 pub loop-pair-preserved : goal.loop-pair-preserved
 loop-pair-preserved c =
     let pairs = c.args.pairs.now in
@@ -64,6 +66,7 @@ loop-pair-preserved c =
           })
     ]
 
+-- At the end the LAN's pairs so far are all of them, which is the part that was to be added.
 pub returns-clause-added : goal.returns-clause-added
 returns-clause-added c = λ parts number before.
     let pairs = c.args.pairs.now in

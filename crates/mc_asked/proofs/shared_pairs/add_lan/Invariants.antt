@@ -3,7 +3,7 @@ use Rattle.mc_asked.specs.PairParts.{with_parts}
 use Rattle.mc_asked.proofs.SharedPairLemmas.{with_part_so_far}
 use Rattle.mc_asked.proofs.shared_pairs.add_lan.Given as goal
 
--- with the part's pairs so far
+-- Each pair has its LANs before, and this one if it is among the LAN's pairs so far.
 abbrev pub invariant-loop-pair : goal.invariant-loop-pair
 invariant-loop-pair l = record {
   count : length l.shared.items ≡ length l.fn.pairs;

@@ -9,7 +9,8 @@ use Rattle.mc_asked.proofs.UnadmittedLemmas.{are_marks-of_wanted}
 use Rattle.mc_asked.proofs.unadmitted.unadmitted_in.Goals as goal
 use Rattle.mc_asked.proofs.unadmitted.unadmitted_in.Goals.{After-drop-pairs-2}
 
--- the pairs are these
+-- The marks say of each listed pair whether the list wants it, so that the unmarked pairs are those which
+-- it doesn't admit.
 value : (c : After-drop-pairs-2)
     → c.in_ok-unmarked.field-0.items ≡ unadmitted_in c.args.list.now c.args.groups.now
 value c =
@@ -29,6 +30,7 @@ value c =
 pub returns-clause-value : goal.returns-clause-value
 returns-clause-value c = value c
 
+-- The listed pairs are in order, and so are those of them that are kept.
 pub returns-clause-sorted : goal.returns-clause-sorted
 returns-clause-sorted c =
     subst (IsStrictlySortedBy key_cmp) (sym (value c))

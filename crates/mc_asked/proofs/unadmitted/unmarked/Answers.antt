@@ -6,6 +6,8 @@ use Rattle.mc_asked.proofs.WantLemmas.{filter-take_more}
 use Rattle.mc_asked.proofs.unadmitted.unmarked.Goals as goal
 use Rattle.mc_asked.proofs.unadmitted.unmarked.Goals.{then-not-marks-place+in_ok-push, else-not-marks-place}
 
+-- A pair's mark is the answer of the test, so that a pair without a mark is kept by the filter and a marked
+-- one isn't.
 pub loop-place-preserved : goal.loop-place-preserved
 loop-place-preserved c = λ test are.
     let pairs = c.args.pairs.now in

@@ -4,6 +4,7 @@ use Rattle.mc_tables.specs.ListedRows.{is_listed}
 use Rattle.mc_asked.proofs.SharedPairLemmas.{is_ok-search}
 use Rattle.mc_asked.proofs.unadmitted_sources.is_shared_any.Goals as goal
 
+-- Among ascending wants a binary search succeeds exactly where the want is one of them.
 pub returns-then-is_unspecified : goal.returns-then-is_unspecified
 returns-then-is_unspecified c =
     let wants = c.args.wants.now in

@@ -5,11 +5,13 @@ use Rattle.mc_asked.specs.WantStates.{want_with_row}
 use Rattle.mc_asked.proofs.GroupRunLemmas.{with_run-more, with_run-none}
 use Rattle.mc_asked.proofs.want_states.add_to_run.Goals as goal
 
+-- A run that ends where it begins changes nothing.
 pub loop-place-init : goal.loop-place-init
 loop-place-init c =
     let f = want_with_row c.args.vifs.now c.args.key.now c.args.entry.now in
     record { size = refl; items = with_run-none f c.args.wants.now.items c.args.run.0 }
 
+-- The want at this place is the first behind the run so far, and has not yet been changed.
 pub loop-place-preserved : goal.loop-place-preserved
 loop-place-preserved c =
     let f = want_with_row c.args.vifs.now c.args.key.now c.args.entry.now in
@@ -23,6 +25,7 @@ loop-place-preserved c =
           (c.add_row.ensures ∙ ap f c.index_mut.ensures.value);
     }
 
+-- At the end the run so far is the whole run.
 pub returns : goal.returns
 returns c =
     let f = want_with_row c.args.vifs.now c.args.key.now c.args.entry.now in

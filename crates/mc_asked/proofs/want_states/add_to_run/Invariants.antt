@@ -3,7 +3,7 @@ use Rattle.mc_asked.specs.GroupRun.{with_run}
 use Rattle.mc_asked.specs.WantStates.{want_with_row}
 use Rattle.mc_asked.proofs.want_states.add_to_run.Given as goal
 
--- the wants so far have the row, and the others are as they were
+-- The wants of the run before this place have the row, and the others are as they were.
 abbrev pub invariant-loop-place : goal.invariant-loop-place
 invariant-loop-place l = record {
   size : length l.wants.items ≡ length l.initial.wants.items;

@@ -3,6 +3,7 @@ use Rattle.std.proofs.lemmas.Result.{IfOk-weaker}
 use Rattle.mc_asked.proofs.IndexLemmas.{is_index_of_excludes}
 use Rattle.mc_asked.proofs.wants.excluded_groups.Goals as goal
 
+-- At the end the numbers are the groups of all EXCLUDE records, and the index has exactly these.
 pub returns : goal.returns
 returns c =
     let whole = rw c.in-None.ensures.steps.0 at c.loop-group_record.invariant in

@@ -5,6 +5,8 @@ use Rattle.mc_asked.specs.ListWants.{is_of_merged_filter}
 use Rattle.mc_asked.proofs.WantLemmas.{filter-equal_tests, is_of_merged_filter-by_index}
 use Rattle.mc_asked.proofs.wants.wants_among.Goals as goal
 
+-- `retain` keeps what passes the test by the index of EXCLUDE groups, and that test agrees with the search
+-- through the records.
 pub returns : goal.returns
 returns c =
     let records = c.args.list.now in

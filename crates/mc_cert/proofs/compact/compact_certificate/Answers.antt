@@ -7,11 +7,14 @@ use Rattle.mc_cert.proofs.PieceLemmas.{version_two_text-pieces}
 use Rattle.mc_cert.proofs.TextDenotation.{IsTextEnd-from_rest, version_two_text-denotes}
 use Rattle.mc_cert.proofs.compact.compact_certificate.Goals as goal
 
+-- A tree that was read has at most 1,024 entries, each of which a text can have.
 pub from_trees-requires-clause-lists : goal.from_trees-requires-clause-lists
 from_trees-requires-clause-lists c = λ k d below.
     let is = c.in-Ok-read_trees.ensures.writable k d below in
     record { few = is.few; each = λ i e within. (is.each i e within).writable }
 
+-- The pieces that were read, one after the other, are the text of these trees and numbers in version 2,
+-- with or without a line feed at its end; and such a text denotes them.
 pub returns : goal.returns
 returns c =
     let tree_numbers = c.in-Ok.tree_numbers.items in

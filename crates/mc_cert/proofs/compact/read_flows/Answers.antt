@@ -2,6 +2,7 @@ use Rattle.std.proofs.Common.{◌≡◌, length, arith}
 use Rattle.mc_cert.proofs.SeparatorLemmas.{flow_texts-none, separator_of-none, flow_texts-push}
 use Rattle.mc_cert.proofs.compact.read_flows.Goals as goal
 
+-- Before the first flow nothing has been read, and no comma is due.
 pub loop-number-init : goal.loop-number-init
 loop-number-init c =
     record {
@@ -10,6 +11,7 @@ loop-number-init c =
       count = omega arith;
     }
 
+-- The separator and the flow's text are the next pieces of the list, and from then on a comma is due.
 pub loop-number-preserved : goal.loop-number-preserved
 loop-number-preserved c =
     let long : c.loop-number.number ≡ length c.loop-number.tree_numbers.items = omega arith in

@@ -4,6 +4,7 @@ use Rattle.mc_cert.specs.CertificateText.{listed, flow_texts}
 use Rattle.mc_cert.proofs.SeparatorLemmas.{separator_of}
 use Rattle.mc_cert.proofs.compact.read_flows.Given as goal
 
+-- The text is that of the flows so far and the rest; a comma is due unless there are none.
 abbrev pub invariant-loop-number : goal.invariant-loop-number
 invariant-loop-number l =
     record {

@@ -2,6 +2,7 @@ use Rattle.std.proofs.Common.{sym}
 use Rattle.mc_cert.proofs.PieceLemmas.{lan_name-from_index_of}
 use Rattle.mc_cert.proofs.compact.read_lan.Goals as goal
 
+-- The LAN that is found by a name has this name.
 pub returns-clause-text : goal.returns-clause-text
 returns-clause-text c =
     lan_name-from_index_of c.args.topology.now c.in_ok-lan.lan c.args.text.now c.in_ok-name.name.now

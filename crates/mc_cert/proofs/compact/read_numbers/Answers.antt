@@ -1,6 +1,7 @@
 use Rattle.mc_cert.proofs.PieceLemmas.{need_and_rank-pieces}
 use Rattle.mc_cert.proofs.compact.read_numbers.Goals as goal
 
+-- The four pieces that were read are the two keys, each with its number, in the order of the text.
 pub returns-clause-text : goal.returns-clause-text
 returns-clause-text c =
     need_and_rank-pieces _ _ _ _ _ _ _ c.in_ok-rest.ensures c.in_ok-need.ensures.text

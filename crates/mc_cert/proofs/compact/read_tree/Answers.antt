@@ -5,6 +5,8 @@ use Rattle.mc_cert.proofs.PieceLemmas.{tree_text-pieces}
 use Rattle.mc_cert.proofs.SeparatorLemmas.{listed-push, separator_of-comma_next, All-next}
 use Rattle.mc_cert.proofs.compact.read_tree.Goals as goal
 
+-- The separator and the entry's text are the next pieces of the list, and from then on a comma is due. The
+-- entry is one that a text can have.
 pub loop-number-preserved : goal.loop-number-preserved
 loop-number-preserved c =
     let old = c.loop-number.entries.items in
@@ -24,6 +26,7 @@ loop-number-preserved c =
       few = omega (arith, c.in_ok-push.ensures.len);
     }
 
+-- Between the brackets is the text of the entries.
 pub returns-clause-text : goal.returns-clause-text
 returns-clause-text c =
     tree_text-pieces c.args.topology.now c.loop-number.entries.items c.args.text.now c.in-Some.rest.now

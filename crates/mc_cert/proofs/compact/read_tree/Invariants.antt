@@ -4,6 +4,7 @@ use Rattle.mc_cert.specs.Writable.{IsWritableEntryFor}
 use Rattle.mc_cert.proofs.SeparatorLemmas.{separator_of}
 use Rattle.mc_cert.proofs.compact.read_tree.Given as goal
 
+-- The text in the bracket is that of the entries so far and the rest; a comma is due unless there are none.
 abbrev pub invariant-loop-number : goal.invariant-loop-number
 invariant-loop-number l =
     record {

@@ -4,6 +4,7 @@ use Rattle.mc_cert.specs.Writable.{IsWritableTreeFor}
 use Rattle.mc_cert.proofs.SeparatorLemmas.{listed-push, separator_of-comma_next, All-next, map-next}
 use Rattle.mc_cert.proofs.compact.read_trees.Goals as goal
 
+-- The separator and the tree's text are the next pieces of the list, and from then on a comma is due.
 pub loop-number-preserved : goal.loop-number-preserved
 loop-number-preserved c =
     let old = map (λ t. t.items) c.loop-number.trees.items in

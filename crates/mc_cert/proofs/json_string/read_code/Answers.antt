@@ -2,6 +2,7 @@ use Rattle.std.proofs.Common.{◌≡◌, ap, ◌∙◌, ◌∷◌, arith}
 use Rattle.mc_cert.proofs.JsonStringLemmas.{DenotesByte-code}
 use Rattle.mc_cert.proofs.json_string.read_code.Goals as goal
 
+-- The two hex digits are the byte's, which is below 128 and so has this one byte in UTF-8.
 pub returns : goal.returns
 returns c =
     let x = c.in_ok-first.first.now in

@@ -4,6 +4,7 @@ use Rattle.mc_cert.proofs.JsonStringLemmas.{StringSoFar-more, StringSoFar-ends}
 use Rattle.mc_cert.proofs.TokenReaderLemmas.{split_first}
 use Rattle.mc_cert.proofs.json_string.read_string.Goals as goal
 
+-- One more byte stands for itself.
 pub loop-end-preserved : goal.loop-end-preserved
 loop-end-preserved c =
     let text = c.args.text.now in
@@ -11,6 +12,7 @@ loop-end-preserved c =
     let plain : is_plain (get_or text c.loop-end.end 0) ≡ true = grind arith in
     StringSoFar-more text c.loop-end.end c.loop-end.invariant within plain
 
+-- Up to the closing quotation mark each byte stands for itself.
 pub returns-in-34-clause-content : goal.returns-in-34-clause-content
 returns-in-34-clause-content c =
     let text = c.args.text.now in
@@ -20,6 +22,7 @@ returns-in-34-clause-content c =
     (StringSoFar-ends text _ c.loop-end.end c.loop-end.invariant is).0
     ∙ ap Some (sym c.split_at.ensures.front)
 
+-- What is left behind the mark are the lexemes behind the string.
 pub returns-in-34-clause-rest : goal.returns-in-34-clause-rest
 returns-in-34-clause-rest c =
     let text = c.args.text.now in

@@ -3,6 +3,7 @@ use Rattle.std.proofs.lemmas.Grind.{common_steps}
 use Rattle.json.specs.Text.{short_escape}
 use Rattle.mc_cert.proofs.json_string.short_escape.Goals as goal
 
+-- Each letter is one that the definition lists, with the same byte.
 pub returns-in-34 : goal.returns-in-34
 unfolding short_escape
 returns-in-34 c = first_of (search rules, grind (arith, common_steps))

@@ -3,6 +3,7 @@ use Rattle.mc_cert.specs.CertificateText.{flow_text}
 use Rattle.mc_cert.proofs.TextLemmas.{flow_texts-more}
 use Rattle.mc_cert.proofs.json_text.push_flows.Goals as goal
 
+-- The separator and the flow's text are the next pieces of the list of texts.
 pub loop-flow-preserved : goal.loop-flow-preserved
 loop-flow-preserved c =
     let numbers = c.args.numbers.now in

@@ -4,6 +4,7 @@ use denote.Text.{Utf8}
 use Rattle.mc_cert.specs.CertificateText.{listed_after, listed, flow_texts}
 use Rattle.mc_cert.proofs.json_text.push_flows.Given as goal
 
+-- What was appended, and the texts of the flows to come, are the whole list.
 abbrev pub invariant-loop-flow : goal.invariant-loop-flow
 invariant-loop-flow l =
     record {

@@ -7,6 +7,7 @@ use Rattle.mc_cert.specs.CertificateText.{entry_text}
 use Rattle.mc_cert.proofs.TextLemmas.{listed_after-more}
 use Rattle.mc_cert.proofs.json_text.push_tree.Goals as goal
 
+-- The separator and the entry's text are the next pieces of the list of texts.
 pub loop-entry-preserved : goal.loop-entry-preserved
 loop-entry-preserved c =
     record {

@@ -6,6 +6,8 @@ use Rattle.mc_cert.specs.Certificate.{HasByteNumbers}
 use Rattle.mc_cert.specs.CertificateText.{listed_after, listed, entry_text}
 use Rattle.mc_cert.proofs.json_text.push_tree.Given as goal
 
+-- What was appended, and the texts of the entries to come, are the whole list. The entries so far have
+-- numbers that are bytes.
 abbrev pub invariant-loop-entry : goal.invariant-loop-entry
 invariant-loop-entry l =
     record {

@@ -8,6 +8,7 @@ use Rattle.mc_cert.specs.CertificateText.{listed, tree_text}
 use Rattle.mc_cert.proofs.TextLemmas.{listed_after-more}
 use Rattle.mc_cert.proofs.json_text.push_trees.Goals as goal
 
+-- The next tree is one of those whose entries are the topology's.
 pub push_tree-requires : goal.push_tree-requires
 push_tree-requires c = record {
   valid = (
@@ -20,6 +21,7 @@ push_tree-requires c = record {
       (c.requires.valid i [] (omega (arith, c.loop-tree-test.true, length-map trees (λ t. t.value.items)))));
 }
 
+-- The separator and the tree's text are the next pieces of the list of texts.
 pub loop-tree-preserved : goal.loop-tree-preserved
 loop-tree-preserved c =
     let trees = c.args.trees.now in
@@ -43,6 +45,7 @@ loop-tree-preserved c =
           (mine ∙ ap (λ t. t.value.items) c.tree-item.is) c.in_ok-push_tree.ensures.bytes);
     }
 
+-- At the end no text is to come, so that the whole list was appended.
 pub returns-clause-text : goal.returns-clause-text
 returns-clause-text c =
     let past : length c.args.trees.now ≤ c.loop-tree.tree-index =
@@ -52,6 +55,7 @@ returns-clause-text c =
     ∙ ap (λ texts. string_bytes c.args.text.now ++ listed texts)
     (sym (map-map (tree_text c.args.topology.now) (λ t. t.value.items) c.args.trees.now))
 
+-- At the end the trees so far are all trees.
 pub returns-clause-bytes : goal.returns-clause-bytes
 returns-clause-bytes c =
     let past : length c.args.trees.now ≤ c.loop-tree.tree-index =

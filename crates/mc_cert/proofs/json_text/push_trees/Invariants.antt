@@ -5,6 +5,8 @@ use Rattle.mc_cert.specs.Certificate.{HasByteNumbers}
 use Rattle.mc_cert.specs.CertificateText.{listed_after, listed, tree_text}
 use Rattle.mc_cert.proofs.json_text.push_trees.Given as goal
 
+-- What was appended, and the texts of the trees to come, are the whole list. The trees so far have entries
+-- whose numbers are bytes.
 abbrev pub invariant-loop-tree : goal.invariant-loop-tree
 invariant-loop-tree l =
     record {

@@ -7,6 +7,7 @@ use Rattle.mc_cert.specs.Reading.{parse_json}
 use Rattle.mc_cert.proofs.ReadLemmas.{parse_json-NotJson}
 use Rattle.mc_cert.proofs.read.parse_json.Goals as goal
 
+-- What JSON's reader accepts is UTF-8, and its value is the text's.
 pub returns-in-Ok : goal.returns-in-Ok
 unfolding parse_json
 returns-in-Ok c = rw (
@@ -14,6 +15,7 @@ returns-in-Ok c = rw (
   c.in-Ok.ensures.ok.1,
 ) refl
 
+-- A text that is refused without want of memory is no UTF-8 or no JSON.
 pub returns-in-Err-2 : goal.returns-in-Err-2
 returns-in-Err-2 c =
     let calm : ¬ IsMemory c.in-Err-2.field-0 = search rules in

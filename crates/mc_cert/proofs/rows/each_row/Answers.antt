@@ -5,6 +5,7 @@ use Rattle.serde_json.specs.View.{view}
 use Rattle.mc_topology.proofs.EachRow.{read_rows-more, read_rows-Err, read_rows-all}
 use Rattle.mc_cert.proofs.rows.each_row.Goals as goal
 
+-- The rows before were read, so that the first fault is this row's.
 pub returns-in_err-item-clause-rows : goal.returns-in_err-item-clause-rows
 returns-in_err-item-clause-rows g c =
     let p = err_from_is_err_and c.from_residual-in_err-item.result
@@ -17,6 +18,7 @@ returns-in_err-item-clause-rows g c =
     c.value-item.result c.in_err-item.field-0.0 c.loop-value-test.true c.value-item.is
     (rw (length-map items item_view, ← long) (c.in_err-item.ensures.gives some)))
 
+-- The row that was read is the first of those to come.
 pub loop-value-preserved : goal.loop-value-preserved
 loop-value-preserved g c =
     let item_view = g.R.RowReader.item_view in
@@ -31,6 +33,7 @@ loop-value-preserved g c =
       count = omega (arith, c.in_ok-push.ensures.len);
     }
 
+-- At the end no row is to come.
 pub returns-clause-rows : goal.returns-clause-rows
 returns-clause-rows g c = sym c.loop-value.invariant.rows
     ∙ read_rows-all _ view (map g.R.RowReader.item_view c.loop-value.items.items) c.args.values.now

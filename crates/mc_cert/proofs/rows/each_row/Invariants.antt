@@ -3,6 +3,7 @@ use Rattle.serde_json.specs.View.{view}
 use Rattle.mc_cert.specs.Answer.{each_row}
 use Rattle.mc_cert.proofs.rows.each_row.Given as goal
 
+-- Reading the rows to come after those so far ends as reading all does.
 abbrev pub invariant-loop-value : goal.invariant-loop-value
 invariant-loop-value g l = record {
   rows : each_row (g.R.RowReader.row_value l.rows) (map g.R.RowReader.item_view l.items.items)

@@ -2,6 +2,7 @@ use Rattle.std.proofs.Common.{◌≡◌, get_or, refl, arith, inl, inr}
 use Rattle.mc_cert.proofs.TokenReaderLemmas.{begins-skipped, no_colon-before}
 use Rattle.mc_cert.proofs.token_reader.ends_value.Goals as goal
 
+-- A comma, a brace or a bracket is the next lexeme, and none of them is a colon.
 pub returns-in-44 : goal.returns-in-44
 returns-in-44 c = λ _.
     let skipped = c.skip_space.result.now in

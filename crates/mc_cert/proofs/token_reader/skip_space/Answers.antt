@@ -5,6 +5,7 @@ use Rattle.json.specs.Word.{is_space}
 use Rattle.mc_cert.proofs.TokenReaderLemmas.{lex-space}
 use Rattle.mc_cert.proofs.token_reader.skip_space.Goals as goal
 
+-- White space has no lexemes.
 pub loop-rest-preserved : goal.loop-rest-preserved
 loop-rest-preserved c =
     let rest = c.loop-rest.rest.now in

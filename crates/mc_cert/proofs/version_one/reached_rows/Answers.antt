@@ -1,6 +1,7 @@
 use Rattle.mc_cert.specs.VersionOne.{reached_rows}
 use Rattle.mc_cert.proofs.version_one.reached_rows.Goals as goal
 
+-- Each step ended as the definition's, so that what is left of it is the last test.
 pub returns-clause-rows : goal.returns-clause-rows
 unfolding reached_rows
 returns-clause-rows c = rw (

@@ -2,6 +2,7 @@ use Rattle.std.proofs.Common.{refl}
 use Rattle.mc_cert.specs.VersionTwo.{tree_no_of}
 use Rattle.mc_cert.proofs.version_two.tree_no_of.Goals as goal
 
+-- Each step ended as the definition's, and the last test is passed.
 pub returns : goal.returns
 unfolding tree_no_of
 returns c = record {

@@ -1,9 +1,11 @@
--- Each flow's verdict by its first reason.
+-- Each flow's verdict is made from the first reason against its list, as that of `check_flow` is.
 use Rattle.std.proofs.Common.{◌≡◌, ◌+◌, ◌<◌, ◌++◌, ◌∷◌, [], length, sym, subst, arith}
 use Rattle.mc_check.proofs.CheckAllLemmas.{AreVerdictsSoFar, verdicts_so_far-more}
 use Rattle.mc_check.proofs.CheckAllLemmas.{is_correct_verdict-verdict_by}
 use Rattle.mc_check.proofs.check.check_all.Goals as goal
 
+-- The verdict that is added is correct, since it is made from the first reason against the flow's list. The
+-- earlier ones stay as they are.
 pub loop-flow-preserved : goal.loop-flow-preserved
 loop-flow-preserved c =
     let d = c.args.domain.now in
@@ -21,6 +23,8 @@ loop-flow-preserved c =
     (is_correct_verdict-verdict_by d k es c.in_ok-reason.reason v c.topology-topology.ensures.rules within
     c.in_ok-reason.ensures.ok c.verdict_by.ensures.value))
 
+-- At the end a verdict is there for every flow, and each is correct in all respects, of which this and each
+-- of the following clauses is one.
 pub returns-clause-accepted : goal.returns-clause-accepted
 returns-clause-accepted c =
     λ flow es v at got. (c.loop-flow.invariant.each flow es v at got).accepted

@@ -1,8 +1,11 @@
--- By the first reason.
+-- A list against which there is no reason is accepted, and the theory of certificates promises the rest of
+-- an accepted list.
 use Rattle.mc_check.proofs.CheckAllLemmas.{is_correct_verdict-verdict_by}
 use Rattle.mc_check.proofs.VerdictLemmas.{is_first_reason-of_domain, entry_count_fits}
 use Rattle.mc_check.proofs.check.verdict_on.Goals as goal
 
+-- A list without a reason against it names each LAN at most once, so it has no more entries than the domain
+-- has LANs: the number fits in 32 bits.
 pub verdict_by-requires : goal.verdict_by-requires
 verdict_by-requires c = record {
   bounded = (
@@ -13,6 +16,7 @@ verdict_by-requires c = record {
       c.in_ok-reason.ensures.ok) c.requires.lans);
 }
 
+-- The verdict is made from the first reason against the list.
 pub returns : goal.returns
 returns c = record {
   ok = (

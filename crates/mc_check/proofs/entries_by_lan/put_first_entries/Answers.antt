@@ -4,6 +4,8 @@ use Rattle.mc_theory.specs.Reasons.Reason.{TwoEntries}
 use Rattle.mc_check.proofs.FirstEntriesLemmas.{first_entries-more, twice-already_named}
 use Rattle.mc_check.proofs.entries_by_lan.put_first_entries.Goals as goal
 
+-- The place of the entry's LAN is taken, so an earlier entry names that LAN. The entries before name
+-- different LANs, so this one is the first that names a LAN again.
 pub returns-then-not-put_first-clause-twice : goal.returns-then-not-put_first-clause-twice
 returns-then-not-put_first-clause-twice c =
     let e = c.entry-item.result in
@@ -14,6 +16,8 @@ returns-then-not-put_first-clause-twice c =
     e c.loop-entry.invariant c.loop-entry-test.true c.entry-item.is
     (put_ok.earlier c.if-not-put_first.true)
 
+-- The place was free, so no earlier entry names the LAN: the entry is now stored there, and still no LAN is
+-- named twice.
 pub loop-entry-preserved : goal.loop-entry-preserved
 loop-entry-preserved c =
     let firsts = c.loop-entry.firsts in

@@ -1,3 +1,5 @@
+-- The search begins at the first oif that isn't below the vif. Those before it have other vifs, so none of
+-- them feeds the LAN.
 use Rattle.mc_check.proofs.FeedsLemmas.{feeds_from-outgoing_from}
 use Rattle.mc_check.proofs.fed.feeds.Goals as goal
 

@@ -4,6 +4,7 @@ use Rattle.mc_forward.specs.Domains.{oif_pairs}
 use Rattle.mc_forward.specs.FlightsInDomain.{net_in}
 use Rattle.mc_check.proofs.routers.pairs_reason.Given as goal
 
+-- the oifs so far are right, so the first reason is that of the oifs that are left
 abbrev pub invariant-loop-oif : goal.invariant-loop-oif
 invariant-loop-oif l =
     first_of (pair_reason (net_in l.fn.view) l.fn.by_lan l.fn.base l.fn.router)

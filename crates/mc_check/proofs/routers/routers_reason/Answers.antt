@@ -4,9 +4,11 @@ use Rattle.mc_forward.specs.FlightsInDomain.{net_in}
 use Rattle.mc_check.proofs.BelowLemmas.{first_of-below_none, first_of-none_more, first_of-found_at}
 use Rattle.mc_check.proofs.routers.routers_reason.Goals as goal
 
+-- Before the first router there is none that could be wrong.
 pub loop-number-init : goal.loop-number-init
 loop-number-init c = first_of-below_none _
 
+-- No router with a lower number is wrong, so the one that is found is the first.
 pub returns-in-Some : goal.returns-in-Some
 returns-in-Some c =
     let n = net_in c.args.view.now in
@@ -14,6 +16,7 @@ returns-in-Some c =
     sym (first_of-found_at f c.loop-number.number _ _ c.loop-number.invariant (sym c.in-Some.ensures)
     (omega (arith, c.routers-number-end.ensures.count)))
 
+-- A router that is right adds no reason.
 pub loop-number-preserved : goal.loop-number-preserved
 loop-number-preserved c =
     let n = net_in c.args.view.now in

@@ -4,6 +4,7 @@ use Rattle.mc_theory.specs.Reasons.{first_of, row_reason}
 use Rattle.mc_forward.specs.FlightsInDomain.{net_in}
 use Rattle.mc_check.proofs.routers.routers_reason.Given as goal
 
+-- the routers so far are right
 abbrev pub invariant-loop-number : goal.invariant-loop-number
 invariant-loop-number l =
     first_of (λ router. row_reason (net_in l.fn.view) l.fn.by_lan router

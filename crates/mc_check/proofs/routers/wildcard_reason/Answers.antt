@@ -5,9 +5,11 @@ use Rattle.mc_forward.specs.FlightsInDomain.{net_in}
 use Rattle.mc_check.proofs.BelowLemmas.{first_of-below_none, first_of-none_more, first_of-found_at}
 use Rattle.mc_check.proofs.routers.wildcard_reason.Goals as goal
 
+-- Before the first vif there is none on a named LAN.
 pub loop-vif-init : goal.loop-vif-init
 loop-vif-init c = first_of-below_none _
 
+-- The vif is placed on a LAN that has an entry, and no lower vif is: it is the lowest.
 pub returns-then-is_some : goal.returns-then-is_some
 returns-then-is_some c =
     let n = net_in c.args.view.now in
@@ -18,6 +20,7 @@ returns-then-is_some c =
     (ap (λ (b : Bool). unless (not b) (Wildcard c.args.router c.loop-vif.vif)) e)
     c.loop-vif-test.true)
 
+-- A vif whose LAN has no entry is no reason against a wildcard entry.
 pub loop-vif-preserved : goal.loop-vif-preserved
 loop-vif-preserved c =
     let n = net_in c.args.view.now in

@@ -5,6 +5,7 @@ use Rattle.mc_cli.proofs.AuditLemmas.{are_distinct_router_names-not_a_name}
 use Rattle.mc_cli.proofs.AuditLemmas.{are_distinct_router_names-repeated, are_distinct_router_names-more}
 use Rattle.mc_cli.proofs.audit_words.broken_rule.Goals as goal
 
+-- A word that is no name breaks the rule of names.
 pub returns-then-not-is_name : goal.returns-then-not-is_name
 returns-then-not-is_name c =
     sym (are_distinct_router_names-not_a_name
@@ -12,6 +13,7 @@ returns-then-not-is_name c =
     (sym c.is_name.ensures ∙ c.if-not-is_name.true))
     ∙ c.loop-at.invariant
 
+-- A word that is repeated behind it breaks the rule that each is there once.
 pub returns-then-is_among : goal.returns-then-is_among
 returns-then-is_among c =
     sym (are_distinct_router_names-repeated
@@ -20,6 +22,7 @@ returns-then-is_among c =
     (sym c.is_among.ensures ∙ c.if-is_among.true))
     ∙ c.loop-at.invariant
 
+-- A name that isn't repeated behind it leaves the answer to the words behind.
 pub loop-at-preserved : goal.loop-at-preserved
 loop-at-preserved c =
     sym (are_distinct_router_names-more
@@ -28,6 +31,7 @@ loop-at-preserved c =
     (sym c.is_among.ensures ∙ c.if-is_among.false))
     ∙ c.loop-at.invariant
 
+-- Behind the last word no rule is broken.
 pub returns : goal.returns
 unfolding are_distinct_router_names
 returns c =

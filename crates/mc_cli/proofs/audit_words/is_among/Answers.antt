@@ -3,6 +3,7 @@ use Rattle.std.specs.Str.{bytes_eq}
 use Rattle.clap.proofs.WalkLemmas.{list_any-map}
 use Rattle.mc_cli.proofs.audit_words.is_among.Goals as goal
 
+-- Words are equal exactly where their bytes are.
 pub returns : goal.returns
 returns c =
     c.contains.ensures.value

@@ -5,6 +5,7 @@ use Rattle.mc_text.specs.GroupRange.{IsGroupRange}
 use Rattle.mc_cli.proofs.AuditLemmas.{range-within, text-of_range, texts-one_more}
 use Rattle.mc_cli.proofs.audit_words.ranges_of.Goals as goal
 
+-- A word that writes a valid range is parsed as it, so that this word writes none.
 pub returns-in_default-clause-only : goal.returns-in_default-clause-only
 returns-in_default-clause-only c = λ given written valid.
     let words = c.args.words.now in
@@ -14,6 +15,7 @@ returns-in_default-clause-only c = λ given written valid.
     let found = c.parse.ensures.only _ (valid at (0, 0) within) (c.as_bytes.ensures.value ∙ text) in
     absurd (c.in_default.not-Some _ found)
 
+-- The range that was pushed is valid, and the next word is its text.
 pub loop-word-preserved : goal.loop-word-preserved
 loop-word-preserved c =
     let ranges = c.loop-word.ranges.items in (

@@ -4,6 +4,7 @@ use Rattle.mc_cli.specs.Commands.{command_shape, flag_rule, required_rule}
 use Rattle.mc_cli.proofs.CommandLemmas.{IsCommand-with_first_rule}
 use Rattle.mc_cli.proofs.command.pack_command.Goals as goal
 
+-- The arguments that were added are those of the shape, in its order.
 pub returns : goal.returns
 returns c =
     let none : App = record { top = command_shape (codes "pack") []; subs = [] } in

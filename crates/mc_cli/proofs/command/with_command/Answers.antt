@@ -2,6 +2,7 @@ use Rattle.std.proofs.lemmas.Result.{IfOk-at_ok, IfOk-weaker}
 use Rattle.mc_cli.proofs.CommandLemmas.{IsCommand-with_subcommand}
 use Rattle.mc_cli.proofs.command.with_command.Goals as goal
 
+-- Adding a command without subcommands adds its shape to those of the program, and nothing else.
 pub returns : goal.returns
 returns c = λ app shape is leaf.
     let old = IfOk-at_ok _ c.in_ok-command.was is in

@@ -4,6 +4,7 @@ use Rattle.mc_cli.specs.Commands.{check_shape, make_shape, pack_shape, program_s
 use Rattle.mc_cli.specs.Commands.{wants_shape}
 use Rattle.mc_cli.proofs.command.with_commands.Goals as goal
 
+-- The five commands that were added are those of `commands`, in its order.
 pub returns : goal.returns
 returns c = λ is.
     let none : App = record { top = program_shape; subs = [] } in

@@ -6,6 +6,8 @@ use Rattle.mc_cli.proofs.FirstWordLemmas.{IsAuditFor-from_IsAskedFor, is_topic-f
 use Rattle.mc_cli.proofs.FirstWordLemmas.{IsAskedFor-help, not_Version-from_IfOk}
 use Rattle.mc_cli.proofs.task.command_of.Goals as goal
 
+-- The first word is `help`, and so asks for no version: what is asked for is help, where the words behind
+-- name a topic.
 pub returns-then-is_first_word : goal.returns-then-is_first_word
 returns-then-is_first_word c =
     let words : List (List ℕ) = map (λ word. word.now) c.args.words.now in
@@ -24,6 +26,7 @@ returns-then-is_first_word c =
           (is_topic-from_IsAskedFor words first other task asked);
     }
 
+-- The first word is `audit`, and so asks for no version or help: what is asked for is an audit.
 pub returns-then-is_first_word-2-clause-only : goal.returns-then-is_first_word-2-clause-only
 returns-then-is_first_word-2-clause-only c =
     let words : List (List ℕ) = map (λ word. word.now) c.args.words.now in

@@ -4,6 +4,7 @@ use Rattle.mc_cli.proofs.FirstWordLemmas.{IsFirstWord-iff_equal, not_IsFirstWord
 use Rattle.mc_cli.proofs.FirstWordLemmas.{slice_get-map_read}
 use Rattle.mc_cli.proofs.task.is_first_word.Goals as goal
 
+-- The word behind the program's name is there, and is compared byte by byte.
 pub returns-in-Some : goal.returns-in-Some
 returns-in-Some c =
     let words = c.args.words.now in
@@ -12,6 +13,7 @@ returns-in-Some c =
     IsFirstWord-iff_equal (map (λ word. word.now) words) c.in-Some.first.now.now c.args.word.now c.eq.result
     read c.eq.ensures
 
+-- Where the program's name is the only word, none is the first behind it.
 pub returns-in-None : goal.returns-in-None
 returns-in-None c = (
   λ is. absurd (false≢true is),

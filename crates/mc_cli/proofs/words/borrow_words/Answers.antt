@@ -5,6 +5,7 @@ use Rattle.std.proofs.lemmas.Iterator.{YieldsList-from_slice, YieldsList-from_ma
 use Rattle.std.proofs.lemmas.Iterator.Consumers.{map_from_collect}
 use Rattle.mc_cli.proofs.words.borrow_words.Goals as goal
 
+-- What is collected are the words one by one, and borrowing changes no byte.
 pub returns : goal.returns
 returns c = map_from_collect {E = AllocError} (Ok c.in_ok-collect.field-0)
     c.in_ok-collect.ensures.ran

@@ -6,10 +6,12 @@ use Rattle.mc_explain.proofs.excluded.list_excluded_routers.Goals as goal
 use Rattle.mc_explain.proofs.excluded.list_excluded_routers.Goals.{then-is_excluded+in_ok-push}
 use Rattle.mc_explain.proofs.excluded.list_excluded_routers.Goals.{else-is_excluded}
 
+-- Before the first router none is taken.
 pub loop-number-init : goal.loop-number-init
 unfolding below
 loop-number-init c = c.new-routers.ensures.items
 
+-- A router is taken exactly if it is marked, so the list stays that of the routers so far.
 pub loop-number-preserved : goal.loop-number-preserved
 loop-number-preserved c =
     let marked = is_excluded c.args.excluded.now in

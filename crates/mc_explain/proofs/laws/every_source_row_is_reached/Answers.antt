@@ -1,4 +1,4 @@
--- A stray at such a row is where a copy came in.
+-- A stray at a router with an open row is where a copy came in: by a vif on a LAN that carried one.
 use Rattle.mc_explain.specs.declared.causes.Cause.TheVariants.{OnlyEverySource}
 use Rattle.mc_explain.proofs.CauseLemmas.{causes_hold-all}
 use Rattle.mc_explain.proofs.laws.every_source_row_is_reached.Goals as goal

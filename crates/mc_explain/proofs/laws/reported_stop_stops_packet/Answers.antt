@@ -1,4 +1,5 @@
--- By what each reported cause says.
+-- The packet was followed over the path of the LAN's first copy up to the first hop whose threshold its TTL
+-- doesn't exceed.
 use Rattle.mc_explain.specs.declared.causes.Cause.TheVariants.{StoppedAt}
 use Rattle.mc_explain.proofs.CauseLemmas.{causes_hold-all}
 use Rattle.mc_explain.proofs.laws.reported_stop_stops_packet.Goals as goal

@@ -1,4 +1,5 @@
--- By the need of the hops by which the LAN's copy came.
+-- The travel at TTL 255 is clean, so its copies make a tree, in which one path leads to the LAN. Packets
+-- get through exactly if their TTL is at least its need, and one with the flow's TTL doesn't.
 use Rattle.mc_explain.specs.declared.causes.Cause.TheVariants.{LeastTtl}
 use Rattle.mc_explain.proofs.CauseLemmas.{causes_hold-all}
 use Rattle.mc_explain.proofs.laws.reported_ttl_is_least.Goals as goal

@@ -1,3 +1,5 @@
+-- At first no LAN is marked, and then exactly those of the carried copies. So the unmarked LANs that want
+-- the flow are those that carried none.
 use Rattle.std.proofs.Common.{◌≡◌, ◌||◌, ◌∙◌, ap, filter, length, subst, IfOk}
 use Rattle.std.specs.Prelude.{is_some}
 use Rattle.mc_theory.specs.Lists.{below}

@@ -5,10 +5,12 @@ use Rattle.mc_explain.proofs.FilterLemmas.{filter-below_passed, filter-below_fai
 use Rattle.mc_explain.proofs.wanted.lans_wanting.Goals as goal
 use Rattle.mc_explain.proofs.wanted.lans_wanting.Goals.{then-wants+in_ok-push, else-wants}
 
+-- Before the first LAN none is taken.
 pub loop-number-init : goal.loop-number-init
 unfolding below
 loop-number-init c = c.new-lans.ensures.items
 
+-- A LAN is taken exactly if it wants the flow, so the list stays that of the LANs so far.
 pub loop-number-preserved : goal.loop-number-preserved
 loop-number-preserved c =
     let wants = wants_of c.args.view.now.domain c.args.view.now.flow in

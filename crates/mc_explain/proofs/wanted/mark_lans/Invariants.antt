@@ -3,7 +3,7 @@ use Rattle.std.specs.Prelude.{slice_index_or, is_some}
 use Rattle.mc_theory.specs.Findings.{first_copy_on}
 use Rattle.mc_explain.proofs.wanted.mark_lans.Given as goal
 
--- what is marked so far, and the copies that are left
+-- a LAN is marked so far or has a copy that is left exactly if it was marked before or has one at all
 abbrev pub invariant-loop-copy : goal.invariant-loop-copy
 invariant-loop-copy l =
     (lan : ℕ) → (slice_index_or l.marks lan false

@@ -8,10 +8,13 @@ use Rattle.mc_explain.proofs.wanted.unmarked_lans.Goals as goal
 use Rattle.mc_explain.proofs.wanted.unmarked_lans.Goals.{then-is_wanted_and_unmarked+in_ok-push}
 use Rattle.mc_explain.proofs.wanted.unmarked_lans.Goals.{else-is_wanted_and_unmarked}
 
+-- Before the first LAN none is taken.
 pub loop-number-init : goal.loop-number-init
 unfolding below
 loop-number-init c = λ copies marked. c.new-lans.ensures.items
 
+-- A LAN is taken exactly if it wants the flow, has no mark, which says that it carried no copy, and isn't
+-- the one that is reported already.
 pub loop-number-preserved : goal.loop-number-preserved
 loop-number-preserved c =
     let view = c.args.view.now in

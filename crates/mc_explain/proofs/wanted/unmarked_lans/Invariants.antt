@@ -6,7 +6,7 @@ use Rattle.mc_explain.specs.WantedText.{AreMarksOfCopies}
 use Rattle.mc_explain.specs.WantedText.{is_also_missed}
 use Rattle.mc_explain.proofs.wanted.unmarked_lans.Given as goal
 
--- those so far
+-- the list has the LANs so far that were also missed, whatever copies the marks are of
 abbrev pub invariant-loop-number : goal.invariant-loop-number
 invariant-loop-number l = (copies : List Copy) → AreMarksOfCopies l.marks copies → l.lans.items
     ≡ filter (is_also_missed (facts l.view.domain) l.view.flow copies l.missed) (below l.number)

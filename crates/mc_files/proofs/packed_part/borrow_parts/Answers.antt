@@ -6,6 +6,7 @@ use Rattle.std.proofs.lemmas.Iterator.Consumers.{map_from_collect}
 use Rattle.std.proofs.lemmas.List.{map-id}
 use Rattle.mc_files.proofs.packed_part.borrow_parts.Goals as goal
 
+-- What is collected are the parts one by one, and borrowing changes neither name nor bytes.
 pub returns : goal.returns
 returns c = map_from_collect {E = AllocError} (Ok c.in_ok-collect.field-0)
     c.in_ok-collect.ensures.ran

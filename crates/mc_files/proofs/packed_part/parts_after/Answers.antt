@@ -4,6 +4,7 @@ use Rattle.mc_files.specs.Layout.{slots}
 use Rattle.mc_files.proofs.PackLemmas.{Gives-part_refused, parts_after-more, parts_after-all}
 use Rattle.mc_files.proofs.packed_part.parts_after.Goals as goal
 
+-- The files before made parts, so that the first fault is this file's.
 pub returns-in_err-part_of_file-clause-parts : goal.returns-in_err-part_of_file-clause-parts
 returns-in_err-part_of_file-clause-parts g c =
     let p = err_from_is_err_and c.from_residual-in_err-part_of_file.result
@@ -15,6 +16,7 @@ returns-in_err-part_of_file-clause-parts g c =
     (c.in_err-part_of_file.ensures.part contents (c.loop-number.invariant.kept ∙ is))
     (p.1 ∙ ap (λ f. Err f) p.2)
 
+-- The part that was pushed is that of the first slot to come.
 pub loop-number-preserved : goal.loop-number-preserved
 loop-number-preserved g c = record {
   count = c.loop-number.invariant.count;
@@ -28,6 +30,7 @@ loop-number-preserved g c = record {
       c.in_ok-push.ensures.items;
 }
 
+-- At the end no slot is to come.
 pub returns-clause-parts : goal.returns-clause-parts
 returns-clause-parts g c =
     λ contents is. parts_after-all contents c.loop-number.parts.items

@@ -4,6 +4,8 @@ use Rattle.mc_files.specs.Layout.{slots_after_topology, slots}
 use Rattle.mc_files.specs.PackReading.{parts_after}
 use Rattle.mc_files.proofs.packed_part.parts_after.Given as goal
 
+-- Reading the slots to come behind the parts so far ends as reading all does. The source has the same
+-- files, and no call failed.
 abbrev pub invariant-loop-number : goal.invariant-loop-number
 invariant-loop-number g l = record {
   count : l.number-end ≡ length (slots l.fn.certified l.fn.topology);

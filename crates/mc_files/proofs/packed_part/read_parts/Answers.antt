@@ -8,6 +8,7 @@ use Rattle.mc_files.specs.PackRun.{IsIoOrMemory}
 use Rattle.mc_files.proofs.PackLemmas.{Gives-topology_file_refused, Gives-topology_refused, Gives-other_parts}
 use Rattle.mc_files.proofs.packed_part.read_parts.Goals as goal
 
+-- The topology's file is the first that is read, so that its fault is the first.
 pub returns-in_err-first-clause-parts : goal.returns-in_err-first-clause-parts
 returns-in_err-first-clause-parts g c =
     let p = err_from_is_err_and c.from_residual.result c.from_residual.ensures.1 in
@@ -18,6 +19,7 @@ returns-in_err-first-clause-parts g c =
     (c.in_err-first.ensures.part contents is))
     (p.1 ∙ ap (λ f. Err f) p.2)
 
+-- The topology is parsed before another file is read, so that its fault comes next.
 pub returns-in_err-topology-clause-parts : goal.returns-in_err-topology-clause-parts
 returns-in_err-topology-clause-parts g c =
     let p = err_from_is_err_and c.from_residual-in_err-topology.result
@@ -31,6 +33,7 @@ returns-in_err-topology-clause-parts g c =
     (ap (λ (p : PartText). p.bytes) c.as_part.ensures) c.in_err-topology.ensures.topology)
     (p.1 ∙ ap (λ f. Err f) p.2)
 
+-- The topology's file and the topology were read, and the other parts follow as defined.
 pub returns-clause-parts : goal.returns-clause-parts
 returns-clause-parts g c =
     λ contents is. Gives-other_parts contents c.args.certified c.in_ok-first.first

@@ -7,6 +7,7 @@ use Rattle.mc_files.proofs.RunLemmas.{IsPackAnswer-written, IsIoOrMemory-written
 use Rattle.mc_files.proofs.RunLemmas.{WritesPackedBundle-written}
 use Rattle.mc_files.proofs.packing.pack.Goals as goal
 
+-- A fault of reading the parts is the first fault of packing, since the limit of a bundle comes last.
 pub returns-in_err-files-clause-answer : goal.returns-in_err-files-clause-answer
 returns-in_err-files-clause-answer g c =
     let p = err_from_is_err_and c.from_residual.result c.from_residual.ensures.1 in
@@ -15,6 +16,7 @@ returns-in_err-files-clause-answer g c =
     c.from_residual.result c.in_err-files.field-0.0 c.in_err-files.ensures.parts
     (p.1 ∙ ap (λ f. Err f) p.2)
 
+-- Where files are packed into a bundle, reading them has no fault of its own.
 pub returns-in_err-files-clause-only : goal.returns-in_err-files-clause-only
 returns-in_err-files-clause-only g c =
     let p = err_from_is_err_and c.from_residual.result c.from_residual.ensures.1 in
@@ -23,6 +25,7 @@ returns-in_err-files-clause-only g c =
     c.from_residual.result c.in_err-files.field-0.0 (c.in_err-files.ensures.parts contents is)
     (p.1 ∙ ap (λ f. Err f) p.2) packed
 
+-- The parts that were read make a bundle, unless writing finds that it is too large.
 pub returns-clause-answer : goal.returns-clause-answer
 returns-clause-answer g c =
     let same = ap part_texts c.deref-2.ensures.value ∙ c.in_ok-parts.ensures
@@ -32,6 +35,7 @@ returns-clause-answer g c =
     c.in_ok-files.ensures.parts same c.write_parts.ensures.ok c.write_parts.ensures.faults
     c.write_parts.ensures.too_large
 
+-- A bundle within its limits isn't refused as too large.
 pub returns-clause-only : goal.returns-clause-only
 returns-clause-only g c =
     let same = ap part_texts c.deref-2.ensures.value ∙ c.in_ok-parts.ensures
@@ -41,6 +45,7 @@ returns-clause-only g c =
     (c.in_ok-files.ensures.parts contents is)
     same c.write_parts.ensures.faults c.write_parts.ensures.too_large packed
 
+-- What was appended is the bundle of the parts that were read, which are those of the files.
 pub returns-clause-written : goal.returns-clause-written
 returns-clause-written g c =
     let same = ap part_texts c.deref-2.ensures.value ∙ c.in_ok-parts.ensures
@@ -49,6 +54,7 @@ returns-clause-written g c =
     c.in_ok-files.files.items (part_texts c.deref-2.result.now) _ _ c.write_parts.result
     c.in_ok-files.ensures.parts same c.write_parts.ensures.ok
 
+-- What was appended is a proper prefix of that bundle, which is within its limits.
 pub returns-clause-part : goal.returns-clause-part
 returns-clause-part g c =
     let same = ap part_texts c.deref-2.ensures.value ∙ c.in_ok-parts.ensures

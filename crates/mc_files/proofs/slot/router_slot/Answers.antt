@@ -2,6 +2,7 @@ use Rattle.std.proofs.Common.{◌/◌, ap, sym, ◌∙◌, Some, arith}
 use Rattle.mc_files.proofs.SlotLemmas.{slice_get-vif_slot, slice_get-cache_slot}
 use Rattle.mc_files.proofs.slot.router_slot.Goals as goal
 
+-- Each router has two slots, so that half of the number is the router; the even one is of its vifs.
 pub returns-then-number-eq0 : goal.returns-then-number-eq0
 returns-then-number-eq0 c = record {
   item = (λ more.
@@ -11,6 +12,7 @@ returns-then-number-eq0 c = record {
       ∙ ap Some (sym c.vifs.ensures.value));
 }
 
+-- The odd one is of its cache.
 pub returns : goal.returns
 returns c = record {
   item = (λ more.

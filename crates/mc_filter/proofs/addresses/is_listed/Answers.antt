@@ -2,6 +2,7 @@ use Rattle.std.proofs.Common.{◌∙◌}
 use Rattle.mc_filter.proofs.AscendingLemmas.{binary_search-is_ok}
 use Rattle.mc_filter.proofs.addresses.is_listed.Goals as goal
 
+-- In an ascending list the binary search answers a place exactly if the address stands in the list.
 pub returns : goal.returns
 returns c = record {
   value = (

@@ -4,6 +4,8 @@ use Rattle.mc_filter.specs.SourceFilter.{has}
 use Rattle.mc_filter.proofs.AscendingLemmas.{filter-ascending}
 use Rattle.mc_filter.proofs.addresses.retain_common.Goals as goal
 
+-- Taking addresses out of an ascending list leaves it ascending, and an address stays in it exactly if
+-- it was there and passes the test, which is that the other list has it.
 pub returns : goal.returns
 returns c =
     let left = filter-ascending (λ x. has c.args.others.now x) _ _ c.requires.ascending

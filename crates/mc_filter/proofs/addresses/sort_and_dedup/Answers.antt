@@ -4,6 +4,8 @@ use Rattle.std.proofs.lemmas.Map.Keys.{IsStrictlyIncreasing-dedup}
 use Rattle.mc_filter.proofs.AscendingLemmas.{has-dedup_sorted}
 use Rattle.mc_filter.proofs.addresses.sort_and_dedup.Goals as goal
 
+-- Sorting only permutes, and in a sorted list equal addresses are neighbours, so that taking out each
+-- repeated neighbour leaves every address once.
 pub returns : goal.returns
 returns c =
     let left = dedup_is eqb _ _ c.dedup.ensures.filtered in

@@ -3,6 +3,7 @@ use Rattle.std.specs.List.{All}
 use Rattle.mc_filter.specs.ChannelPlaces.{IsChannelPlace, channel_at}
 use Rattle.mc_filter.proofs.channels.places_of.Given as goal
 
+-- The places so far are places, and stand for the channels up to this turn.
 abbrev pub invariant-loop-channel : goal.invariant-loop-channel
 invariant-loop-channel l = record {
   places : All (IsChannelPlace l.fn.groups l.fn.channels) l.places.items;

@@ -3,6 +3,7 @@ use Rattle.std.proofs.lemmas.List.Elements.{All-cons}
 use Rattle.mc_filter.specs.Tallies.{KeepsToChannels}
 use Rattle.mc_filter.proofs.channels.tally_of.Goals as goal
 
+-- Before the first record the tally counts none, and all records are left.
 pub loop-group_record-init : goal.loop-group_record-init
 loop-group_record-init c =
     let tally = c.in_ok-tally.ensures in
@@ -15,6 +16,7 @@ loop-group_record-init c =
       more = λ _ all. all;
     }))
 
+-- The iterator's next record goes from those that are left to those that the tally counts.
 pub loop-group_record-preserved : goal.loop-group_record-preserved
 loop-group_record-preserved c =
     let before = c.loop-group_record.invariant in
@@ -29,10 +31,12 @@ loop-group_record-preserved c =
           c.args.channels.now) c.in-Some.group_record c.next.new.self parts.1 all);
     }
 
+-- No record is left, so that the tally counts them all.
 pub returns-clause-each : goal.returns-clause-each
 returns-clause-each c =
     rw c.in-None.ensures.steps.0 at c.loop-group_record.invariant.each
 
+-- No record is left, so that nothing remains to be shown of those that are.
 pub returns-clause-more : goal.returns-clause-more
 returns-clause-more c =
     rw c.in-None.ensures.steps.0 at c.loop-group_record.invariant.more

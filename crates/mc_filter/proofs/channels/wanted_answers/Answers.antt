@@ -5,6 +5,8 @@ use Rattle.mc_filter.specs.declared.channels.ChannelPlace.{ChannelPlace}
 use Rattle.mc_filter.proofs.ChannelLemmas.{wanted_answers_more, wanted_answer-from_tallied}
 use Rattle.mc_filter.proofs.channels.wanted_answers.Goals as goal
 
+-- The answer at this turn is right for its own place, as the tally says of the state there; the
+-- answers before it are as they were.
 pub loop-place-preserved : goal.loop-place-preserved
 loop-place-preserved c =
     let before = c.loop-place.invariant in

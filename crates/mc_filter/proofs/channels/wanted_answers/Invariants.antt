@@ -5,6 +5,8 @@ use Rattle.mc_filter.specs.ChannelPlaces.{AreAnswersAtPlaces, IsChannelPlace}
 use Rattle.mc_filter.specs.Tallies.{IsTallyOf}
 use Rattle.mc_filter.proofs.channels.wanted_answers.Given as goal
 
+-- There is an answer for each place up to this turn, and each is right for its place, whatever records
+-- the tally counts.
 abbrev pub invariant-loop-place : goal.invariant-loop-place
 invariant-loop-place l = record {
   count : length l.answers.items ≡ l.place-index;

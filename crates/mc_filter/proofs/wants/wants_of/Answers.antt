@@ -1,5 +1,6 @@
 use Rattle.mc_filter.proofs.wants.wants_of.Goals as goal
 
+-- The builder begins with no record, and the iterator has all of them.
 pub loop-group_record-init : goal.loop-group_record-init
 loop-group_record-init c =
     rw c.into_iter-group_record-iterator.ensures.into_iter_gives

@@ -7,6 +7,8 @@ use Rattle.mc_forward.proofs.RowLemmas.{are_rows-from_each}
 use Rattle.mc_forward.proofs.WantsLemmas.{are_answers-from_reports, is_assembled-from_reports}
 use Rattle.mc_forward.proofs.assemble.assemble_parts.Goals as goal
 
+-- There is a row and an answer for each flow, which is all that the look-up tables want of the rows
+-- and of the answers: they depend on the topology and on the vifs alone.
 pub returns-clause-derived : goal.returns-clause-derived
 returns-clause-derived c =
     let t = c.args.topology.now in
@@ -21,6 +23,7 @@ returns-clause-derived c =
     (are_rows-from_each t c.in_ok-rows.rows.items count c.in_ok-rows.ensures.each)
     (are_answers-from_reports t ts rs wants c.requires.matching_counts size c.in_ok-wants.ensures.each)
 
+-- The rows are those of the caches, and the answers those of the reports, each by its own call.
 pub returns-clause-assembled : goal.returns-clause-assembled
 returns-clause-assembled c =
     let t = c.args.topology.now in

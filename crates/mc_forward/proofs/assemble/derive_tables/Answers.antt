@@ -6,6 +6,7 @@ use Rattle.mc_forward.proofs.VifLanLemmas.{vif_lan_in-below_lan_count, interface
 use Rattle.mc_forward.proofs.WantsLemmas.{is_domain-from_parts}
 use Rattle.mc_forward.proofs.assemble.derive_tables.Goals as goal
 
+-- There is one list of LANs for each router, and a topology has at most 256 routers.
 pub interfaces_of_lans-requires-clause-at_most_256 : goal.interfaces_of_lans-requires-clause-at_most_256
 interfaces_of_lans-requires-clause-at_most_256 g c =
     let d = domain_with c.args.topology.now (map g.T.HasVifs.vifs_of c.args.tables.now) [] [] in
@@ -13,6 +14,7 @@ interfaces_of_lans-requires-clause-at_most_256 g c =
     let at_most_256 = c.lans.ensures.rules.few_routers in
     omega (arith, size, at_most_256, ap length c.deref.ensures.value)
 
+-- A vif is placed by an interface of the topology, which is on one of its LANs.
 pub interfaces_of_lans-requires-clause-listed : goal.interfaces_of_lans-requires-clause-listed
 interfaces_of_lans-requires-clause-listed g c = λ router vif lan at.
     let d = domain_with c.args.topology.now (map g.T.HasVifs.vifs_of c.args.tables.now) [] [] in
@@ -21,6 +23,8 @@ interfaces_of_lans-requires-clause-listed g c = λ router vif lan at.
     router vif lan at in
     omega (arith, lt, c.lans.ensures.count)
 
+-- Both look-up tables were computed from the topology and the vifs, which are the domain's, whatever
+-- rows and answers it is given.
 pub returns : goal.returns
 returns g c = λ rows wants are_rows answers.
     let t = c.args.topology.now in

@@ -5,13 +5,16 @@ use Rattle.mc_forward.specs.Assembling.{vifs_by_tables}
 use Rattle.mc_forward.specs.Domains.{TablesValue, VifsValue}
 use Rattle.mc_forward.proofs.assemble.move_vifs.Goals as goal
 
+-- a list of no length is empty
 nothing_left : (tables : List TablesValue) → length tables ≡ 0 → tables ≡ []
 nothing_left [] e = refl
 nothing_left (own ∷ tables) e = absurd (omega (arith, e))
 
+-- Room was made for all routers' vifs, and this router's were not moved yet.
 pub push_reserved-requires : goal.push_reserved-requires
 push_reserved-requires c = omega (arith, c.loop-own.invariant.room, c.in-Some.ensures.steps.1)
 
+-- The next router's vifs go from the front of those that are left to the end of those that were moved.
 pub loop-own-preserved : goal.loop-own-preserved
 loop-own-preserved c =
     let at = c.loop-own in
@@ -24,7 +27,9 @@ loop-own-preserved c =
           ∙ append_assoc at.vifs.items (own.vifs ∷ []) (vifs_by_tables rest)
           ∙ ap (λ (ts : List TablesValue). at.vifs.items ++ vifs_by_tables ts) (sym steps)
           ∙ at.invariant.moved;
-      left = (let short = ap length steps in omega (arith, short, c.in-Some.ensures.steps.1, at.invariant.left));
+      left = (
+          let short = ap length steps in
+          omega (arith, short, c.in-Some.ensures.steps.1, at.invariant.left));
       room = omega (
         arith,
         at.invariant.room,
@@ -34,6 +39,7 @@ loop-own-preserved c =
       );
     }
 
+-- No tables are left, so that all vifs were moved.
 pub returns : goal.returns
 returns c =
     let at = c.loop-own in

@@ -8,6 +8,7 @@ use Rattle.mc_forward.specs.RowValues.{row_value}
 use Rattle.mc_forward.proofs.RowLemmas.{all-push, is_valid_row-row_value, map_take-one_row_more}
 use Rattle.mc_forward.proofs.flow_rows.flow_rows_of.Goals as goal
 
+-- The row of the next flow follows those of the flows before it; a hint is overwritten in its place.
 pub loop-flow-preserved : goal.loop-flow-preserved
 loop-flow-preserved c =
     let flow = c.flow.result.now in

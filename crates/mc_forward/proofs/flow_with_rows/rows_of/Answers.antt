@@ -5,6 +5,8 @@ use Rattle.mc_forward.proofs.IndexLemmas.{each_by_index-push, length-push}
 use Rattle.std.proofs.Common.{◌≡◌, ℕ}
 use Rattle.mc_forward.proofs.flow_with_rows.rows_of.Goals as goal
 
+-- The row of the next router is pushed behind those of the routers before it, so that it gets its
+-- router's number.
 pub loop-number-preserved : goal.loop-number-preserved
 loop-number-preserved c = record {
   count = length-push c.loop-number.rows.items c.push.new.self.items c.row.result

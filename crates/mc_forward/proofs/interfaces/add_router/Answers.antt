@@ -5,9 +5,11 @@ use Rattle.mc_forward.proofs.VifLanLemmas.{have_vifs-more_placed, slice_index_or
 use Rattle.mc_forward.proofs.interfaces.add_router.Goals as goal
 use Rattle.mc_forward.proofs.interfaces.add_router.Goals.{in-Some+in_ok-push, in_default}
 
+-- Before the first vif no list has grown.
 pub loop-vif-init : goal.loop-vif-init
 loop-vif-init c = record { count = refl; have = have_vifs-start _ _ _ }
 
+-- The LAN that a vif is placed on has a list.
 pub index_mut-list-requires : goal.index_mut-list-requires
 index_mut-list-requires c =
     let inside : c.loop-vif.vif < length c.args.vif_lans.now =
@@ -16,6 +18,8 @@ index_mut-list-requires c =
     (slice_index_or-from_read c.args.vif_lans.now c.loop-vif.vif _ _ inside c.in-Some.is) in
     omega (arith, lt, c.lan.view_is, c.loop-vif.invariant.count, c.loop-vif.lists.ok.0)
 
+-- A placed vif is pushed on its own LAN's list and no other; one that is placed nowhere changes no
+-- list.
 pub loop-vif-preserved : goal.loop-vif-preserved
 loop-vif-preserved c =
     let lists = c.loop-vif.lists.items in

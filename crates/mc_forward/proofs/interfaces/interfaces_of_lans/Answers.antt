@@ -9,6 +9,7 @@ use Rattle.mc_forward.proofs.IndexLemmas.{map_below-from_items}
 use Rattle.mc_forward.proofs.VifLanLemmas.{lists-before_first_router, lists-after_next_router}
 use Rattle.mc_forward.proofs.interfaces.interfaces_of_lans.Goals as goal
 
+-- Before the first router each LAN has an empty list, which is that of no router's vifs.
 pub loop-number-init : goal.loop-number-init
 loop-number-init c = record {
   count = ap length c.in_ok-lists.ensures ∙ length-map {B = List Interface} (below c.args.lans)
@@ -17,6 +18,7 @@ loop-number-init c = record {
       c.in_ok-lists.ensures;
 }
 
+-- Each LAN has a list, and a vif of this router is placed on one of the LANs, as any router's is.
 pub add_router-requires : goal.add_router-requires
 add_router-requires c = record {
   listed_lans = (λ vif lan at.
@@ -28,6 +30,7 @@ add_router-requires c = record {
       omega (arith, lt, c.loop-number.invariant.count));
 }
 
+-- The next router's vifs stand behind those of the routers before it, on each LAN.
 pub loop-number-preserved : goal.loop-number-preserved
 loop-number-preserved c = record {
   count = c.in_ok-add_router.ensures.count ∙ c.loop-number.invariant.count;
@@ -37,6 +40,7 @@ loop-number-preserved c = record {
       c.index-vif_lans-number.is c.loop-number.invariant.each c.in_ok-add_router.ensures.each;
 }
 
+-- After the last router the list of each LAN has the vifs of them all.
 pub returns : goal.returns
 returns c = record {
   ok = (

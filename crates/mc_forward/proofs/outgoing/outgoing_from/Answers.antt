@@ -3,6 +3,8 @@ use Rattle.mc_tables.specs.CacheTable.{EntryValue}
 use Rattle.mc_forward.proofs.OutgoingLemmas.{append-lower_vifs_and_rest}
 use Rattle.mc_forward.proofs.outgoing.outgoing_from.Goals as goal
 
+-- Vifs ascend from at least 0 and none is over 31, so that of n of them at least vif + n - 32 are
+-- lower than vif.
 pub returns : goal.returns
 returns c = record {
   rest = (

@@ -5,6 +5,7 @@ use Rattle.mc_theory.specs.Lists.{below}
 use Rattle.mc_forward.specs.Domains.{lan_of_vif}
 use Rattle.mc_forward.proofs.vif_lans.vif_lans_of_router.Given as goal
 
+-- The places so far have the LANs of their vifs.
 abbrev pub invariant-loop-vif : goal.invariant-loop-vif
 invariant-loop-vif l = record {
   size : length l.vif_lans ≡ 32;

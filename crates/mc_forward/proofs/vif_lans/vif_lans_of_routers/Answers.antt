@@ -9,12 +9,14 @@ use Rattle.mc_forward.proofs.IndexLemmas.{slice_get-from_read, each_before-more}
 use Rattle.mc_forward.proofs.VifLanLemmas.{map_below-none, map_below-push, vif_lans_by_vifs-own}
 use Rattle.mc_forward.proofs.vif_lans.vif_lans_of_routers.Goals as goal
 
+-- Before the first router there is no list, and no table to be valid.
 pub loop-number-init : goal.loop-number-init
 loop-number-init g c = record {
   done = map_below-none _ _ c.new-vif_lans.ensures.items;
   rules = λ router vifs lt at. absurd (omega (arith, lt));
 }
 
+-- The next router's list was made from its own table, which is a valid one as every `VifTable` is.
 pub loop-number-preserved : goal.loop-number-preserved
 loop-number-preserved g c =
     let t = c.args.topology.now in
@@ -42,6 +44,7 @@ loop-number-preserved g c =
           c.loop-number.invariant.rules;
     }
 
+-- There is a table for each router, and each was seen to be valid.
 pub returns-clause-rules : goal.returns-clause-rules
 returns-clause-rules g c =
     let all = map g.T.HasVifs.vifs_of c.args.tables.now in

@@ -4,6 +4,7 @@ use Rattle.mc_forward.proofs.BelowLemmas.{map-push}
 use Rattle.mc_forward.proofs.IndexLemmas.{take-one_more}
 use Rattle.mc_forward.proofs.wants.source_group_pairs.Goals as goal
 
+-- The pair of the next flow follows those of the flows before it.
 pub loop-flow-preserved : goal.loop-flow-preserved
 loop-flow-preserved c =
     let flows = c.args.topology.now.flows in

@@ -4,6 +4,8 @@ use Rattle.mc_forward.proofs.IndexLemmas.{length-push, related_at_each_index-pus
 use Rattle.mc_forward.proofs.WantsLemmas.{are_wanted-from_channels}
 use Rattle.mc_forward.proofs.wants.wants_of_lans.Goals as goal
 
+-- The channels are the flows', so that the answers for the channels are answers for the flows; they
+-- stand behind those of the LANs before this one.
 pub loop-list-preserved : goal.loop-list-preserved
 loop-list-preserved c =
     let found = slice_get-from_read c.args.reports.now c.loop-list.list-index c.list-item.result

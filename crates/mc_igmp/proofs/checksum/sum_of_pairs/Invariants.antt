@@ -3,6 +3,8 @@ use Rattle.std.specs.Prelude.{◌↔◌}
 use Rattle.mc_igmp.specs.Checksum.{word_sum}
 use Rattle.mc_igmp.proofs.checksum.sum_of_pairs.Given as goal
 
+-- As in `ones_complement_sum`. A step takes eight bytes and adds two numbers of 32 bits, less than 8 times
+-- 1,073,741,824, so that the sum stays small.
 abbrev pub invariant-loop-rest : goal.invariant-loop-rest
 invariant-loop-rest l = record {
   congruent : (l.sum + word_sum l.rest) % 65535 ≡ word_sum l.piece % 65535;

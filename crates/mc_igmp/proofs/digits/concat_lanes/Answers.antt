@@ -1,3 +1,4 @@
+-- Lanes 0 to 31 of both, one after the other, are all of them.
 use Rattle.std.proofs.Common.{◌++◌, length-append, arith}
 use Rattle.std.proofs.lemmas.Simd.{pick_l_whole}
 use Rattle.mc_igmp.proofs.digits.concat_lanes.Goals as goal

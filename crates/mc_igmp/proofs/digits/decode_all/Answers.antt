@@ -1,3 +1,4 @@
+-- The pieces before end at the last one, or within it, so that it completes the digits.
 use Rattle.std.proofs.Common.{◌+◌, ◌-◌, length, arith}
 use Rattle.mc_igmp.proofs.DecodedLemmas.{decoded_fewer, decode_of-all_decoded}
 use Rattle.mc_igmp.proofs.digits.decode_all.Goals as goal

@@ -5,6 +5,7 @@ use Rattle.hex.proofs.Pairs.{decode_done}
 use Rattle.mc_igmp.proofs.DigitLemmas.{decode_pairs_more, decode_pairs_refused_more}
 use Rattle.mc_igmp.proofs.digits.decode_by_table.Goals as goal
 
+-- The value of a byte that is no digit is 16, a bit that stays set among those of all values.
 pub loop-i-preserved : goal.loop-i-preserved
 loop-i-preserved c =
     let at = c.loop-i in
@@ -18,6 +19,7 @@ loop-i-preserved c =
           (omega arith) high.ensures low.ensures at.invariant.others;
     }
 
+-- No such bit is set, so that all bytes are digits, and all of them were decoded.
 pub returns-clause-found : goal.returns-clause-found
 returns-clause-found c = λ below.
     decode_of-even c.args.digits.now (omega arith)

@@ -1,3 +1,5 @@
+-- What skipping the other records leaves is what skipping all leaves; and if neither the records so far nor
+-- the others report a change, none does.
 use Rattle.std.proofs.Common.{◌≡◌, ◌+◌, ◌-◌, true}
 use Rattle.mc_igmp.specs.Records.{records_in, after_records, HaveNoChanges}
 use Rattle.mc_igmp.proofs.group_records.skip_records.Given as goal

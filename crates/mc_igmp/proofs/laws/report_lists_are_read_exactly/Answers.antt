@@ -1,3 +1,4 @@
+-- Reading checks just what makes a text a report list, and answers its records.
 use Rattle.mc_igmp.proofs.ListLemmas.{read_list-sound, read_list-complete}
 use Rattle.mc_igmp.proofs.laws.report_lists_are_read_exactly.Goals as goal
 

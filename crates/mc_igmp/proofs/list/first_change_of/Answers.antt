@@ -3,12 +3,14 @@ use Rattle.mc_igmp.specs.ReadingList.{first_change}
 use Rattle.mc_igmp.proofs.ListLemmas.{first_change-none}
 use Rattle.mc_igmp.proofs.list.first_change_of.Goals as goal
 
+-- Records that report no change have no first one that does.
 pub returns-then-has_no_changes : goal.returns-then-has_no_changes
 returns-then-has_no_changes c = record {
   value = (
       sym (first_change-none 1 c.args.records.now (c.if-has_no_changes.ensures refl)));
 }
 
+-- No record before this one reports a change.
 pub returns-then-is_change : goal.returns-then-is_change
 unfolding first_change
 returns-then-is_change c = record {
@@ -18,6 +20,7 @@ returns-then-is_change c = record {
       rw (← others, change) refl);
 }
 
+-- This record reports no change, so that the first one to do so is among the others.
 pub loop-record-preserved : goal.loop-record-preserved
 unfolding first_change
 loop-record-preserved c =
@@ -28,6 +31,7 @@ loop-record-preserved c =
       counted = omega (arith, ap length c.in-Some.ensures.steps, c.loop-record.invariant.counted);
     }
 
+-- No record is left.
 pub returns : goal.returns
 unfolding first_change
 returns c = record { value = rw c.in-None.ensures.steps.0 at c.loop-record.invariant.others }

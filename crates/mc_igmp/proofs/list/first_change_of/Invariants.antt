@@ -1,3 +1,4 @@
+-- No record so far reports a change, and so many there were.
 use Rattle.std.proofs.Common.{◌≡◌, ◌+◌, length}
 use Rattle.mc_igmp.specs.ReadingList.{first_change}
 use Rattle.mc_igmp.proofs.list.first_change_of.Given as goal

@@ -5,6 +5,7 @@ use Rattle.mc_igmp.proofs.DecodeAheadLemmas.{position-line_feed_after_digits}
 use Rattle.mc_igmp.proofs.DecodeAheadLemmas.{position-no_line_feed_after_digits}
 use Rattle.mc_igmp.proofs.list_reader.line_feed_after_digits.Goals as goal
 
+-- No digit is a line feed, and neither is a byte after the digits.
 pub returns-in_err-place : goal.returns-in_err-place
 returns-in_err-place c = record {
   value = (
@@ -15,6 +16,7 @@ returns-in_err-place c = record {
       (ap (position (λ (b : ℕ). eqb b 10)) (sym part) ∙ sym c.in_err-place.ensures)));
 }
 
+-- No digit is a line feed, so that the first one after the digits is the first of all.
 pub returns : goal.returns
 returns c = record {
   value = (

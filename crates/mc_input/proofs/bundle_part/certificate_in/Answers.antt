@@ -3,11 +3,14 @@ use Rattle.mc_text.proofs.RestOfBundleLemmas.{advances_trans}
 use Rattle.mc_input.proofs.CollectedPartLemmas.{rest_of_bundle-part_collected}
 use Rattle.mc_input.proofs.bundle_part.certificate_in.Goals as goal
 
+-- One call after another reads on from where the first stopped.
 pub returns-in_err-collect_part-clause-advances : goal.returns-in_err-collect_part-clause-advances
 returns-in_err-collect_part-clause-advances g c =
     advances_trans c.args.parts.now c.open_slot.new.parts c.collect_part.new.parts
     c.in_ok-open_slot.ensures.advances c.in_err-collect_part.ensures.advances
 
+-- The part was opened under its slot's name and collected whole, so that what is left of the bundle is
+-- that part and those after it.
 pub returns-clause-text : goal.returns-clause-text
 returns-clause-text g c = λ text remaining.
     let opened = c.in_ok-open_slot.ensures.opened in

@@ -12,11 +12,14 @@ use Rattle.mc_input.proofs.ReadRestLemmas.{read_rest-first_part_Err, framing-Ok,
 use Rattle.mc_input.proofs.CollectedPartLemmas.{Some-injective, rest_of_bundle-part_collected}
 use Rattle.mc_input.proofs.bundle_part.topology_in.Goals as goal
 
+-- One call after another reads on from where the first stopped.
 pub returns-in_err-bytes-clause-advances : goal.returns-in_err-bytes-clause-advances
 returns-in_err-bytes-clause-advances g c =
     advances_trans c.args.parts.now c.open_named.new.parts c.collect_part.new.parts
     c.in_ok-open_named.ensures.advances c.in_err-bytes.ensures.advances
 
+-- The first part was opened under the topology's name and collected whole, and its text is read as the
+-- topology.
 pub returns-in-Ok-clause-topology : goal.returns-in-Ok-clause-topology
 returns-in-Ok-clause-topology g c = λ text remaining.
     let name = c.name.result in
@@ -46,6 +49,8 @@ returns-in-Err-Memory-clause-advances g c =
     advances_trans c.args.parts.now c.open_named.new.parts c.collect_part.new.parts
     c.in_ok-open_named.ensures.advances c.in_ok-bytes.ensures.advances
 
+-- A fault of the framing after the refused topology comes before the topology's own, as it makes the
+-- whole text no bundle.
 pub returns-in_err-drain-in-Err-clause-fault : goal.returns-in_err-drain-in-Err-clause-fault
 returns-in_err-drain-in-Err-clause-fault g c =
     let p = err_from_is_err_and c.from_residual-in_err-drain-in-Err.result
@@ -70,6 +75,8 @@ returns-in_err-drain-in-Err-clause-advances g c =
     c.in_ok-open_named.ensures.advances c.in_ok-bytes.ensures.advances)
     c.in_err-drain-in-Err.ensures.advances
 
+-- The framing is right to the end, and the first part has the topology's name, so that the fault of
+-- its text is the first of all.
 pub returns-clause-fault : goal.returns-clause-fault
 returns-clause-fault g c = λ text remaining loud.
     let s = c.args.parts.now in

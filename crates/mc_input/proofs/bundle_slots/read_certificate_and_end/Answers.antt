@@ -12,6 +12,7 @@ use Rattle.mc_input.proofs.StreamLemmas.{ReadsFirst-of_bundle, certificate_part-
 use Rattle.mc_input.proofs.StreamLemmas.{gives-names_Err}
 use Rattle.mc_input.proofs.bundle_slots.read_certificate_and_end.Goals as goal
 
+-- No certificate is asked for, so that the bundle has to end here, and a further part refuses it.
 pub returns-in_err-check_names_to_end-clause-fault : goal.returns-in_err-check_names_to_end-clause-fault
 returns-in_err-check_names_to_end-clause-fault g c = λ stream known.
     let p = err_from_is_err_and c.from_residual.result c.from_residual.ensures.1 in
@@ -24,6 +25,7 @@ returns-in_err-check_names_to_end-clause-fault g c = λ stream known.
     (subst (λ (n : ℕ). option_map (bundle_gives s c.args.certified t n) s.remaining ≡ Some stream)
     number known))
 
+-- The bundle ends where the certificate would be, and none is asked for.
 pub returns-then-not-certified-clause-certificate : goal.returns-then-not-certified-clause-certificate
 returns-then-not-certified-clause-certificate g c = λ stream known.
     let t = c.args.topology.now in
@@ -42,6 +44,8 @@ returns-then-not-certified-clause-certificate g c = λ stream known.
     (subst (λ (k : ℕ). option_map (bundle_gives s c.args.certified t k) s.remaining ≡ Some stream)
     number known)
 
+-- The certificate's slot is the last, so that a fault of its part's name or framing refuses the
+-- stream.
 pub returns-in_err-text-clause-fault : goal.returns-in_err-text-clause-fault
 returns-in_err-text-clause-fault g c = λ stream known.
     let p = err_from_is_err_and c.from_residual-in_err-text.result
@@ -55,6 +59,7 @@ returns-in_err-text-clause-fault g c = λ stream known.
     (subst (λ (n : ℕ). option_map (bundle_gives s c.args.certified t n) s.remaining ≡ Some stream)
     number known))
 
+-- A part after the certificate, or a fault of the framing there, refuses the stream as well.
 pub returns-in_err-check_names_to_end-2-clause-fault : goal.returns-in_err-check_names_to_end-2-clause-fault
 returns-in_err-check_names_to_end-2-clause-fault g c = λ stream known.
     let p = err_from_is_err_and c.from_residual-in_err-check_names_to_end-2.result
@@ -79,6 +84,7 @@ returns-in_err-check_names_to_end-2-clause-advances g c =
     advances_trans c.args.parts.now c.certificate_in.new.parts c.check_names_to_end-2.new.parts
     c.in_ok-text.ensures.advances c.in_err-check_names_to_end-2.ensures.advances
 
+-- The certificate's part was read under its name, and no part follows.
 pub returns-clause-certificate : goal.returns-clause-certificate
 returns-clause-certificate g c = λ stream known.
     let t = c.args.topology.now in
@@ -109,6 +115,7 @@ returns-clause-certificate g c = λ stream known.
     ))) c.in_ok-check_names_to_end-2.ensures.names x.0 x.2 in
     x.3 ∙ ap (part_then x.1) ended ∙ ap (λ (part : PartText). let r : Stream = Ok (Ok part ∷ []) in r) x.4
 
+-- One call after another reads on from where the first stopped.
 pub returns-clause-advances : goal.returns-clause-advances
 returns-clause-advances g c =
     advances_trans c.args.parts.now c.certificate_in.new.parts c.check_names_to_end-2.new.parts

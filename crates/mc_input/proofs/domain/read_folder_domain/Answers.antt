@@ -19,6 +19,7 @@ use Rattle.mc_input.proofs.domain.read_folder_domain.Goals as goal
 
 -- ---- the topology is refused
 
+-- The topology is read first, so that its fault is the first.
 pub returns-in_err-topology-clause-fault : goal.returns-in_err-topology-clause-fault
 returns-in_err-topology-clause-fault g c =
     let p = err_from_is_err_and c.from_residual-in_err-topology.result
@@ -30,6 +31,7 @@ returns-in_err-topology-clause-fault g c =
     (λ contents is no. input_of_files_without-topology_Err names contents own
     (c.in_err-topology.ensures.topology contents is no)))
 
+-- Files with a first fault mean no domain.
 pub returns-in_err-topology-clause-only : goal.returns-in_err-topology-clause-only
 returns-in_err-topology-clause-only g c =
     let p = err_from_is_err_and c.from_residual-in_err-topology.result
@@ -40,6 +42,7 @@ returns-in_err-topology-clause-only g c =
 
 -- ---- a name is refused
 
+-- The topology is read, and the names are checked next.
 pub returns-in_err-check_names-clause-fault : goal.returns-in_err-check_names-clause-fault
 returns-in_err-check_names-clause-fault g c =
     let p = err_from_is_err_and c.from_residual-in_err-check_names.result
@@ -59,6 +62,7 @@ returns-in_err-check_names-clause-only g c =
     (g.F.FileSource.contents c.args.files.now) c.from_residual-in_err-check_names.result p.0 p.1
     (returns-in_err-check_names-clause-fault g c)
 
+-- Names are checked without a call of the source.
 pub returns-in_err-check_names-clause-failures : goal.returns-in_err-check_names-clause-failures
 returns-in_err-check_names-clause-failures g c =
     let p = err_from_is_err_and c.from_residual-in_err-check_names.result
@@ -73,6 +77,7 @@ returns-in_err-check_names-clause-faults g c =
 
 -- ---- another file is refused
 
+-- The topology and the names are right, so that the first fault of the other files is that of all.
 pub returns-in_err-once-clause-fault : goal.returns-in_err-once-clause-fault
 returns-in_err-once-clause-fault g c =
     let p = err_from_is_err_and c.from_residual-in_err-once.result c.from_residual-in_err-once.ensures.1 in
@@ -97,6 +102,8 @@ returns-in_err-once-clause-only g c =
 
 -- ---- the second reading of files that were read before is refused for nothing in them
 
+-- The lists and the caches were read before from the same contents, so that only the source or memory
+-- can fail.
 pub returns-in_err-asked-clause-fault : goal.returns-in_err-asked-clause-fault
 returns-in_err-asked-clause-fault g c =
     let p = err_from_is_err_and c.from_residual-in_err-asked.result c.from_residual-in_err-asked.ensures.1 in
@@ -121,6 +128,8 @@ returns-in_err-asked-clause-only g c =
 
 -- ---- all is read
 
+-- The domain consists of what is kept of the input that the files are read as, and that is what they
+-- denote.
 pub returns-clause-means : goal.returns-clause-means
 returns-clause-means g c =
     let names = names_of c.args.without.now in
@@ -131,6 +140,7 @@ returns-clause-means g c =
     (c.in_ok-topology.ensures.topology contents is)
     (c.in_ok-once.ensures.domain contents (c.in_ok-topology.ensures.kept ∙ is)) c.in_ok-once.ensures.rules)
 
+-- Files mean one domain at most, and this is one that they mean.
 pub returns-clause-only : goal.returns-clause-only
 returns-clause-only g c = λ contents domain is means are.
     let names = names_of c.args.without.now in
@@ -141,6 +151,7 @@ returns-clause-only g c = λ contents domain is means are.
     (c.in_ok-once.ensures.domain contents (c.in_ok-topology.ensures.kept ∙ is)) c.in_ok-once.ensures.rules)
     means
 
+-- The check of the names refused none.
 pub returns-clause-routers : goal.returns-clause-routers
 returns-clause-routers g c =
     let names = names_of c.args.without.now in
@@ -148,6 +159,8 @@ returns-clause-routers g c =
     (AreRouterNames-from_Ok c.in_ok-topology.topology 1 names c.in_ok-check_names.field-0
     (sym c.in_ok-check_names.ensures.names))
 
+-- The source's contents stay the same, so that the summaries of the first reading are still those of
+-- the files.
 pub returns-clause-summary : goal.returns-clause-summary
 returns-clause-summary g c =
     let names = names_of c.args.without.now in
@@ -156,6 +169,8 @@ returns-clause-summary g c =
     once.domain.topology once.summary.items) (g.F.FileSource.contents c.args.files.now) (λ contents is.
     c.in_ok-once.ensures.summary contents (c.in_ok-topology.ensures.kept ∙ is))
 
+-- The second reading is of the same contents as the first, of which the wants and the summaries were
+-- kept.
 pub returns-clause-asked : goal.returns-clause-asked
 returns-clause-asked g c =
     let names = names_of c.args.without.now in

@@ -10,6 +10,7 @@ use Rattle.mc_input.specs.declared.source_fault.SourceFault.TheVariants.{Input a
 use Rattle.mc_input.proofs.BundleContentsLemmas.{IsFaultOf-read_all_parts, read_rest-after_topology}
 use Rattle.mc_input.proofs.domain.read_parts.Goals as goal
 
+-- The topology is the first part, so that a fault of it is the first of all.
 pub returns-in_err-topology-clause-fault : goal.returns-in_err-topology-clause-fault
 returns-in_err-topology-clause-fault g c =
     let p = err_from_is_err_and c.from_residual-in_err-topology.result
@@ -18,6 +19,7 @@ returns-in_err-topology-clause-fault g c =
     rw (p.1, p.2) (IsFaultOf-read_all_parts s.certified s.parts c.in_err-topology.field-0.0
     c.in_err-topology.ensures.fault)
 
+-- The topology was read, so that the first fault of the parts after it is that of all.
 pub returns-in_err-listed-clause-fault : goal.returns-in_err-listed-clause-fault
 returns-in_err-listed-clause-fault g c =
     let p = err_from_is_err_and c.from_residual-in_err-listed.result
@@ -31,6 +33,7 @@ returns-in_err-listed-clause-fault g c =
     ∙ c.in_err-listed.ensures.fault (bundle_gives new s.certified t 1 x.0)
     (ap (option_map (bundle_gives new s.certified t 1)) x.2) loud)
 
+-- One call after another reads on from where the first stopped.
 pub returns-in_err-listed-clause-advances : goal.returns-in_err-listed-clause-advances
 returns-in_err-listed-clause-advances g c =
     advances_trans c.args.slots.now.parts c.topology_in.new.parts c.read_bundle_contents.new.slots.parts
@@ -41,6 +44,8 @@ returns-in_err-domain-clause-advances g c =
     advances_trans c.args.slots.now.parts c.topology_in.new.parts c.read_bundle_contents.new.slots.parts
     c.in_ok-topology.ensures.advances c.in_ok-listed.ensures.advances
 
+-- The topology and what follows it are together all parts, and the domain consists of what is kept of
+-- them.
 pub returns-clause-read : goal.returns-clause-read
 returns-clause-read g c = λ text remaining.
     let s = c.args.slots.now in

@@ -8,6 +8,7 @@ use Rattle.mc_input.proofs.RefusedLemmas.{AreRefusedFiles-topology_alone_of_sour
 use Rattle.mc_input.proofs.RefusedLemmas.{AreRefusedFiles-with_topology_of_source}
 use Rattle.mc_input.proofs.each_file.judge_all_files.Goals as goal
 
+-- The topology has no fault, so that the refused files are among those that it names.
 pub returns-in-Ok-clause-refused : goal.returns-in-Ok-clause-refused
 returns-in-Ok-clause-refused g c = λ contents is.
     on_ok_map c.judge_topologys_files.result c.judge_topologys_files.ensures.judged (λ judges.
@@ -20,6 +21,7 @@ returns-in-Ok-clause-refused g c = λ contents is.
     is c.topology_unless_u64_max.ensures.kept (ap (map as_judged_file) c.requires.empty)
     (c.in-Ok.ensures.topology contents is) judges)
 
+-- Reading the topology failed at nothing, so that all failures are those of the files that it names.
 pub returns-in-Ok-clause-failures : goal.returns-in-Ok-clause-failures
 returns-in-Ok-clause-failures g c =
     on_ok_map c.judge_topologys_files.result c.judge_topologys_files.ensures.judged (λ judges.
@@ -32,6 +34,7 @@ returns-in-Ok-clause-failures g c =
     (g.F.FileSource.failed c.judge_topologys_files.new.files) (ap (map as_judged_file) c.requires.empty)
     c.in-Ok.ensures.failures judges)
 
+-- A refused topology is listed alone, since it names no other file.
 pub returns-in-Err-clause-refused : goal.returns-in-Err-clause-refused
 returns-in-Err-clause-refused g c = λ contents is.
     OnOk-both c.push_if_fault.result c.push_if_fault.ensures.listed c.push_if_fault.ensures.not_out_of_memory
@@ -42,6 +45,7 @@ returns-in-Err-clause-refused g c = λ contents is.
     is c.topology.ensures (ap (map as_judged_file) c.requires.empty)
     (c.in-Err.ensures.topology contents is) pushed enough)
 
+-- The topology's file is the only one that was read, and its fault is listed.
 pub returns-in-Err-clause-failures : goal.returns-in-Err-clause-failures
 returns-in-Err-clause-failures g c =
     on_ok_map c.push_if_fault.result c.push_if_fault.ensures.listed (λ pushed.

@@ -9,6 +9,7 @@ use Rattle.mc_input.proofs.RefusedLemmas.{JudgesFiles-lans_all, JudgesFiles-lans
 use Rattle.mc_input.proofs.RefusedLemmas.{JudgesFiles-same_source}
 use Rattle.mc_input.proofs.each_file.judge_lans.Goals as goal
 
+-- The list grows by the next LAN's file, if that has a fault.
 pub loop-lan-preserved : goal.loop-lan-preserved
 loop-lan-preserved g c =
     let t = c.args.topology.now in
@@ -34,6 +35,7 @@ loop-lan-preserved g c =
           (λ part small. ap (map_fault (Reports part.name)) (c.new-reader.ensures.reads part.bytes)) at));
     }
 
+-- After the last LAN the files of all LANs were judged.
 pub returns-clause-judged : goal.returns-clause-judged
 returns-clause-judged g c =
     JudgesFiles-lans_all (g.F.FileSource.contents c.args.files.now) c.args.topology.now.lans c.loop-lan.lan
@@ -41,6 +43,7 @@ returns-clause-judged g c =
     (g.F.FileSource.failed c.args.files.now) (g.F.FileSource.failed c.loop-lan.files)
     (omega (arith, c.loop-lan-test.false, c.loop-lan.invariant.count)) c.loop-lan.invariant.judged
 
+-- Before the first LAN no file was judged.
 pub loop-lan-init : goal.loop-lan-init
 loop-lan-init g c = record {
   count = search rules;

@@ -2,6 +2,7 @@ use Rattle.std.proofs.Common.{◌≡◌, ◌<◌, length, map, take}
 use Rattle.mc_input.specs.RefusedFiles.{JudgesFiles, judged_reports, as_judged_file}
 use Rattle.mc_input.proofs.each_file.judge_lans.Given as goal
 
+-- The files of the LANs so far were judged.
 abbrev pub invariant-loop-lan : goal.invariant-loop-lan
 invariant-loop-lan g l = record {
   count : l.lan-end ≡ length l.fn.topology.lans;

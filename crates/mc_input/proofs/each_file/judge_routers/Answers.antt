@@ -6,6 +6,7 @@ use Rattle.mc_input.proofs.RefusedLemmas.{JudgesFiles-none, JudgesFiles-routers_
 use Rattle.mc_input.proofs.RefusedLemmas.{JudgesFiles-routers_more, JudgesFiles-same_source}
 use Rattle.mc_input.proofs.each_file.judge_routers.Goals as goal
 
+-- Before the first router no file was judged.
 pub loop-router-init : goal.loop-router-init
 loop-router-init g c = record {
   count = search rules;
@@ -16,6 +17,8 @@ loop-router-init g c = record {
       (map as_judged_file c.args.refused.now.items) (g.F.FileSource.failed c.args.files.now);
 }
 
+-- The list grows by those of the next router's two files that have a fault, or by none if it is
+-- excluded.
 pub loop-router-preserved : goal.loop-router-preserved
 loop-router-preserved g c =
     let t = c.args.topology.now in
@@ -42,6 +45,7 @@ loop-router-preserved g c =
           (c.in_ok-judge_tables.ensures.judged r.0 r.1));
     }
 
+-- After the last router the files of all routers were judged.
 pub returns-clause-judged : goal.returns-clause-judged
 returns-clause-judged g c =
     JudgesFiles-routers_all (g.F.FileSource.contents c.args.files.now)

@@ -3,6 +3,7 @@ use Rattle.std.specs.Prelude.{flat_map}
 use Rattle.mc_input.specs.RefusedFiles.{JudgesFiles, judged_tables, as_judged_file}
 use Rattle.mc_input.proofs.each_file.judge_routers.Given as goal
 
+-- The files of the routers so far were judged.
 abbrev pub invariant-loop-router : goal.invariant-loop-router
 invariant-loop-router g l = record {
   count : l.router-end ≡ length l.fn.topology.routers;

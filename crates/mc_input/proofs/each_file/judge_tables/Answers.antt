@@ -17,6 +17,7 @@ use Rattle.mc_input.proofs.WalkLemmas.{name-at, order-at}
 use Rattle.mc_text.proofs.StepLemmas.{on_ok_map}
 use Rattle.mc_input.proofs.each_file.judge_tables.Goals as goal
 
+-- An excluded router has no file to judge.
 pub returns-then-is_excluded-clause-judged : goal.returns-then-is_excluded-clause-judged
 returns-then-is_excluded-clause-judged g c = λ r at.
     let names = map (λ (n : Bor (List ℕ)). n.now) c.args.without.now in
@@ -26,6 +27,8 @@ returns-then-is_excluded-clause-judged g c = λ r at.
     ∙ sym c.is_excluded.ensures ∙ c.if-is_excluded.true) (map as_judged_file c.args.refused.now.items)
     (g.F.FileSource.failed c.args.files.now)
 
+-- The router's two files are judged one after the other, each by the reader of its kind; which rows a
+-- cache's reader lists makes no difference to its faults.
 pub returns-clause-judged : goal.returns-clause-judged
 returns-clause-judged g c = λ r at.
     let contents = g.F.FileSource.contents c.args.files.now in

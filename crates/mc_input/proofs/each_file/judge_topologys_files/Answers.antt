@@ -6,6 +6,8 @@ use Rattle.mc_input.specs.RefusedFiles.{judged_reports, judged_tables, as_judged
 use Rattle.mc_input.proofs.RefusedLemmas.{JudgesFiles-append, JudgesFiles-same_source}
 use Rattle.mc_input.proofs.each_file.judge_topologys_files.Goals as goal
 
+-- The files of the routers are judged, and then those of the LANs, which are all that a topology
+-- names.
 pub returns-clause-judged : goal.returns-clause-judged
 returns-clause-judged g c =
     let contents = g.F.FileSource.contents c.args.files.now in

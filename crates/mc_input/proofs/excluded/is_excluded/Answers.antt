@@ -6,6 +6,7 @@ use Rattle.std.proofs.lemmas.Iterator.Search.{any_from_yields_List}
 use Rattle.mc_input.proofs.ExcludedLemmas.{list_any-map_now}
 use Rattle.mc_input.proofs.excluded.is_excluded.Goals as goal
 
+-- The names are compared by their bytes, borrowed or not.
 pub returns : goal.returns
 returns c =
     any_from_yields_List (λ (name : Bor (List ℕ)). bytes_eq name.now c.args.router.now) _ _ c.any.result

@@ -6,6 +6,7 @@ use Rattle.mc_files.specs.Layout.{file_name}
 use Rattle.mc_input.specs.Feeding.{SeesHeaderOrFile}
 use Rattle.mc_input.proofs.fed_file.feed_header_or_file.Goals as goal
 
+-- Without a header the files are seen as they are, so that the slot's own file was fed.
 pub returns-in_ok-file-in-None-clause-bytes : goal.returns-in_ok-file-in-None-clause-bytes
 returns-in_ok-file-in-None-clause-bytes g c = λ contents seen is sees.
     let same : file_named seen (file_name c.args.slot.now) ≡ file_named contents (file_name c.args.slot.now) =

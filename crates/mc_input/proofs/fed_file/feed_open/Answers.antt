@@ -6,6 +6,8 @@ use Rattle.mc_text.proofs.PartsMeaning.{split-from_Consumes}
 use Rattle.mc_text.proofs.FedPieceLemmas.{result_after-append_piece}
 use Rattle.mc_input.proofs.fed_file.feed_open.Goals as goal
 
+-- The next piece goes from the bytes that are left to those that were fed, and the limit is counted
+-- down by its length.
 pub pieces-preserved : goal.pieces-preserved
 pieces-preserved g c =
     let count = c.in_ok-count.count in

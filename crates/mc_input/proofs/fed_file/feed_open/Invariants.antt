@@ -1,6 +1,8 @@
 use Rattle.std.proofs.Common.{◌≡◌, ◌+◌, ◌<◌, ◌≤◌, ◌++◌, ℕ, List, Some, length}
 use Rattle.mc_input.proofs.fed_file.feed_open.Given as goal
 
+-- Some of the bytes were fed, and the rest is left: fed the rest, the reader gives what it would have given
+-- of all.
 abbrev pub invariant-pieces : goal.invariant-pieces
 invariant-pieces g l = record {
   room : 0 < length l.buffer;

@@ -5,6 +5,7 @@ use Rattle.mc_input.specs.Stream.{files_give}
 use Rattle.mc_input.proofs.FileAgainLemmas.{IsReadOfFile-of_slot, IsReadOrMemory-of_slot}
 use Rattle.mc_input.proofs.file_again.read_file_again.Goals as goal
 
+-- The slot's own file is the first of what the folder gives from its number on.
 pub returns-clause-value : goal.returns-clause-value
 returns-clause-value g c = λ read slot contents same at is.
     let t = c.args.slot.now.topology in
@@ -14,6 +15,8 @@ returns-clause-value g c = λ read slot contents same at is.
     (ap (option_map (λ (files : List FileText). files_give t n (seen files))) is)
     (c.read_slot-read.ensures.value read same)
 
+-- The slot's own file is the first of what the folder gives from its number on, and it has no fault of
+-- its own.
 pub returns-clause-fault : goal.returns-clause-fault
 returns-clause-fault g c = λ read slot contents part value same at is made reads.
     let t = c.args.slot.now.topology in

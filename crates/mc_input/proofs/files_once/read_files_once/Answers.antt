@@ -20,6 +20,7 @@ use Rattle.mc_input.proofs.FolderLemmas.{read_tables_and_reports-from_contents}
 use Rattle.mc_input.proofs.ListsOfFilesLemmas.{AreListsOf-from_contents}
 use Rattle.mc_input.proofs.files_once.read_files_once.Goals as goal
 
+-- The walk over the slots gives the first fault of the files after the topology's.
 pub returns-in_err-kept-clause-domain : goal.returns-in_err-kept-clause-domain
 returns-in_err-kept-clause-domain g c = λ contents is.
     let p = err_from_is_err_and c.from_residual-in_err-kept.result c.from_residual-in_err-kept.ensures.1 in
@@ -30,6 +31,8 @@ returns-in_err-kept-clause-domain g c = λ contents is.
     (c.in_err-kept.ensures.fault (files_give t 1 (seen contents))
     (ap (option_map (λ (files : List FileText). files_give t 1 (seen files))) is) loud))
 
+-- The walk reads the folder's files in the order of the slots, and the domain consists of what is kept
+-- of them.
 pub returns-clause-domain : goal.returns-clause-domain
 returns-clause-domain g c = λ contents is.
     let t = c.args.topology in
@@ -47,6 +50,7 @@ returns-clause-domain g c = λ contents is.
           (sym c.in_ok-domain.ensures.domain) x.3,
     )
 
+-- The walk kept the summary of each cache that it read, and that is read from the router's file.
 pub returns-clause-summary : goal.returns-clause-summary
 returns-clause-summary g c = λ contents is.
     let t = c.args.topology in
@@ -67,6 +71,8 @@ returns-clause-summary g c = λ contents is.
     c.read_contents-read.new.keeper.summary.items)
     (ap (λ (p : List (ℕ × ℕ) × Bool). p.1) c.in_ok-kept.ensures.settings) x.4))
 
+-- The walk kept of each list the wants that no flow answers, by the flows and the sources of this
+-- topology.
 pub returns-clause-wants : goal.returns-clause-wants
 returns-clause-wants g c = λ contents is.
     let t = c.args.topology in
@@ -97,12 +103,14 @@ returns-clause-wants g c = λ contents is.
       kept = x.5 ∙ ap (λ (s : Bool × AnswersValue). lan_wants_from s.0 s.1 0 x.1.1) settings;
     }
 
+-- Putting the domain together fails only where memory runs out.
 pub returns-in_err-domain-clause-domain : goal.returns-in_err-domain-clause-domain
 returns-in_err-domain-clause-domain g c = λ contents is.
     let p = err_from_is_err_and c.from_residual-in_err-domain.result
     c.from_residual-in_err-domain.ensures.1 in
     rw (p.1, p.2) (λ loud. absurd (loud (inr refl)))
 
+-- Something was kept for the list of each LAN.
 pub returns-clause-count : goal.returns-clause-count
 returns-clause-count g c =
     let own = c.read_contents-read.new.list_keeper in

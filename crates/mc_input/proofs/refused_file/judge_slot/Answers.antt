@@ -7,6 +7,7 @@ use Rattle.mc_input.proofs.refused_file.judge_slot.Goals as goal
 one_slot : {x y : Slot} → Some x ≡ Some y → x ≡ y
 one_slot e = cc
 
+-- The one file was judged as the source gave it, and is listed exactly if it has a fault.
 pub returns-clause-judged : goal.returns-clause-judged
 returns-clause-judged g c = λ read slot same at.
     OnOk-both c.push_if_fault.result c.push_if_fault.ensures.listed c.push_if_fault.ensures.not_out_of_memory

@@ -6,6 +6,8 @@ use Rattle.mc_input.specs.declared.source_fault.SourceFault.{SourceFault}
 use Rattle.mc_input.proofs.RefusedLemmas.{IsOwnFaultUnlessMemory-of_slot}
 use Rattle.mc_input.proofs.refused_file.slot_fault.Goals as goal
 
+-- The slot's own file is the first of what the folder gives from its number on, so that the fault of
+-- the first part is the file's own.
 pub returns-clause-fault : goal.returns-clause-fault
 returns-clause-fault g c = λ read slot contents same at is.
     let t = c.args.slot.now.topology in

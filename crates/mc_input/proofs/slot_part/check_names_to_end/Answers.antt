@@ -13,11 +13,13 @@ use Rattle.mc_input.proofs.ReadRestLemmas.{framing-Ok, read_rest-framing_Err}
 use Rattle.mc_input.proofs.ReadRestLemmas.{read_rest-name_passed, read_rest-none, Some-from_IsSome_name}
 use Rattle.mc_input.proofs.slot_part.check_names_to_end.Goals as goal
 
+-- One call after another reads on from where the first stopped.
 pub returns-in_err-open_slot-clause-advances : goal.returns-in_err-open_slot-clause-advances
 returns-in_err-open_slot-clause-advances g c =
     advances_trans c.args.parts.now c.loop-next.parts c.open_slot.new.parts c.loop-next.invariant.advances
     c.in_err-open_slot.ensures.advances
 
+-- The next part has its slot's name, so that the check goes on with the slots and the parts after it.
 pub loop-next-preserved : goal.loop-next-preserved
 loop-next-preserved g c =
     let s = c.loop-next.parts in
@@ -43,6 +45,8 @@ loop-next-preserved g c =
           );
     }
 
+-- Names come after the framing, so that a fault of the framing behind the last name is the first of
+-- all.
 pub returns-in_err-next-clause-names : goal.returns-in_err-next-clause-names
 returns-in_err-next-clause-names g c = λ text remaining.
     let p = err_from_is_err_and c.from_residual-in_err-next.result c.from_residual-in_err-next.ensures.1 in
@@ -60,6 +64,7 @@ returns-in_err-next-clause-advances g c =
     advances c.args.parts.now c.loop-next.parts c.next.new.self c.loop-next.invariant.advances
     (sym c.in_err-next.ensures.borrows) c.in_err-next.ensures.consumed
 
+-- There is a part too many, but the framing after it is wrong, which comes first.
 pub returns-in_err-drain-clause-names : goal.returns-in_err-drain-clause-names
 returns-in_err-drain-clause-names g c = λ text remaining.
     let p = err_from_is_err_and c.from_residual-in_err-drain.result
@@ -86,6 +91,7 @@ returns-in_err-drain-clause-advances g c =
     (sym c.in_ok-next.ensures.borrows) c.in_ok-next.ensures.consumed)
     c.in_err-drain.ensures.advances
 
+-- There is a part too many, and the framing is right to the end.
 pub returns-then-branch-clause-names : goal.returns-then-branch-clause-names
 returns-then-branch-clause-names g c = λ text remaining loud.
     let s = c.loop-next.parts in
@@ -114,6 +120,7 @@ returns-then-branch-clause-advances g c =
     (sym c.in_ok-next.ensures.borrows) c.in_ok-next.ensures.consumed)
     c.in_ok-drain.ensures.advances
 
+-- The bundle ends with the last slot's part, and each name was the slot's.
 pub returns-clause-names : goal.returns-clause-names
 returns-clause-names g c = λ text remaining.
     let s = c.loop-next.parts in

@@ -4,6 +4,7 @@ use Rattle.mc_files.specs.Layout.{slots}
 use Rattle.mc_input.specs.PartsOneByOne.{read_rest, check_names_from}
 use Rattle.mc_input.proofs.slot_part.check_names_to_end.Given as goal
 
+-- The names so far were right, so that the check of all is that of those that are left.
 abbrev pub invariant-loop-next : goal.invariant-loop-next
 invariant-loop-next g l = record {
   advances : Advances l.fn.parts l.parts;

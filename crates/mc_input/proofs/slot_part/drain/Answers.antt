@@ -8,6 +8,7 @@ use Rattle.mc_input.specs.declared.source_fault.SourceFault.TheVariants.{Input a
 use Rattle.mc_input.proofs.ReadRestLemmas.{framing-part_passed, read_rest-framing_refused, read_rest-none}
 use Rattle.mc_input.proofs.slot_part.drain.Goals as goal
 
+-- The first fault of the framing after the parts that were skipped is the first of all.
 pub returns-in_err-next-clause-framing : goal.returns-in_err-next-clause-framing
 returns-in_err-next-clause-framing g c = λ text remaining.
     let p = err_from_is_err_and c.from_residual.result c.from_residual.ensures.1 in
@@ -18,11 +19,13 @@ returns-in_err-next-clause-framing g c = λ text remaining.
     (λ read memory. rest_of_bundle-fault c.parts.parts [] known.0 c.in_err-next.field-0.0
     (c.in_err-next.ensures.fault known.0 [] known.1 read)) loud)
 
+-- One call after another reads on from where the first stopped.
 pub returns-in_err-next-clause-advances : goal.returns-in_err-next-clause-advances
 returns-in_err-next-clause-advances g c =
     advances c.args.parts.now c.parts.parts c.next.new.self c.parts.invariant.advances
     (sym c.in_err-next.ensures.borrows) c.in_err-next.ensures.consumed
 
+-- A part that is skipped leaves the faults of those after it.
 pub parts-preserved : goal.parts-preserved
 parts-preserved g c = record {
   advances = advances c.args.parts.now c.parts.parts c.next.new.self c.parts.invariant.advances
@@ -34,6 +37,7 @@ parts-preserved g c = record {
       (next.0, next.1, known.2 ∙ framing-part_passed c.parts.parts c.next.new.self [] known.0 next.0 next.2);
 }
 
+-- The bundle has ended, so that its framing has no fault.
 pub returns-clause-framing : goal.returns-clause-framing
 returns-clause-framing g c = λ text remaining.
     let known = c.parts.invariant.framing text remaining in

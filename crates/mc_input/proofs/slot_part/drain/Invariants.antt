@@ -4,6 +4,7 @@ use Rattle.mc_input.specs.PartsOneByOne.{read_rest}
 use Rattle.mc_input.specs.declared.fault.InputFault.{InputFault}
 use Rattle.mc_input.proofs.slot_part.drain.Given as goal
 
+-- The framing of what is left is right exactly if that of all is, and has the same fault.
 abbrev pub invariant-parts : goal.invariant-parts
 invariant-parts g l = record {
   advances : Advances l.fn.parts l.parts;

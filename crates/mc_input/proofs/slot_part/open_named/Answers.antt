@@ -18,6 +18,7 @@ use Rattle.mc_input.proofs.ReadRestLemmas.{framing-Ok, read_rest-framing_Err}
 use Rattle.mc_input.proofs.ReadRestLemmas.{read_rest-none}
 use Rattle.mc_input.proofs.slot_part.open_named.Goals as goal
 
+-- The framing of the next part is wrong, which comes before any name.
 pub returns-in_err-next-clause-fault : goal.returns-in_err-next-clause-fault
 returns-in_err-next-clause-fault g c =
     let p = err_from_is_err_and c.from_residual.result c.from_residual.ensures.1 in
@@ -28,6 +29,7 @@ returns-in_err-next-clause-fault g c =
     (λ read_fault memory. rest_of_bundle-fault s [] text c.in_err-next.field-0.0
     (c.in_err-next.ensures.fault text [] remaining read_fault)) loud)
 
+-- The bundle has ended, so that there is no part for the slot.
 pub returns-then-not-branch-clause-fault : goal.returns-then-not-branch-clause-fault
 returns-then-not-branch-clause-fault g c = λ text remaining loud.
     let s = c.args.parts.now in
@@ -37,6 +39,7 @@ returns-then-not-branch-clause-fault g c = λ text remaining loud.
     ap (map_fault refused) (read_rest-none s text read (rest_of_bundle-ended s [] text
     (c.in_ok-next.ensures.ended text [] remaining (ap Ok last))))
 
+-- The next part has another name, but the framing after it is wrong, which comes first.
 pub returns-in_err-drain-clause-fault : goal.returns-in_err-drain-clause-fault
 returns-in_err-drain-clause-fault g c =
     let p = err_from_is_err_and c.from_residual-in_err-drain.result
@@ -55,12 +58,14 @@ returns-in_err-drain-clause-fault g c =
     (record { name = c.name.result; bytes = [] ++ take new.left next.0 } ∷ [])
     read c.in_err-drain.field-0.0 here (c.in_err-drain.ensures.framing next.0 next.1 loud))
 
+-- One call after another reads on from where the first stopped.
 pub returns-in_err-drain-clause-advances : goal.returns-in_err-drain-clause-advances
 returns-in_err-drain-clause-advances g c =
     advances_trans c.args.parts.now c.next.new.self c.drain.new.parts
     (c.in_ok-next.ensures.borrows, c.in_ok-next.ensures.consumed)
     c.in_err-drain.ensures.advances
 
+-- The framing is right to the end, and the next part has another name.
 pub returns-then-not-is_named-clause-fault : goal.returns-then-not-is_named-clause-fault
 returns-then-not-is_named-clause-fault g c = λ text remaining loud.
     let s = c.args.parts.now in
@@ -87,6 +92,7 @@ returns-then-not-is_named-clause-advances g c =
     (c.in_ok-next.ensures.borrows, c.in_ok-next.ensures.consumed)
     c.in_ok-drain.ensures.advances
 
+-- The part that was opened has the bytes of the slot's name.
 pub returns-clause-opened : goal.returns-clause-opened
 returns-clause-opened g c =
     let more : c.in_ok-next.field-0 ≡ true = grind arith in
@@ -103,6 +109,7 @@ returns-clause-opened g c =
       size = c.in_ok-next.ensures.bound (ap Ok more);
     }
 
+-- What is left of the bundle begins with the part that was opened.
 pub returns-clause-part : goal.returns-clause-part
 returns-clause-part g c = λ text remaining.
     let more : c.in_ok-next.field-0 ≡ true = grind arith in

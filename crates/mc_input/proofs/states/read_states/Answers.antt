@@ -12,6 +12,7 @@ use Rattle.mc_input.specs.StatesOfFiles.{AreStatesOfRouter}
 use Rattle.mc_input.proofs.StateLemmas.{each-pushed}
 use Rattle.mc_input.proofs.states.read_states.Goals as goal
 
+-- The states of the next router are pushed behind those of the routers before it.
 pub loop-router-preserved : goal.loop-router-preserved
 loop-router-preserved g c =
     let d = c.args.domain.now in
@@ -42,6 +43,7 @@ loop-router-preserved g c =
           r vifs at vifs_at;
     }
 
+-- After the last router there are the states of each.
 pub returns-clause-states : goal.returns-clause-states
 returns-clause-states g c = λ all contents summary is summaries. record {
   count = omega (
@@ -54,6 +56,7 @@ returns-clause-states g c = λ all contents summary is summaries. record {
   each = c.loop-router.invariant.each all contents summary is summaries;
 }
 
+-- The source's contents stay the same, so that this router's cache is the one that could be read.
 pub returns-in_err-own-clause-fault : goal.returns-in_err-own-clause-fault
 returns-in_err-own-clause-fault g c = λ all contents summary is summaries.
     let p = err_from_is_err_and c.from_residual.result c.from_residual.ensures.1 in

@@ -11,6 +11,7 @@ use Rattle.mc_input.specs.StatesOfFiles.{AreStatesOfRouter}
 use Rattle.mc_input.specs.SummariesOfFiles.{AreSummariesOf}
 use Rattle.mc_input.proofs.states.read_states.Given as goal
 
+-- The states so far are those of the routers so far.
 abbrev pub invariant-loop-router : goal.invariant-loop-router
 invariant-loop-router g l = record {
   room : 0 < length l.buffer;

@@ -38,6 +38,7 @@ order-of t own k r order same item at =
 one_table : {x y : FinMap nat_cmp VifValue} → Some x ≡ Some y → x ≡ y
 one_table e = cc
 
+-- Of no wants there are no states, whatever the cache has.
 pub returns-then-is_empty-clause-states : goal.returns-then-is_empty-clause-states
 returns-then-is_empty-clause-states g c = λ all contents summary r vifs is summaries at vifs_at.
     let d = c.args.domain.now in
@@ -72,6 +73,7 @@ returns-in_err-stated-clause-fault g c = λ all contents summary is summaries.
     (ap (map_fault (Cache own.1.part.name))
     (c.handing_on-reader.ensures.reads own.1.part.bytes own.1.rows rows)))
 
+-- The reader handed on each row of the router's cache, and the states are by these rows.
 pub returns-clause-states : goal.returns-clause-states
 returns-clause-states g c = λ all contents summary r vifs is summaries at vifs_at.
     let t = c.args.domain.now.topology in

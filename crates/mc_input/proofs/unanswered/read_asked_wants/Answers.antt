@@ -7,6 +7,7 @@ use Rattle.mc_asked.specs.UnadmittedSoFar.{AreSourcesBelow}
 use Rattle.mc_forward.proofs.IndexLemmas.{slice_get-exists}
 use Rattle.mc_input.proofs.unanswered.read_asked_wants.Goals as goal
 
+-- The next LAN's list is taken in, where it is needed.
 pub loop-lan-preserved : goal.loop-lan-preserved
 loop-lan-preserved g c =
     let wants = c.args.wants.now in
@@ -31,6 +32,7 @@ loop-lan-preserved g c =
           (c.loop-lan.invariant.sources all a lists contents is are wants_are);
     }
 
+-- After the last LAN every list was taken in that a line for any source needs.
 pub returns-clause-wants : goal.returns-clause-wants
 returns-clause-wants g c = λ all a lists contents is are wants_are lines_are.
     let keys = map (λ (line : Want × List ℕ). line.0) c.args.lines.now in

@@ -10,6 +10,7 @@ use Rattle.mc_input.specs.ListsOfFiles.{AreListsOf}
 use Rattle.mc_input.specs.StatesOfFiles.{AreStatesOf}
 use Rattle.mc_input.proofs.unanswered.read_unanswered.Goals as goal
 
+-- There is one `LanWants` for each LAN, and the lines ascend.
 pub read_asked_wants-requires : goal.read_asked_wants-requires
 read_asked_wants-requires g c = record {
   count = c.requires.count
@@ -20,6 +21,7 @@ read_asked_wants-requires g c = record {
   failures = c.requires.failures;
 }
 
+-- The lists are those of the first reading, which could be read.
 pub returns-in_err-needed-clause-fault : goal.returns-in_err-needed-clause-fault
 returns-in_err-needed-clause-fault g c = λ ignored summary contents is wants summaries.
     let p = err_from_is_err_and c.from_residual-in_err-needed.result
@@ -30,6 +32,7 @@ returns-in_err-needed-clause-fault g c = λ ignored summary contents is wants su
     (subst (λ (t : TopologyValue). AreListsOf files t wants.lists)
     (sym c.topology-topology.ensures.topology) wants.of))
 
+-- The caches are those of the first reading, which could be read.
 pub returns-in_err-states-clause-fault : goal.returns-in_err-states-clause-fault
 returns-in_err-states-clause-fault g c = λ ignored summary contents is wants summaries.
     let p = err_from_is_err_and c.from_residual-in_err-states.result
@@ -37,6 +40,8 @@ returns-in_err-states-clause-fault g c = λ ignored summary contents is wants su
     rw (p.1, p.2)
     (c.in_err-states.ensures.fault c.args.all contents summary (c.in_ok-needed.ensures.kept ∙ is) summaries)
 
+-- Lines, counts and services are computed from the kept wants, and the states from the lists and the
+-- caches that are read once more, which are the same ones.
 pub returns-clause-asked : goal.returns-clause-asked
 returns-clause-asked g c = λ ignored summary contents is wants summaries.
     let d = c.args.domain.now in

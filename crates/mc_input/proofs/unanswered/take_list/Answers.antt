@@ -13,6 +13,7 @@ use Rattle.mc_input.specs.declared.fault.InputFault.TheVariants.{Reports}
 use Rattle.mc_input.proofs.AskedOfFilesLemmas.{IsListOf-at, same_list-read}
 use Rattle.mc_input.proofs.unanswered.take_list.Goals as goal
 
+-- The list could be read before, and its file is the same.
 pub returns-in_err-list-clause-fault : goal.returns-in_err-list-clause-fault
 returns-in_err-list-clause-fault g c = λ lists contents is are.
     let p = err_from_is_err_and c.from_residual.result c.from_residual.ensures.1 in
@@ -30,6 +31,7 @@ returns-in_err-list-clause-fault g c = λ lists contents is are.
 one_own : {x y : LanWantsValue} → Some x ≡ Some y → x ≡ y
 one_own e = cc
 
+-- The list that is read once more is the LAN's, since a file has one list of records.
 pub returns-clause-sources : goal.returns-clause-sources
 returns-clause-sources g c = λ wanted lists contents at is are.
     let wants = c.args.wants.now in
@@ -47,6 +49,7 @@ returns-clause-sources g c = λ wanted lists contents at is are.
     subst (λ (own : LanWantsValue). AddsLan own c.args.sources.now c.add_list.new.self lists lan) same
     (c.in_ok-add_list.ensures lists lan list)
 
+-- A list that isn't needed adds nothing to the sources.
 pub returns-then-not-needs_list-clause-sources : goal.returns-then-not-needs_list-clause-sources
 returns-then-not-needs_list-clause-sources g c = λ wanted lists contents at is are.
     let wants = c.args.wants.now in

@@ -6,6 +6,7 @@ use Rattle.mc_input.proofs.WalkLemmas.{IsFaultOfStream-implied, read_contents-Ok
 use Rattle.mc_input.proofs.WalkLemmas.{read_contents-tables_Err}
 use Rattle.mc_input.proofs.walk.read_contents.Goals as goal
 
+-- The routers' parts come first, so that a fault of theirs is the first of all.
 pub returns-in_err-tables-clause-fault : goal.returns-in_err-tables-clause-fault
 returns-in_err-tables-clause-fault g c =
     let p = err_from_is_err_and c.from_residual.result c.from_residual.ensures.1 in
@@ -14,6 +15,7 @@ returns-in_err-tables-clause-fault g c =
     (read_contents-tables_Err t)
     (g.S.Slots.gives c.args.slots.now t 1) c.in_err-tables.field-0.0 c.in_err-tables.ensures.fault)
 
+-- The routers' parts were read, so that the first fault of the LANs' is that of all.
 pub returns-in_err-wants-clause-fault : goal.returns-in_err-wants-clause-fault
 returns-in_err-wants-clause-fault g c =
     let p = err_from_is_err_and c.from_residual-in_err-wants.result
@@ -23,6 +25,7 @@ returns-in_err-wants-clause-fault g c =
     read_contents-reports_Err c.args.topology.now stream x.0 x.1 c.in_err-wants.field-0.0 x.5
     (c.in_err-wants.ensures.fault x.0 x.2 loud))
 
+-- The LANs' parts follow those of the routers, and what is kept of both is kept of the whole input.
 pub returns-clause-read : goal.returns-clause-read
 returns-clause-read g c = λ stream known.
     let x = c.in_ok-tables.ensures.tables stream known in

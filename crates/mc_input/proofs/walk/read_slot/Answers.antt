@@ -6,6 +6,7 @@ use Rattle.mc_input.proofs.WalkLemmas.{KeepsOfFirst-from_part_result, ReadsFirst
 use Rattle.mc_input.proofs.WalkLemmas.{read_first-first_part_Err}
 use Rattle.mc_input.proofs.walk.read_slot.Goals as goal
 
+-- Without a part there is nothing to read, so that the fault of the first part is that of reading it.
 pub returns-in_err-name-clause-fault : goal.returns-in_err-name-clause-fault
 returns-in_err-name-clause-fault g c = λ read same.
     let p = err_from_is_err_and c.from_residual.result c.from_residual.ensures.1 in
@@ -13,6 +14,7 @@ returns-in_err-name-clause-fault g c = λ read same.
     (g.S.Slots.gives c.args.slots.now c.args.slot.now.topology c.args.slot.now.number) c.in_err-name.field-0.0
     c.in_err-name.ensures.fault)
 
+-- The part was fed to the reader whole, so that the reader's result is that of the part.
 pub returns-clause-value : goal.returns-clause-value
 returns-clause-value g c = λ read same.
     let t = c.args.slot.now.topology in
@@ -27,6 +29,8 @@ returns-clause-value g c = λ read same.
     (λ s. g.S.Slots.gives s t (n + 1)) c.feed.new.self c.value_or_refusal.new.slots
     c.value_or_refusal.result refl c.value_or_refusal.ensures.kept
 
+-- The part was fed to the reader whole, and its fault is the stream's unless one comes before all
+-- contents.
 pub returns-clause-fault : goal.returns-clause-fault
 returns-clause-fault g c = λ read same.
     let t = c.args.slot.now.topology in

@@ -30,6 +30,7 @@ use Rattle.mc_input.proofs.walk.read_tables.Goals as goal
 abbrev read : RouterRow → NextParts → Result (RouterRead × NextParts) SourceFault
 read r = read_router r.order
 
+-- Before the first router nothing was read of the stream.
 pub loop-router-init : goal.loop-router-init
 loop-router-init g c = record {
   advances = g.met.S.Slots.stays c.args.slots.now;
@@ -76,12 +77,14 @@ next_at gives t k cache stream is known =
     subst (λ (n : ℕ). gives t n ≡ Some stream) behind
     (subst (λ (s : SlotNumber). gives s.topology (s.number + 1) ≡ Some stream) is known)
 
+-- The keeper's settings stay the same, and were made for the topology's flows.
 pub read_cache-requires-clause-listed : goal.read_cache-requires-clause-listed
 read_cache-requires-clause-listed g c =
     rw (ap (λ (s : SlotNumber). s.topology) c.cache-cache_slot.ensures.number)
     (subst (λ (p : List (ℕ × ℕ) × Bool). AreFlowPairs c.args.topology.now.flows p.0)
     (sym c.loop-router.invariant.settings) c.requires.listed)
 
+-- The routers before were read, so that the fault of this one's vifs is the first.
 pub returns-in_err-vifs-clause-fault : goal.returns-in_err-vifs-clause-fault
 returns-in_err-vifs-clause-fault g c =
     let p = err_from_is_err_and c.from_residual-in_err-vifs.result c.from_residual-in_err-vifs.ensures.1 in
@@ -102,6 +105,7 @@ returns-in_err-vifs-clause-fault g c =
     (λ part small. ap (map_fault (Vif part.name)) (c.new-reader.ensures.reads part.bytes small))
     x.0 vifs_next loud)))
 
+-- The routers before and this one's vifs were read, so that the fault of its cache is the first.
 pub returns-in_err-cache-clause-fault : goal.returns-in_err-cache-clause-fault
 returns-in_err-cache-clause-fault g c =
     let p = err_from_is_err_and c.from_residual-in_err-cache.result c.from_residual-in_err-cache.ensures.1 in
@@ -128,6 +132,7 @@ returns-in_err-cache-clause-fault g c =
     (subst (λ (o : Order). read_stream (read_first (cache_and_text o)) v.0 ≡ Err own) order
     (c.in_err-cache.ensures.fault v.0 cache_next loud))))
 
+-- One call after another goes on from where the first stopped.
 pub returns-in_err-cache-clause-advances : goal.returns-in_err-cache-clause-advances
 returns-in_err-cache-clause-advances g c =
     g.met.S.Slots.advances_twice c.args.slots.now c.read_slot.new.slots c.read_cache.new.slots
@@ -140,6 +145,8 @@ returns-in_err-add-clause-advances g c =
     (g.met.S.Slots.advances_twice c.args.slots.now c.loop-router.slots c.read_slot.new.slots
     c.loop-router.invariant.advances c.in_ok-vifs.ensures.advances) c.in_ok-cache.ensures.advances
 
+-- The next router's vifs and cache are the stream's next two parts, and its tables are added behind
+-- the others.
 pub loop-router-preserved : goal.loop-router-preserved
 loop-router-preserved g c =
     let t = c.args.topology.now in
@@ -204,6 +211,7 @@ loop-router-preserved g c =
           );
     }
 
+-- After the last router the stream goes on with the first LAN's part.
 pub returns-clause-tables : goal.returns-clause-tables
 returns-clause-tables g c = λ stream known.
     let t = c.args.topology.now in
@@ -228,6 +236,7 @@ returns-clause-tables g c = λ stream known.
           ∙ read_each-end read x.1 x.0,
     )
 
+-- Tables were added for each router, and each with a row for every flow.
 pub returns-clause-counts : goal.returns-clause-counts
 returns-clause-counts g c = record {
   routers = omega (

@@ -4,6 +4,8 @@ use Rattle.mc_input.specs.Stream.{RouterRead, Stream, read_router, read_routers,
 use Rattle.mc_input.proofs.WalkLemmas.{read_each_after}
 use Rattle.mc_input.proofs.walk.read_tables.Given as goal
 
+-- Reading the routers that are left from what is left of the stream, after those so far, gives what
+-- reading them all gives.
 abbrev pub invariant-loop-router : goal.invariant-loop-router
 invariant-loop-router g l = record {
   advances : g.S.Slots.advances l.fn.slots l.slots;

@@ -28,6 +28,7 @@ use Rattle.mc_input.proofs.walk.read_wants.Goals as goal
 abbrev read : List ℕ → NextParts → Result (List Record × NextParts) SourceFault
 read lan = read_lan
 
+-- Before the first LAN nothing was read of the stream.
 pub loop-lan-init : goal.loop-lan-init
 loop-lan-init g c =
     let t = c.args.topology.now in
@@ -74,6 +75,7 @@ next_at gives t k slot stream is known =
     subst (λ (n : ℕ). gives t n ≡ Some stream) behind
     (subst (λ (s : SlotNumber). gives s.topology (s.number + 1) ≡ Some stream) is known)
 
+-- The LANs before were read, so that the fault of this one's list is the first.
 pub returns-in_err-reports-clause-fault : goal.returns-in_err-reports-clause-fault
 returns-in_err-reports-clause-fault g c =
     let p = err_from_is_err_and c.from_residual-in_err-reports.result
@@ -94,12 +96,15 @@ returns-in_err-reports-clause-fault g c =
     (read_each-Err read x.1 lan.0 (drop (k + 1) t.lans)) x.0 own
     (read_stream-Err_implied (read_first reports_of) read_lan read_lan-Err x.0 own (refused x.0 x.2 loud)))
 
+-- Running out of memory is possible for every source.
 pub returns-in_err-wanted-clause-faults : goal.returns-in_err-wanted-clause-faults
 returns-in_err-wanted-clause-faults g c =
     let p = err_from_is_err_and c.from_residual-in_err-wanted.result
     c.from_residual-in_err-wanted.ensures.1 in
     rw (p.1, p.2) (g.met.S.Slots.possible (Input Memory) refl)
 
+-- The next LAN's list is the stream's next part, and its answers are pushed behind those of the LANs
+-- before.
 pub loop-lan-preserved : goal.loop-lan-preserved
 loop-lan-preserved g c =
     let t = c.args.topology.now in
@@ -153,6 +158,7 @@ loop-lan-preserved g c =
           );
     }
 
+-- After the last LAN the stream goes on with the certificate's part.
 pub returns-clause-wants : goal.returns-clause-wants
 returns-clause-wants g c = λ stream known.
     let t = c.args.topology.now in
@@ -176,6 +182,7 @@ returns-clause-wants g c = λ stream known.
           ∙ read_each-end read x.1 x.0,
     )
 
+-- One call after another goes on from where the first stopped.
 pub returns-in_err-reports-clause-advances : goal.returns-in_err-reports-clause-advances
 returns-in_err-reports-clause-advances g c = g.met.S.Slots.advances_twice c.args.slots.now c.loop-lan.slots
     c.read_slot.new.slots c.loop-lan.invariant.advances c.in_err-reports.ensures.advances
@@ -188,6 +195,7 @@ pub returns-in_err-push-clause-advances : goal.returns-in_err-push-clause-advanc
 returns-in_err-push-clause-advances g c = g.met.S.Slots.advances_twice c.args.slots.now c.loop-lan.slots
     c.read_slot.new.slots c.loop-lan.invariant.advances c.in_ok-reports.ensures.advances
 
+-- Where memory runs out nothing is claimed of the stream.
 pub returns-in_err-push-clause-fault : goal.returns-in_err-push-clause-fault
 returns-in_err-push-clause-fault g c =
     let p = err_from_is_err_and c.from_residual-in_err-push.result c.from_residual-in_err-push.ensures.1 in
@@ -198,6 +206,7 @@ returns-in_err-push-clause-faults g c =
     let p = err_from_is_err_and c.from_residual-in_err-push.result c.from_residual-in_err-push.ensures.1 in
     rw (p.1, p.2) (g.met.S.Slots.possible (Input Memory) refl)
 
+-- Something was kept for the list of each LAN.
 pub returns-clause-lists : goal.returns-clause-lists
 returns-clause-lists g c =
     let lists = c.loop-lan.invariant.some in

@@ -6,6 +6,8 @@ use Rattle.mc_input.specs.Stream.{Stream, read_lan, read_lans, read_stream}
 use Rattle.mc_input.proofs.WalkLemmas.{read_each_after}
 use Rattle.mc_input.proofs.walk.read_wants.Given as goal
 
+-- Reading the LANs that are left from what is left of the stream, after those so far, gives what
+-- reading them all gives.
 abbrev pub invariant-loop-lan : goal.invariant-loop-lan
 invariant-loop-lan g l = record {
   advances : g.S.Slots.advances l.fn.slots l.slots;

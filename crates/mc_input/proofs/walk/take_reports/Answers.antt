@@ -3,6 +3,8 @@ use Rattle.mc_forward.specs.Assembling.{AreChannelsWanted}
 use Rattle.mc_forward.proofs.WantsLemmas.{are_wanted-from_channels}
 use Rattle.mc_input.proofs.walk.take_reports.Goals as goal
 
+-- The channels are the topology's flows, so that the answers for the channels are answers for the
+-- flows.
 pub returns-clause-wanted : goal.returns-clause-wanted
 returns-clause-wanted g c =
     let list = c.args.reports.now in

@@ -1,4 +1,5 @@
--- Copy by copy.
+-- A copy's need is worked out from the entry of the LAN that it was taken from, which an earlier copy has
+-- brought there.
 use Rattle.std.proofs.Common.{◌≡◌, ◌<◌, length, ap, sym, subst, arith}
 use Rattle.mc_theory.specs.Flights.{Copy}
 use Rattle.mc_theory.specs.Certificates.{Entry}
@@ -7,10 +8,12 @@ use Rattle.mc_maker.proofs.FilledLemmas.{entries_so_far-none, entries_so_far-mor
 use Rattle.mc_maker.proofs.FilledLemmas.{entries_so_far-all, need_by_held-at_most_255}
 use Rattle.mc_maker.proofs.entries.put_entries.Goals as goal
 
+-- Before the first copy no place is filled.
 pub loop-copy-init : goal.loop-copy-init
 loop-copy-init c = entries_so_far-none (net_in c.args.view.now) c.args.by_lan.now c.args.copies.now
     c.requires.empty
 
+-- All copies are done, so the places hold the entries of all.
 pub returns : goal.returns
 returns c = record {
   entries = (
@@ -19,6 +22,7 @@ returns c = record {
       (omega (arith, c.loop-copy-test.false)));
 }
 
+-- The need that is worked out by the places is the need of the copy's entry, which is at most 255.
 pub entry_of_copy-entry-requires : goal.entry_of_copy-entry-requires
 entry_of_copy-entry-requires c = record {
   bounded = (
@@ -27,6 +31,7 @@ entry_of_copy-entry-requires c = record {
       c.loop-copy-test.true c.copy-item.is c.requires.needs);
 }
 
+-- The first entry for a LAN is stored at its number, and a later one changes nothing.
 pub loop-copy-preserved : goal.loop-copy-preserved
 loop-copy-preserved c =
     let cs = c.args.copies.now in

@@ -1,4 +1,4 @@
--- By the result of the examination.
+-- The flow is certified exactly if it is right, and in a right flow no travel finds a fault.
 use Rattle.std.proofs.Common.{ap, sym, ◌∙◌, refl, arith}
 use Rattle.mc_forward.specs.Domains.{ttl_of}
 use Rattle.mc_forward.proofs.DomainLemmas.{ttl-at_most_255}
@@ -6,6 +6,7 @@ use Rattle.mc_maker.specs.Examined.{is_certified}
 use Rattle.mc_maker.proofs.ExaminedLemmas.{is_right-both_travels_clean, finds_nothing-right_flow}
 use Rattle.mc_maker.proofs.examination.make.Goals as goal
 
+-- The flow is right, so neither travel finds a fault, and there are entries.
 pub returns-in-Certified-clause-travels : goal.returns-in-Certified-clause-travels
 returns-in-Certified-clause-travels c = λ first second a b.
     (let d = c.args.domain.now in
@@ -20,6 +21,7 @@ returns-in-Certified-clause-travels c = λ first second a b.
       (λ _. refl),
     ))
 
+-- There are no entries, so the flow isn't right. If both travels found nothing, it would be.
 pub returns-clause-travels : goal.returns-clause-travels
 returns-clause-travels c = λ first second a b.
     (let d = c.args.domain.now in

@@ -1,3 +1,5 @@
+-- The entries are those of the copies in another order, that of their LANs: what holds of each entry, or of
+-- the whole tree whatever its order, holds of them too.
 use Rattle.std.proofs.Common.{◌∙◌, List, subst}
 use Rattle.mc_theory.specs.Certificates.{Entry, IsAccepted}
 use Rattle.mc_forward.specs.FlightsInDomain.{net_in}
@@ -18,6 +20,8 @@ serves_all-requires c = record {
       (c.deref.ensures.value ∙ c.in_ok-entries.ensures)));
 }
 
+-- A packet with the flow's TTL doesn't come to a LAN whose entry needs more. So where such a LAN wants the
+-- flow, the travel at the flow's TTL misses it.
 pub returns-then-not-serves_all-clause-none : goal.returns-then-not-serves_all-clause-none
 returns-then-not-serves_all-clause-none c =
     finds_fault-held_entries c.args.view.now c.args.copies.now c.in_ok-by_lan.by_lan c.deref.result.now
@@ -25,6 +29,8 @@ returns-then-not-serves_all-clause-none c =
     (c.deref.ensures.value ∙ c.in_ok-entries.ensures)
     (c.serves_all.ensures.some c.if-not-serves_all.true)
 
+-- The copies' entries keep all rules of a certificate but the last, that each LAN is served, which was
+-- tested.
 pub returns-clause-accepted : goal.returns-clause-accepted
 returns-clause-accepted c =
     subst (λ (es : List Entry). IsAccepted (net_in c.args.view.now) es) c.deref.ensures.value
@@ -32,11 +38,13 @@ returns-clause-accepted c =
     c.requires.valid c.in_ok-by_lan.ensures.ok (c.deref.ensures.value ∙ c.in_ok-entries.ensures)
     (c.serves_all.ensures.each c.if-not-serves_all.false))
 
+-- Each entry is at the place with the number of its LAN, and the places are read in order.
 pub returns-clause-ascending : goal.returns-clause-ascending
 returns-clause-ascending c =
     ascending-entries_by_lan c.args.view.now c.args.copies.now c.in_ok-by_lan.by_lan
     c.in_ok-entries.entries.items c.in_ok-by_lan.ensures.ok c.in_ok-entries.ensures
 
+-- The copies are on different LANs, so each entry has a place of its own, and none is lost.
 pub returns-clause-entries : goal.returns-clause-entries
 returns-clause-entries c =
     is_reordering-held_entries c.args.view.now c.args.copies.now c.in_ok-by_lan.by_lan

@@ -1,4 +1,5 @@
--- By the travels.
+-- A fault of either travel shows that the flow isn't right. If the travel at TTL 255 finds none, its copies
+-- make a certificate, unless one of them comes to its LAN too late for the flow's TTL.
 use Rattle.std.proofs.Common.{All, ℕ, ap, subst, sym, refl, arith}
 use Rattle.mc_cert.specs.Certificate.{IsEntryOf}
 use Rattle.std.specs.Prelude.{◌≢◌, IfNone, IfSome, Option, None, Some}
@@ -15,10 +16,13 @@ use Rattle.mc_maker.proofs.ExaminedLemmas.{flow_view-same_domain_and_flow}
 use Rattle.mc_maker.proofs.ExaminedLemmas.{is_ttl_of_fault-255, is_ttl_of_fault-flow_ttl, not_right-by_fault}
 use Rattle.mc_maker.proofs.examined_flights.examine_to_end.Goals as goal
 
+-- What holds of a value that is none holds where no other case is left.
 if_none-no_some : {X : Type 0} {P : Type 0} (o : Option X) → ((x : X) → o ≢ Some x) → IfNone o P → P
 if_none-no_some None not p = p
 if_none-no_some (Some x) not p = absurd (not x refl)
 
+-- The travel at TTL 255 finds nothing, so its copies are clean: their entries keep the rules of a
+-- certificate, and each LAN that wants the flow carried one.
 pub certificate_of-requires : goal.certificate_of-requires
 certificate_of-requires c = record {
   valid = (
@@ -34,6 +38,7 @@ certificate_of-requires c = record {
       c.copies.ensures.senders));
 }
 
+-- The travel at TTL 255 finds a fault, and a right flow has none at any TTL.
 pub returns-in_default : goal.returns-in_default
 returns-in_default c =
     let d = c.args.domain.now in
@@ -63,6 +68,7 @@ returns-in_default c =
       );
     }
 
+-- The entries are accepted for the net of the flight's flow, which is this flow.
 pub returns-in-Some-clause-accepted : goal.returns-in-Some-clause-accepted
 returns-in-Some-clause-accepted c =
     let d = c.args.domain.now in
@@ -73,6 +79,7 @@ returns-in-Some-clause-accepted c =
     subst (λ o. IfSome o (λ es. IsAccepted (net_of d c.args.flow) es.items)) c.in-Some.is
     made.accepted
 
+-- The copies are of the flow of this domain, so their entries name its LANs and routers.
 pub returns-in-Some-clause-listed : goal.returns-in-Some-clause-listed
 returns-in-Some-clause-listed c =
     let d = c.args.domain.now in
@@ -82,6 +89,7 @@ returns-in-Some-clause-listed c =
     let made = rw view at c.in_ok-entries.ensures in
     subst (λ o. IfSome o (λ es. All (IsEntryOf d.topology) es.items)) c.in-Some.is made.listed
 
+-- The entries are those of the carried copies, in another order.
 pub returns-in-Some-clause-made : goal.returns-in-Some-clause-made
 returns-in-Some-clause-made c =
     let d = c.args.domain.now in
@@ -96,6 +104,7 @@ returns-in-Some-clause-made c =
     (subst (λ o. IfSome o (λ es. IsReordering (entries_of (net_of d c.args.flow) cs) es.items))
     c.in-Some.is made.entries) c.copies.ensures.copies
 
+-- Entries that are accepted certify the flow: it is right.
 pub returns-in-Some-clause-right : goal.returns-in-Some-clause-right
 returns-in-Some-clause-right c =
     let d = c.args.domain.now in (
@@ -104,6 +113,7 @@ returns-in-Some-clause-right c =
       (λ _. refl),
     )
 
+-- The travel at TTL 255 found nothing, so the fault is one at the flow's TTL.
 pub returns-clause-ttl : goal.returns-clause-ttl
 returns-clause-ttl c =
     let d = c.args.domain.now in
@@ -112,6 +122,8 @@ returns-clause-ttl c =
     (c.in_ok-greatest.greatest.flight.flight, c.in_ok-greatest.ensures.run) in
     is_ttl_of_fault-flow_ttl d c.args.flow t is (ap finding_value c.in-Clean.is)
 
+-- The entries leave a LAN unserved, so the travel at the flow's TTL finds a fault, and the flow isn't
+-- right.
 pub returns-clause-right : goal.returns-clause-right
 returns-clause-right c =
     let d = c.args.domain.now in

@@ -1,3 +1,4 @@
+-- The entry at which the loop ends is one of the list, and doesn't serve its LAN.
 use Rattle.std.proofs.Common.{◌∙◌, length, refl, sym}
 use Rattle.std.proofs.lemmas.Option.{slice_get_read}
 use Rattle.mc_theory.proofs.ListLemmas.{slice_get-in}

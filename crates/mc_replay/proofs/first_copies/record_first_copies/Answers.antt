@@ -1,4 +1,5 @@
--- Copy by copy.
+-- A copy's place is free exactly where no earlier copy is on its LAN. So the first copy that finds its
+-- place taken is the first one with an earlier copy on its LAN.
 use Rattle.std.proofs.Common.{◌≡◌, ◌+◌, ◌<◌, length, is_some, not, true, false, None, Some, ap, sym, subst}
 use Rattle.std.proofs.Common.{◌∙◌, arith}
 use Rattle.mc_theory.specs.Flights.{Copy}
@@ -11,6 +12,7 @@ use Rattle.mc_replay.proofs.FirstLemmas.{second_copy_so_far-first_on_lan, get_or
 use Rattle.mc_replay.proofs.FirstLemmas.{length-take_drop_end}
 use Rattle.mc_replay.proofs.first_copies.record_first_copies.Goals as goal
 
+-- The copies that were seen before are stored, and no two of them are on one LAN.
 pub loop-copy-init : goal.loop-copy-init
 loop-copy-init c =
     let e : c.args.seen ≡ c.args.seen + 0 = omega arith in
@@ -18,6 +20,8 @@ loop-copy-init c =
     (first_copies_so_far-none c.args.firsts.now c.args.copies.now c.args.seen c.requires.firsts
     c.requires.distinct)
 
+-- A copy that finds its place free is stored there. One that doesn't is the second copy, unless one was
+-- found before.
 pub loop-copy-preserved : goal.loop-copy-preserved
 loop-copy-preserved c =
     let cs = c.args.copies.now in
@@ -52,12 +56,14 @@ loop-copy-preserved c =
     (first_copies_so_far-more firsts c.put_first.new.self old cs k second c.if-not-put_first.second x
     put c.loop-copy.invariant item.0 item.1 within put_ok.free put_ok.put put_ok.earlier put_ok.kept found)
 
+-- All copies are done, so the one that is kept is the first of all.
 pub returns-clause-second : goal.returns-clause-second
 returns-clause-second c =
     second_copy_so_far-all c.loop-copy.firsts c.args.firsts.now c.args.copies.now
     (c.args.seen + c.loop-copy.copy-index) c.loop-copy.second c.loop-copy.invariant
     (length-take_drop_end c.args.copies.now c.args.seen c.loop-copy.copy-index c.loop-copy-test.false)
 
+-- All copies are done, so the first copy on each LAN is stored.
 pub returns-clause-firsts : goal.returns-clause-firsts
 returns-clause-firsts c =
     first_copies_so_far-all c.loop-copy.firsts c.args.firsts.now c.args.copies.now

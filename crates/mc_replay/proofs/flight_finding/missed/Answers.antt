@@ -8,9 +8,11 @@ use Rattle.mc_replay.proofs.flight_finding.missed.Goals as goal
 use Rattle.mc_replay.proofs.flight_finding.missed.Goals.{else-wants-via-then-wants+else-is_none}
 use Rattle.mc_replay.proofs.flight_finding.missed.Goals.{else-wants-via-else-wants}
 
+-- Before the first LAN none is missed.
 pub loop-number-init : goal.loop-number-init
 loop-number-init c = λ copies are. missed-below_none (net_in c.args.view.now) copies
 
+-- This LAN wants the flow and carried no copy, and no lower one is missed: it is the lowest.
 pub returns-then-is_none : goal.returns-then-is_none
 returns-then-is_none c = λ copies are.
     (let n = net_in c.args.view.now in
@@ -23,6 +25,7 @@ returns-then-is_none c = λ copies are.
     sym (missed-first_wanting n copies k _ (c.loop-number.invariant copies are) w b
     (omega (arith, c.lans-number-end.ensures.count))))
 
+-- A LAN that carried a copy isn't missed, nor is one that doesn't want the flow.
 pub loop-number-preserved : goal.loop-number-preserved
 loop-number-preserved c = λ copies are.
     (let n = net_in c.args.view.now in

@@ -6,9 +6,12 @@ use Rattle.mc_forward.proofs.PerLanLemmas.{first_with_key-first_copy_on}
 use Rattle.mc_replay.proofs.MissedLemmas.{missed-below_none, is_some-missed_below_more}
 use Rattle.mc_replay.proofs.flight_finding.misses_any_lan.Goals as goal
 
+-- Before the first LAN none is missed.
 pub loop-number-init : goal.loop-number-init
 loop-number-init c = λ copies are. ap is_some (sym (missed-below_none (net_in c.args.view.now) copies))
 
+-- The place of a LAN is empty exactly where the LAN carried no copy, so the LAN is missed exactly where it
+-- wants the flow and its place is empty.
 pub loop-number-preserved : goal.loop-number-preserved
 loop-number-preserved c = λ copies are.
     (let n = net_in c.args.view.now in

@@ -6,6 +6,7 @@ use Rattle.mc_forward.specs.PerLan.{HoldsFirstOfEachKey}
 use Rattle.mc_forward.specs.FlightsInDomain.{net_in}
 use Rattle.mc_replay.proofs.flight_finding.misses_any_lan.Given as goal
 
+-- the flag is set exactly if a LAN so far is missed
 abbrev pub invariant-loop-number : goal.invariant-loop-number
 invariant-loop-number l = (copies : List Copy) → HoldsFirstOfEachKey (λ (c : Copy). c.lan) l.fn.firsts copies
     → l.some ≡ is_some (missed (net_in l.fn.view) copies (below l.number))

@@ -1,4 +1,5 @@
--- LAN by LAN.
+-- One step of the walk goes to the LAN from which the sender took its copy. It isn't the copy's own, so the
+-- walk visits that one exactly if the rest of the walk does, from the first copy on the LAN it came to.
 use Rattle.std.proofs.Common.{◌≡◌, ◌+◌, ◌==◌, false, length, drop, Option, Some, ap, sym}
 use Rattle.std.proofs.Common.{◌∙◌}
 use Rattle.std.specs.Prelude.{option_and_then}

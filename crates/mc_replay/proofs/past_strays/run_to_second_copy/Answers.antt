@@ -1,4 +1,5 @@
--- Handling by handling.
+-- A flight in which no LAN carried two copies and a copy waits is one from which the run goes on; handling
+-- its first waiting copy is the run's next step.
 use Rattle.std.proofs.Common.{◌≡◌, length, true, ap, arith, subst, ◌∙◌}
 use Rattle.mc_theory.specs.Flights.{Copy}
 use Rattle.mc_forward.specs.Domains.{net_of}
@@ -11,6 +12,7 @@ use Rattle.mc_replay.proofs.TravelLemmas.{first_copies_recorded-next, first_copi
 use Rattle.mc_replay.proofs.TravelLemmas.{flight-step_in_domain}
 use Rattle.mc_replay.proofs.past_strays.run_to_second_copy.Goals as goal
 
+-- At the start no copy is stored, and the run has made no step.
 pub run-init : goal.run-init
 run-init c = record {
   domain = c.requires.domain;
@@ -19,6 +21,8 @@ run-init c = record {
   so_far = run_so_far-start (net_of c.args.view.now.domain c.args.view.now.flow) _ c.requires.start;
 }
 
+-- While no LAN carried two copies, each placed vif hears at most one copy, so each handling leaves fewer of
+-- them to come.
 pub run-smaller : goal.run-smaller
 run-smaller c =
     let d = c.args.view.now.domain in
@@ -32,6 +36,7 @@ run-smaller c =
     inv.domain inv.flow c.in_ok-_event.ensures.ok in
     room_left-step n c.args.flight.now.flight f c.handle.new.self.flight inv.so_far goes next.2
 
+-- The handled flight is the next one of the run, and the copies that were carried before it are stored.
 pub run-preserved : goal.run-preserved
 run-preserved c =
     let d = c.args.view.now.domain in

@@ -1,4 +1,4 @@
--- Event by event.
+-- A flight without a finding goes on: the picked copy is handled, which is the travel's next step.
 use Rattle.std.proofs.Common.{◌≡◌, [], ◌∷◌, length, slice_get, None, ap, subst, sym}
 use Rattle.std.proofs.Common.{◌∙◌, arith, length-append}
 use Rattle.mc_theory.specs.Flights.{Copy}
@@ -13,6 +13,7 @@ use Rattle.mc_replay.proofs.TravelLemmas.{flight-step_in_domain, event_of-in_dom
 use Rattle.mc_replay.proofs.TravelLemmas.{choice-same_count}
 use Rattle.mc_replay.proofs.travel.travel_to_finding.Goals as goal
 
+-- At the start nothing is stored and no event happened.
 pub travel-init : goal.travel-init
 travel-init g c =
     let d = c.args.view.now.domain in
@@ -24,18 +25,21 @@ travel-init g c =
           c.requires.start c.requires.events;
     }
 
+-- No flight before this one has a finding, so the travel ends here.
 pub returns-in-Some-clause-run : goal.returns-in-Some-clause-run
 returns-in-Some-clause-run g c =
     let d = c.args.view.now.domain in
     is_travel_to-travel_so_far (net_of d c.args.view.now.flow) (length d.topology.lans) _ _ _ _ _ _
     c.travel.invariant.travel_so_far (sym c.in-Some.ensures.finding)
 
+-- Before there is a finding no placed vif hears two copies, so each event is at another one.
 pub returns-in-Some-clause-short : goal.returns-in-Some-clause-short
 returns-in-Some-clause-short g c =
     let d = c.args.view.now.domain in
     length-travel_so_far (net_of d c.args.view.now.flow) (length d.topology.lans) _ _ _ _ _
     c.travel.invariant.travel_so_far
 
+-- Each event is at another placed vif, so one more event leaves fewer vifs without one.
 pub travel-smaller : goal.travel-smaller
 travel-smaller g c =
     let d = c.args.view.now.domain in
@@ -49,6 +53,8 @@ travel-smaller g c =
     let more = ap length c.in_ok-push.ensures.items in
     omega (arith, room, more, length-append c.travel.events.items (c.in_ok-handle.field-0 ∷ []))
 
+-- The picked copy is handled, its event is added, and the copies that were carried before are stored: the
+-- travel has come one step further.
 pub travel-preserved : goal.travel-preserved
 travel-preserved g c =
     let d = c.args.view.now.domain in

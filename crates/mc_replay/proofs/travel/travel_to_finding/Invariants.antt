@@ -4,6 +4,8 @@ use Rattle.mc_forward.specs.Domains.{net_of}
 use Rattle.mc_replay.proofs.TravelLemmas.{IsTravelSoFar, FirstCopiesRecorded}
 use Rattle.mc_replay.proofs.travel.travel_to_finding.Given as goal
 
+-- the flight and the events are those of the travel so far, by the choices that were taken, and the first
+-- copies among those seen are stored
 abbrev pub invariant-travel : goal.invariant-travel
 invariant-travel g l = record {
   domain : l.flight.domain ≡ l.fn.view.domain;
@@ -15,6 +17,7 @@ invariant-travel g l = record {
       l.fn.flight.flight (g.P.Picker.choices l.picker) l.flight.flight l.events.items;
 }
 
+-- how many placed vifs have no event yet
 abbrev pub decreases-travel : goal.decreases-travel
 decreases-travel g l = length (placed_interfaces (net_of l.fn.view.domain l.fn.view.flow))
     - length l.events.items

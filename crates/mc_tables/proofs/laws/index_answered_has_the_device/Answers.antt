@@ -1,3 +1,4 @@
+-- Devices other than `none` differ, so that the first vif with a device is the only one.
 use Rattle.mc_tables.proofs.LawLemmas.{vif_table-is_valid}
 use Rattle.mc_tables.proofs.VifLookupLemmas.{index_of-exact}
 use Rattle.mc_tables.proofs.laws.index_answered_has_the_device.Goals as goal

@@ -1,3 +1,4 @@
+-- What a text denotes is what it is read as, and reading is a function.
 use Rattle.mc_tables.proofs.LawLemmas.{denotes_vifs-unique, denotes_cache-unique}
 use Rattle.mc_tables.proofs.laws.text_denotes_one_table.Goals as goal
 

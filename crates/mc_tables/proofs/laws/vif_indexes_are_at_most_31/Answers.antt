@@ -1,3 +1,4 @@
+-- A row with a greater index is refused.
 use Rattle.mc_tables.proofs.LawLemmas.{vif_table-is_valid}
 use Rattle.mc_tables.proofs.laws.vif_indexes_are_at_most_31.Goals as goal
 

@@ -3,6 +3,7 @@ use Rattle.std.proofs.lemmas.List.{length-set}
 use Rattle.mc_text.proofs.IndexLemmas.{AreMarkedInSlots, marked_in_slots_all, marked_in_slots_more}
 use Rattle.mc_text.proofs.index.marks_of_places.Goals as goal
 
+-- The mark that is written is never 0, so that no slot loses its mark when another number shares it.
 pub loop-place-preserved : goal.loop-place-preserved
 loop-place-preserved c = record {
   counted = length-set c.loop-place.marks.items c.index_slot.result c.mark_of_place.result
@@ -13,6 +14,7 @@ loop-place-preserved c = record {
       (omega (arith, c.index_slot.ensures.within, c.loop-place.invariant.counted)) c.mark_of_place.ensures;
 }
 
+-- After the last place each number's slot is marked, and the slots are as many as at first.
 pub returns-clause-each : goal.returns-clause-each
 returns-clause-each c =
     subst (λ (slots : ℕ). AreMarkedInSlots slots c.loop-place.marks.items c.args.numbers.now)

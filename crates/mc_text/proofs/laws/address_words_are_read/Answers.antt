@@ -1,3 +1,4 @@
+-- `address_of_word` answers only the address that the word shows, and answers wherever there is one.
 use Rattle.mc_text.proofs.AddressReading.{address_of_word-sound, address_of_word-complete}
 use Rattle.mc_text.proofs.laws.address_words_are_read.Goals as goal
 

@@ -1,3 +1,4 @@
+-- `number_up_to` answers only the number that the word writes, and answers wherever it is in range.
 use Rattle.mc_text.proofs.NumberReading.{number_up_to-sound, number_up_to-complete}
 use Rattle.mc_text.proofs.laws.decimal_numbers_are_read.Goals as goal
 

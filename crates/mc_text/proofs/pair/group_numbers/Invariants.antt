@@ -1,3 +1,4 @@
+-- The numbers so far are the groups of the pairs before this one.
 use Rattle.std.proofs.Common.{◌≡◌, ℕ, map, take}
 use Rattle.mc_text.proofs.pair.group_numbers.Given as goal
 

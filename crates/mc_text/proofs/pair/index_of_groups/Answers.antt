@@ -1,3 +1,4 @@
+-- The numbers that are indexed are the pairs' groups.
 use Rattle.mc_text.proofs.pair.index_of_groups.Goals as goal
 
 pub returns : goal.returns

@@ -1,3 +1,4 @@
+-- The numbers so far are those of the pairs before this one, and stand for them.
 use Rattle.std.proofs.Common.{◌≡◌, map, take}
 use Rattle.mc_text.specs.Pair.{pair_number, pair_of}
 use Rattle.mc_text.proofs.pair.pair_numbers.Given as goal

@@ -7,6 +7,8 @@ use Rattle.mc_topology.proofs.Validity.{IsValidTopology-from_topology_in}
 use Rattle.mc_topology.proofs.ReadLemmas.{topology_in-Ok, topology_in-Err}
 use Rattle.mc_topology.proofs.read.topology_with.Goals as goal
 
+-- Version, LANs and routers were read before, so that the first fault of the table is the one of the
+-- sections after them.
 pub returns-in_err-interfaces : goal.returns-in_err-interfaces
 returns-in_err-interfaces c = record {
   outcome = (
@@ -22,6 +24,7 @@ returns-in_err-interfaces c = record {
       c.requires.lans c.requires.routers (sym at_found))));
 }
 
+-- The parts are those that the definition reads, and what it reads is valid.
 pub new-requires : goal.new-requires
 new-requires c = record {
   valid = (
@@ -32,6 +35,7 @@ new-requires c = record {
       c.requires.routers (sym (c.in_ok-interfaces.ensures.outcome (λ e. absurd cc)))));
 }
 
+-- Each part is what the definition reads of its section, and they are put together as it does.
 pub returns : goal.returns
 returns c = record {
   outcome = (

@@ -6,6 +6,8 @@ use Rattle.mc_asked.specs.ListWants.{asked_by, is_of_merged_filter}
 use Rattle.mc_asked.proofs.UnansweredLemmas.{filter-unanswered}
 use Rattle.mc_asked.proofs.answers.WantAnswers.classified_wants.Goals as goal
 
+-- A want of either class is answered by no flow, since its class would be `Answered` else. So dropping the
+-- answered wants first, before the others are put in order, changes neither class.
 pub returns : goal.returns
 returns c =
     let a = c.args.self.now in

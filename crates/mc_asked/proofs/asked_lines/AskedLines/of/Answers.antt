@@ -6,12 +6,15 @@ use Rattle.mc_asked.specs.PairParts.{with_parts}
 use Rattle.mc_asked.proofs.SharedPairLemmas.{map-with_parts}
 use Rattle.mc_asked.proofs.asked_lines.AskedLines.of.Goals as goal
 
+-- The shown wants ascend, as `shown_of_lans` ensures.
 pub with_lans-requires : goal.with_lans-requires
 with_lans-requires c = record {
   sorted = subst (IsStrictlySortedBy key_cmp) (sym c.deref.ensures.value) c.in_ok-wants.ensures.ascending;
   few = c.requires.few;
 }
 
+-- The lines are the shown wants with their LANs, as defined. Their keys are the shown wants themselves,
+-- which ascend; and what the lines don't count of all wants are the further ones.
 pub returns : goal.returns
 returns c =
     let lans = c.args.lans.now in

@@ -12,7 +12,7 @@ use Rattle.mc_asked.proofs.unadmitted_sources.UnadmittedSources.add_lan.Goals as
 abbrev key : WantSourcesValue → Want
 key s = s.want
 
--- the want of any source of a group
+-- The code's unspecified address is 0, the source of a want of any source.
 any_of : (group any : ℕ) (own : List ℕ) (sources : List WantSourcesValue) → any ≡ 0
     → map (λ (s : WantSourcesValue). cond (is_key (group, any) s.want) (with_lan own s) s) sources
     ≡ map (with_lan_at group own) sources
@@ -20,6 +20,7 @@ any_of group any own sources is =
     ap (λ (a : ℕ). map (λ (s : WantSourcesValue). cond (is_key (group, a) s.want) (with_lan own s) s)
     sources) is
 
+-- The entry that changes keeps its want, so that the keys are still the entries' wants.
 pub invariant_of-self : goal.invariant_of-self
 invariant_of-self c =
     let own = c.self.inside.sources.items in (
@@ -29,6 +30,7 @@ invariant_of-self c =
       c.self.invariant.1,
     )
 
+-- The entry keeps its want also where memory runs out.
 pub invariant_of-self-in_err-add_lan : goal.invariant_of-self-in_err-add_lan
 invariant_of-self-in_err-add_lan c =
     let own = c.self.inside.sources.items in (
@@ -38,6 +40,8 @@ invariant_of-self-in_err-add_lan c =
       c.self.invariant.1,
     )
 
+-- Each want is there once, so that changing the entry which the search finds changes all that have the
+-- group's want of any source.
 pub returns-in_ok-add_lan : goal.returns-in_ok-add_lan
 returns-in_ok-add_lan c =
     let sources = c.self.inside.sources.items in
@@ -56,6 +60,7 @@ returns-in_ok-add_lan c =
     ∙ any_of c.args.group c.unspecified-any_source.result own sources c.unspecified-any_source.ensures
     ∙ ap (map (with_lan_at c.args.group own)) c.self.view_is
 
+-- Where the search fails, no entry has the group's want of any source, and none is to change.
 pub returns-in_default : goal.returns-in_default
 returns-in_default c =
     let sources = c.self.inside.sources.items in

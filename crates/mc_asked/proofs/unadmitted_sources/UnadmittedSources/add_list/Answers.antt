@@ -6,6 +6,8 @@ use Rattle.mc_asked.specs.UnadmittedSoFar.{groups_from_any, with_unadmitted_of}
 use Rattle.mc_asked.proofs.LanByLanLemmas.{sources-with_list, wants-of_sources}
 use Rattle.mc_asked.proofs.unadmitted_sources.UnadmittedSources.add_list.Goals as goal
 
+-- The groups are those that the LAN and these wants share, from any source, and the sources those that the
+-- LAN's list doesn't admit. Taking these in is what one LAN more means.
 pub returns : goal.returns
 returns c = λ lists lan at all a wants own_at are.
     let own = c.args.own.now in

@@ -7,6 +7,7 @@ use Rattle.mc_asked.proofs.LanByLanLemmas.{groups_from_any-ascend}
 use Rattle.mc_asked.proofs.WantLemmas.{map_filter-take_more}
 use Rattle.mc_asked.proofs.unadmitted_sources.UnadmittedSources.groups_from_any.Goals as goal
 
+-- A want's group is pushed exactly where the filter keeps the want.
 pub loop-want-preserved : goal.loop-want-preserved
 loop-want-preserved c =
     let wants = map (λ (s : WantSourcesValue). s.want) c.args.self.now in
@@ -28,6 +29,7 @@ loop-want-preserved c =
           c.loop-want-test.true c.want-item.is (sym w.if-is_shared_any.false ∙ test) c.loop-want.invariant
     ]
 
+-- At the end the wants so far are all of the LAN's.
 pub returns-clause-groups : goal.returns-clause-groups
 returns-clause-groups c =
     let wants = map (λ (s : WantSourcesValue). s.want) c.args.self.now in
@@ -36,6 +38,7 @@ returns-clause-groups c =
     (take_all c.loop-want.want-index c.lowest-want-items.result.now c.loop-want-test.false
     ∙ c.lowest-want-items.ensures.value)
 
+-- The LAN's wants ascend, and those of any source have the same second part, so that their groups ascend.
 pub returns-clause-ascending : goal.returns-clause-ascending
 returns-clause-ascending c =
     let wants = map (λ (s : WantSourcesValue). s.want) c.args.self.now in

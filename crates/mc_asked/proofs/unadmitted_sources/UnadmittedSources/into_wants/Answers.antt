@@ -10,11 +10,12 @@ use Rattle.mc_asked.proofs.LanByLanLemmas.{asked-after_last}
 use Rattle.mc_asked.proofs.unadmitted_sources.UnadmittedSources.into_wants.Goals as goal
 use Rattle.mc_asked.proofs.unadmitted_sources.UnadmittedSources.into_wants.Goals.{After-drop-self-inside-2}
 
+-- A list of no length is empty.
 nothing_left : {X : Type 0} (l : List X) → length l ≡ 0 → l ≡ []
 nothing_left [] h = refl
 nothing_left (x ∷ xs) h = absurd (omega (arith, h))
 
--- all wants
+-- The loop ends when the iterator has nothing left, so that each entry has become a want with its sources.
 wants : (c : After-drop-self-inside-2) → c.loop-own.wants.items ≡ map as_asked c.args.self
 wants c =
     let at = c.loop-own in
@@ -25,10 +26,12 @@ wants c =
     ∙ c.into_iter-own-iterator.ensures.into_iter_gives.0 in
     at.invariant.wants ∙ ap (map as_asked) (all ∙ c.self.view_is)
 
+-- With the lists of all LANs taken, an entry has the sources that no LAN's filter admits.
 pub returns-clause-asked : goal.returns-clause-asked
 returns-clause-asked c = λ all a lists lines are so_far.
     wants c ∙ asked-after_last all a lists lines c.args.self are so_far
 
+-- The wants are the keys, which ascend by the invariant.
 pub returns-clause-sorted : goal.returns-clause-sorted
 returns-clause-sorted c =
     let keys = ap (map (λ (w : Want × List ℕ). w.0)) (wants c)

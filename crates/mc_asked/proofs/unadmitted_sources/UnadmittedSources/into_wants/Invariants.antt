@@ -3,7 +3,7 @@ use Rattle.std.specs.Vec.Iter.{into_iter_items, into_iter_len}
 use Rattle.mc_asked.specs.UnadmittedSoFar.{as_asked}
 use Rattle.mc_asked.proofs.unadmitted_sources.UnadmittedSources.into_wants.Given as goal
 
--- those so far
+-- The entries that were yielded are those before the ones to come, and have become wants.
 abbrev pub invariant-loop-own : goal.invariant-loop-own
 invariant-loop-own l = record {
   yielded : l.yielded ++ into_iter_items l.own-iterator ≡ into_iter_items l.initial.own-iterator;

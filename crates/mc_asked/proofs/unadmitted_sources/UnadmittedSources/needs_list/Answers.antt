@@ -6,6 +6,7 @@ use Rattle.mc_asked.specs.UnadmittedSoFar.{is_shared_any}
 use Rattle.mc_asked.proofs.LanByLanLemmas.{sources-without_list, wants-of_sources}
 use Rattle.mc_asked.proofs.unadmitted_sources.UnadmittedSources.needs_list.Goals as goal
 
+-- Where the LAN shares no want of any source with these, its list changes none of them.
 pub returns-clause-skipped : goal.returns-clause-skipped
 returns-clause-skipped c = λ not_needed lists lan all a wants at are.
     let own = c.args.own.now in

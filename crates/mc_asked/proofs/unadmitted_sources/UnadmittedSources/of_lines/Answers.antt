@@ -5,6 +5,7 @@ use Rattle.mc_asked.specs.UnadmittedSoFar.{WantSourcesValue, without_sources}
 use Rattle.mc_asked.proofs.LanByLanLemmas.{sources-before_first, wants-of_without_sources}
 use Rattle.mc_asked.proofs.unadmitted_sources.UnadmittedSources.of_lines.Goals as goal
 
+-- The entries are made of the keys, one of each, and the keys ascend as required.
 pub invariant_of-result : goal.invariant_of-result
 invariant_of-result c = (
   sym (ap (map (λ (s : WantSourcesValue). s.want)) (c.in_ok-sources.ensures
@@ -13,6 +14,8 @@ invariant_of-result c = (
   subst (IsStrictlySortedBy key_cmp) (sym c.in_ok-keys.ensures) c.requires.sorted,
 )
 
+-- Before the first LAN no want has begun, and none has a source: that is what the definition gives for no
+-- LANs.
 pub returns : goal.returns
 returns c = λ all a lists.
     c.in_ok-sources.ensures ∙ ap (map without_sources) (c.deref.ensures.value ∙ c.in_ok-keys.ensures)

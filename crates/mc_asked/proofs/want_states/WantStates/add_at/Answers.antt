@@ -9,6 +9,7 @@ use Rattle.mc_asked.proofs.OneKeyLemmas.{set-one_key}
 use Rattle.mc_asked.proofs.SharedPairLemmas.{not_in-from_search}
 use Rattle.mc_asked.proofs.want_states.WantStates.add_at.Goals as goal
 
+-- A row changes no want, only its state, so that the keys are still the wants.
 pub invariant_of-self : goal.invariant_of-self
 invariant_of-self c =
     let ws = c.self.inside.wants.items in
@@ -19,6 +20,7 @@ invariant_of-self c =
       c.self.invariant.1,
     )
 
+-- Each want is there once, so that changing the one which the search finds changes all that have this key.
 pub returns-in-Ok : goal.returns-in-Ok
 returns-in-Ok c =
     let ws = c.self.inside.wants.items in
@@ -39,6 +41,7 @@ returns-in-Ok c =
     ap (λ (l : List StatedWantValue). record { vifs = vifs; wants = l }) changed
     ∙ ap (λ (s : WantStatesValue). states_with_row_if_want want s key entry) c.self.view_is
 
+-- Where the search fails, none of the wants has this key, and none is to change.
 pub returns-in_default : goal.returns-in_default
 returns-in_default c =
     let ws = c.self.inside.wants.items in

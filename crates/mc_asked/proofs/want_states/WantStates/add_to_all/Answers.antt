@@ -6,7 +6,7 @@ use Rattle.mc_asked.proofs.OneKeyLemmas.{map-same_keys}
 use Rattle.mc_asked.proofs.want_states.WantStates.add_to_all.Goals as goal
 use Rattle.mc_asked.proofs.want_states.WantStates.add_to_all.Goals.{After-add_to_run}
 
--- each want has the row
+-- The run from place 0 to the count is the whole list.
 rows : (c : After-add_to_run)
     → c.add_to_run.new.wants.items
     ≡ map (want_with_row c.self.inside.vifs.now c.args.key.now c.args.entry.now) c.self.inside.wants.items
@@ -16,6 +16,7 @@ rows c =
     let count : c.len.result ≡ length ws = c.len.ensures ∙ c.self.inside.wants.ok.0 in
     c.add_to_run.ensures ∙ ap (λ n. with_run row (0, n) ws) count ∙ with_run-all row ws
 
+-- A row changes no want, only its state, so that the keys are still the wants.
 pub invariant_of-self : goal.invariant_of-self
 invariant_of-self c =
     let row = want_with_row c.self.inside.vifs.now c.args.key.now c.args.entry.now in (
@@ -25,6 +26,7 @@ invariant_of-self c =
       c.self.invariant.1,
     )
 
+-- Each want has the row, and the vifs are the same.
 pub returns : goal.returns
 returns c =
     let vifs = c.self.inside.vifs.now in

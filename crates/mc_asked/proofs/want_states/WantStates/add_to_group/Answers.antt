@@ -10,7 +10,7 @@ use Rattle.mc_asked.proofs.OneKeyLemmas.{map-same_keys}
 use Rattle.mc_asked.proofs.want_states.WantStates.add_to_group.Goals as goal
 use Rattle.mc_asked.proofs.want_states.WantStates.add_to_group.Goals.{After-add_to_run}
 
--- the wants of the group have the row
+-- The wants ascend, so that those of the group are next to each other: the run has exactly these.
 rows : (c : After-add_to_run)
     → c.add_to_run.new.wants.items
     ≡ map (want_with_row_if_group c.args.group c.self.inside.vifs.now c.args.key.now c.args.entry.now)
@@ -22,11 +22,13 @@ rows c =
     c.self.inside.wants.items c.run_of_group-run.result (c.deref.ensures.value ∙ c.self.invariant.0)
     c.run_of_group-run.ensures
 
+-- The keys ascend by the invariant.
 pub run_of_group-run-requires : goal.run_of_group-run-requires
 run_of_group-run-requires c = record {
   sorted = subst (IsStrictlySortedBy key_cmp) (sym c.deref.ensures.value) c.self.invariant.1;
 }
 
+-- There are as many wants as keys, so that a run of the keys is one of the wants.
 pub add_to_run-requires : goal.add_to_run-requires
 add_to_run-requires c =
     let count = ap length (c.deref.ensures.value ∙ c.self.invariant.0)
@@ -36,12 +38,13 @@ add_to_run-requires c =
       within = omega (arith, c.run_of_group-run.ensures.within, count);
     }
 
--- each want stays
+-- What keeps a want keeps it also if a test decides whether it is done.
 same_want : (row : StatedWantValue → StatedWantValue) → ((w : StatedWantValue) → (row w).want ≡ w.want)
     → (w : StatedWantValue) (b : Bool) → (cond b (row w) w).want ≡ w.want
 same_want row same w true = same w
 same_want row same w false = refl
 
+-- A row changes no want, only its state, so that the keys are still the wants.
 pub invariant_of-self : goal.invariant_of-self
 invariant_of-self c =
     let row = want_with_row_if_group c.args.group c.self.inside.vifs.now c.args.key.now c.args.entry.now in (
@@ -53,6 +56,7 @@ invariant_of-self c =
       c.self.invariant.1,
     )
 
+-- Each want of the group has the row, and the vifs are the same.
 pub returns : goal.returns
 returns c =
     let vifs = c.self.inside.vifs.now in

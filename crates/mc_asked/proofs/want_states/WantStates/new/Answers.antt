@@ -5,6 +5,7 @@ use Rattle.mc_asked.specs.WantStates.{StatedWantValue}
 use Rattle.mc_asked.proofs.WantStateLemmas.{wants-of_unstated}
 use Rattle.mc_asked.proofs.want_states.WantStates.new.Goals as goal
 
+-- The states are made of the wants themselves, which are the keys and ascend as required.
 pub invariant_of-result : goal.invariant_of-result
 invariant_of-result c = (
   c.in_ok-keys.ensures

@@ -3,6 +3,8 @@ use Rattle.mc_asked.specs.WantStates.{StatedWantValue, WantStatesValue, states_w
 use Rattle.mc_asked.proofs.WantStateLemmas.{rows-at_both, rows-of_group}
 use Rattle.mc_asked.proofs.want_states.WantStatesRowFold.add.Goals as goal
 
+-- An (S,G) entry counts only for two wants, that of any source of G and that of S and G. Every other want
+-- keeps its state.
 pub returns-then-not-is_unspecified : goal.returns-then-not-is_unspecified
 returns-then-not-is_unspecified c =
     let before = c.args.self.now in
@@ -17,6 +19,7 @@ returns-then-not-is_unspecified c =
     (rows-at_both before.vifs key entry before.wants
     (sym c.if-not-is_unspecified.ensures))
 
+-- A (*,G) entry counts only for the wants of G. Every other want keeps its state.
 pub returns-else-is_unspecified : goal.returns-else-is_unspecified
 returns-else-is_unspecified c =
     let before = c.args.self.now in

@@ -3,6 +3,7 @@ use Rattle.std.proofs.lemmas.List.{take_more}
 use Rattle.std.proofs.lemmas.Option.{get_or_from_slice_get, slice_get_within}
 use Rattle.mc_cert.proofs.certificate.Certificate.to_trees.Goals as goal
 
+-- The tree that is pushed is a copy of the next flow's.
 pub loop-flow-preserved : goal.loop-flow-preserved
 loop-flow-preserved c =
     let flows = c.args.self.now in

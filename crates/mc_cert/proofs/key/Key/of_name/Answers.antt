@@ -2,6 +2,7 @@ use Rattle.std.proofs.Common.{arith}
 use Rattle.mc_cert.proofs.KeyLemmas.{bytes_3, bytes_4, bytes_5, bytes_6, bytes_7}
 use Rattle.mc_cert.proofs.key.Key.of_name.Goals as goal
 
+-- The name was compared byte by byte, so that it is the key's name.
 pub returns-in-flows : goal.returns-in-flows
 returns-in-flows c =
     bytes_5 c.args.name.now (grind arith) (grind arith) (grind arith) (grind arith) (grind arith)

@@ -6,6 +6,7 @@ use Rattle.mc_cert.specs.TokenReader.{may_begin, may_close}
 use Rattle.mc_cert.proofs.TokenReaderLemmas.{begins-skipped, token-key, token-end_object}
 use Rattle.mc_cert.proofs.token_reader.TokenReader.next_key.Goals as goal
 
+-- A string and a colon, where a key may begin, are the token of a key.
 pub returns-in-Some-after_byte : goal.returns-in-Some-after_byte
 returns-in-Some-after_byte c =
     let skipped = c.skip_space.result.now in
@@ -19,6 +20,7 @@ returns-in-Some-after_byte c =
     (c.in_ok-name-in-34.ensures.content ∙ ap Some (sym c.as_bytes.ensures ∙ c.in-Some.ensures))
     c.in_ok-name-in-34.ensures.rest c.in-Some-after_byte.ensures)
 
+-- A closing brace, where an object may end, is the token of its end.
 pub returns-in-125 : goal.returns-in-125
 returns-in-125 c =
     let skipped = c.skip_space.result.now in

@@ -5,6 +5,7 @@ use Rattle.mc_cert.specs.TokenReader.{may_begin}
 use Rattle.mc_cert.proofs.TokenReaderLemmas.{token-number}
 use Rattle.mc_cert.proofs.token_reader.TokenReader.number.Goals as goal
 
+-- Digits before the end of a word, where a value may begin, are the token of a number.
 pub returns-clause-number : goal.returns-clause-number
 returns-clause-number c =
     let may : may_begin c.self.inside.place ≡ true = grind arith in

@@ -6,6 +6,7 @@ use Rattle.mc_cert.proofs.TokenReaderLemmas.{begins-skipped, no_end-before_objec
 use Rattle.mc_cert.proofs.TokenReaderLemmas.{token-end_array}
 use Rattle.mc_cert.proofs.token_reader.TokenReader.take_end_of_list.Goals as goal
 
+-- Before a brace the next token is an object's start, or there is none: no list ends.
 pub returns-in-123 : goal.returns-in-123
 returns-in-123 c =
     let skipped = c.skip_space.result.now in
@@ -18,6 +19,7 @@ returns-in-123 c =
       refl,
     )
 
+-- Before a bracket the next token is a list's start, or there is none: no list ends.
 pub returns-in-91 : goal.returns-in-91
 returns-in-91 c =
     let skipped = c.skip_space.result.now in
@@ -30,6 +32,7 @@ returns-in-91 c =
       refl,
     )
 
+-- A closing bracket, where a list may end, is the token of its end.
 pub returns-in-93 : goal.returns-in-93
 returns-in-93 c =
     let skipped = c.skip_space.result.now in

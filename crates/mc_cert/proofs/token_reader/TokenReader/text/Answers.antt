@@ -5,6 +5,8 @@ use Rattle.mc_cert.specs.JsonString.{text_bytes}
 use Rattle.mc_cert.proofs.TokenReaderLemmas.{token-string}
 use Rattle.mc_cert.proofs.token_reader.TokenReader.text.Goals as goal
 
+-- A string where a value may begin, and behind which no colon comes, is the token of a text and not of a
+-- key.
 pub returns : goal.returns
 returns c =
     let begins = c.in_ok-inside.ensures in

@@ -7,6 +7,7 @@ use Rattle.mc_cert.specs.Object.{rows_in}
 use Rattle.mc_cert.proofs.FieldLemmas.{DenotesTree-from_rows}
 use Rattle.mc_cert.proofs.tokens.entry.entries_value.Goals as goal
 
+-- The rows of the list denote the entries one by one, and are at most 1,024.
 pub returns : goal.returns
 returns c =
     let t = c.args.topology.now in

@@ -4,6 +4,7 @@ use Rattle.serde_json.specs.Data.{array}
 use Rattle.mc_cert.proofs.FieldLemmas.{DenotesFlows-from_rows}
 use Rattle.mc_cert.proofs.tokens.flow.flows_value.Goals as goal
 
+-- The rows of the list denote the trees of the flows one by one, and are as many as the flows.
 pub returns : goal.returns
 returns c =
     let t = c.args.topology.now in

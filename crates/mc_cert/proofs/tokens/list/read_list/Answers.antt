@@ -8,6 +8,7 @@ use Rattle.mc_cert.proofs.TokenLemmas.{shorter-from_Reads, ListSoFar-none, ListS
 use Rattle.mc_cert.proofs.TokenLemmas.{rows_in-items_of, EachDenotes-more}
 use Rattle.mc_cert.proofs.tokens.list.read_list.Goals as goal
 
+-- Behind the opening bracket no row has been read.
 pub rows-init : goal.rows-init
 rows-init g c = (
   [],
@@ -16,6 +17,7 @@ rows-init g c = (
   omega (arith, c.new-items.ensures.len),
 )
 
+-- A row has at least one token, so that fewer are left.
 pub rows-smaller : goal.rows-smaller
 rows-smaller g c =
     let going : (after_end_array c.rows.reader ≡ None) × (c.take_end_of_list.new.self ≡ c.rows.reader) =
@@ -25,6 +27,7 @@ rows-smaller g c =
     reads in
     rw (← going.1) less
 
+-- The row that was read is the next of the list, and denotes the next item.
 pub rows-preserved : goal.rows-preserved
 rows-preserved g c =
     let going : (after_end_array c.rows.reader ≡ None) × (c.take_end_of_list.new.self ≡ c.rows.reader) =
@@ -47,6 +50,7 @@ rows-preserved g c =
       omega (arith, c.in_ok-push.ensures.len, c.if-len-most.false, few),
     )
 
+-- The closing bracket ends the list, whose rows are those that were read.
 pub returns-clause-rows : goal.returns-clause-rows
 returns-clause-rows g c =
     let (ds, so_far, each, few) = c.rows.invariant in

@@ -6,6 +6,7 @@ use Rattle.mc_cert.specs.Tokens.{Reads}
 use Rattle.mc_cert.proofs.TokenLemmas.{read-from_Reads}
 use Rattle.mc_cert.proofs.tokens.object.read_document.Goals as goal
 
+-- No token is left behind the object, so that it is the value of the whole text.
 pub returns : goal.returns
 returns g c =
     let (ms, reads, held) = c.in_ok-fields.ensures in

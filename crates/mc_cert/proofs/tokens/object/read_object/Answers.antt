@@ -6,6 +6,7 @@ use Rattle.mc_cert.specs.Keys.{key_name}
 use Rattle.mc_cert.proofs.TokenLemmas.{shorter-from_Reads, ObjectSoFar-more, Reads-object}
 use Rattle.mc_cert.proofs.tokens.object.read_object.Goals as goal
 
+-- A key and its value have at least two tokens, so that fewer are left.
 pub members-smaller : goal.members-smaller
 members-smaller g c =
     let (d, reads, _) = c.in_ok-fields.ensures in
@@ -17,6 +18,7 @@ members-smaller g c =
       read_key-shorter c.members.reader (Some (key_name c.in-Some.key)) c.next_key.new.self key,
     )
 
+-- The value goes under its key in the members, in place of an earlier one, as it does in the fields.
 pub members-preserved : goal.members-preserved
 members-preserved g c =
     let (ms, so_far, holds) = c.members.invariant in
@@ -30,6 +32,7 @@ members-preserved g c =
       step ms holds,
     )
 
+-- The closing brace ends the object, whose members are those that were read.
 pub returns : goal.returns
 returns g c =
     let (ms, so_far, holds) = c.members.invariant in

@@ -7,6 +7,7 @@ use Rattle.mc_cert.specs.Tokens.{DenotesNumber}
 use Rattle.mc_cert.proofs.FieldLemmas.{DenotesNumbers-from_rows}
 use Rattle.mc_cert.proofs.tokens.shared_flow.tree_numbers_value.Goals as goal
 
+-- The rows of the list denote the numbers of the flows' trees one by one, and are as many as the flows.
 pub returns : goal.returns
 returns c =
     let t = c.args.topology.now in

@@ -5,6 +5,7 @@ use Rattle.mc_cert.specs.JsonString.{text_bytes}
 use Rattle.mc_cert.proofs.TokenLemmas.{Reads-string}
 use Rattle.mc_cert.proofs.tokens.value.address_value.Goals as goal
 
+-- The text is the dotted form of the address that was parsed from it.
 pub returns : goal.returns
 returns c =
     let text = text_bytes c.in_ok-text.text in

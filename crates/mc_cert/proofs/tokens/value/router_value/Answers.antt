@@ -4,6 +4,7 @@ use Rattle.serde_json.specs.Data.{string}
 use Rattle.mc_cert.proofs.TokenLemmas.{Reads-string}
 use Rattle.mc_cert.proofs.tokens.value.router_value.Goals as goal
 
+-- The text is the name by which the router was found.
 pub returns : goal.returns
 returns c =
     let name = c.in-Some.name.now in

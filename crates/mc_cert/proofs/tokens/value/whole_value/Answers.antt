@@ -4,6 +4,7 @@ use Rattle.serde_json.specs.Data.{number, unsigned}
 use Rattle.mc_cert.proofs.TokenLemmas.{Reads-decimal}
 use Rattle.mc_cert.proofs.tokens.value.whole_value.Goals as goal
 
+-- A token of decimal digits is JSON's whole number of that value, and the range was tested.
 pub returns-clause-value : goal.returns-clause-value
 returns-clause-value c =
     let n = c.in_ok-number.number in (

@@ -4,6 +4,7 @@ use Rattle.serde_json.specs.Data.{array}
 use Rattle.mc_cert.proofs.FieldLemmas.{DenotesTrees-from_rows}
 use Rattle.mc_cert.proofs.tokens.version_two.trees_value.Goals as goal
 
+-- The rows of the list denote the trees one by one, and are at most 4,096.
 pub returns : goal.returns
 returns c =
     let (ds, reads, each) = c.in_ok-trees.ensures.rows in

@@ -5,6 +5,7 @@ use Rattle.mc_cert.specs.Trees.{AreSharedTrees, trees_of}
 use Rattle.mc_cert.proofs.TreeLemmas.{length-AreSharedTrees, trees_of-push, AreSharedTrees-push}
 use Rattle.mc_cert.proofs.trees.Trees.push.Goals as goal
 
+-- The distinct trees are no more than the flows.
 pub number_of-requires : goal.number_of-requires
 number_of-requires c = record {
   bounded = (
@@ -16,6 +17,8 @@ number_of-requires c = record {
       ));
 }
 
+-- The trees, with this one added if it is new, are the distinct ones of the flows' trees with this flow's;
+-- and the number is that of its tree.
 pub invariant_of-self-2 : goal.invariant_of-self-2
 invariant_of-self-2 c =
     let distinct = c.self.inside.distinct in
@@ -34,6 +37,8 @@ invariant_of-self-2 c =
     c.in_ok-number.ensures.trees c.in_ok-number.ensures.number numbers c.self.invariant few
     c.requires.list)
 
+-- A tree that is added behind the others changes none of their numbers, so that the earlier flows keep
+-- their trees.
 pub returns-clause-pushed : goal.returns-clause-pushed
 returns-clause-pushed c =
     let grown = c.in_ok-push.ensures.items

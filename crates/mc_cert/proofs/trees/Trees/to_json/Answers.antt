@@ -7,6 +7,7 @@ use Rattle.mc_cert.proofs.TreeLemmas.{version_two_text-AreSharedTrees}
 use Rattle.mc_cert.proofs.WrittenCertificates.{certificate_json-denotes_as_written}
 use Rattle.mc_cert.proofs.trees.Trees.to_json.Goals as goal
 
+-- Each distinct tree is one of the flows', whose entries are the topology's.
 pub push_trees-requires : goal.push_trees-requires
 push_trees-requires c = record {
   valid = (
@@ -15,6 +16,7 @@ push_trees-requires c = record {
       (c.trees-trees.ensures ∙ c.self.invariant.distinct ∙ ap distinct_trees c.self.view_is));
 }
 
+-- The pieces are those of the text in version 2, of the distinct trees and of each flow's number.
 pub returns-clause-text : goal.returns-clause-text
 returns-clause-text c =
     let is : string_bytes c.push_str-2.new.self
@@ -25,6 +27,7 @@ returns-clause-text c =
     ∙ version_two_text-AreSharedTrees c.args.topology.now c.self.inside.distinct c.self.inside.numbers.items
     c.self.invariant ∙ ap (certificate_json c.args.topology.now) c.self.view_is
 
+-- The text of a certificate denotes it. That its numbers are bytes was seen as they were written.
 pub returns-clause-denotes : goal.returns-clause-denotes
 returns-clause-denotes c = λ few.
     certificate_json-denotes_as_written c.args.topology.now c.args.self.now

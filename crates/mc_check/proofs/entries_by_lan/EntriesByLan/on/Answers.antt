@@ -1,3 +1,5 @@
+-- What is stored at a LAN's number is the first entry of the list that names the LAN: so says the invariant
+-- of the type.
 use Rattle.std.proofs.Common.{List, ap, ◌∙◌}
 use Rattle.mc_theory.specs.Certificates.{Entry}
 use Rattle.mc_theory.specs.Reasons.{entry_on}

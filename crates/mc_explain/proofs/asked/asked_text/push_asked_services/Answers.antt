@@ -1,3 +1,4 @@
+-- There is a service, so the line of the services isn't left out, and is what was written.
 use Rattle.std.proofs.Common.{List, ℕ, ◌++◌, ◌∙◌, ap, sym}
 use Rattle.std.specs.String.{string_bytes}
 use Rattle.mc_explain.proofs.AskedLemmas.{services_text-some_service}

@@ -8,10 +8,12 @@ use Rattle.mc_explain.proofs.asked.routers_by_state.routers_in.Goals as goal
 use Rattle.mc_explain.proofs.asked.routers_by_state.routers_in.Goals.{then-is_same_state+in_ok-push}
 use Rattle.mc_explain.proofs.asked.routers_by_state.routers_in.Goals.{else-is_same_state}
 
+-- Before the first router none is taken.
 pub loop-router-init : goal.loop-router-init
 unfolding below
 loop-router-init c = c.new-routers.ensures.items
 
+-- A router is taken exactly if its state is the wanted one, so the list stays that of the routers so far.
 pub loop-router-preserved : goal.loop-router-preserved
 loop-router-preserved c =
     let states = c.args.states.now in

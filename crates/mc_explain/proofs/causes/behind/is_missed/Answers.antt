@@ -1,3 +1,4 @@
+-- The place of a LAN is empty exactly where the LAN carried no copy.
 use Rattle.std.proofs.Common.{◌≡◌, Bool, ap, rules, ◌∙◌}
 use Rattle.std.specs.Prelude.{◌&&◌, is_none}
 use Rattle.mc_theory.specs.Findings.{first_copy_on}

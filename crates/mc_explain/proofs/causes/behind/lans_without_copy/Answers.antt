@@ -8,10 +8,12 @@ use Rattle.mc_explain.proofs.causes.behind.lans_without_copy.Goals as goal
 use Rattle.mc_explain.proofs.causes.behind.lans_without_copy.Goals.{then-is_missed+in_ok-push}
 use Rattle.mc_explain.proofs.causes.behind.lans_without_copy.Goals.{else-is_missed}
 
+-- Before the first LAN none is taken.
 pub loop-number-init : goal.loop-number-init
 unfolding below
 loop-number-init c = λ copies are. c.new-lans.ensures.items
 
+-- A LAN is taken exactly if it wants the flow and its place is empty: if it carried no copy.
 pub loop-number-preserved : goal.loop-number-preserved
 loop-number-preserved c =
     let test : List Copy → ℕ → Bool = λ copies. is_missed (net_in c.args.view.now) copies in
@@ -26,6 +28,7 @@ loop-number-preserved c =
           (sym (c.is_missed.ensures copies are) ∙ w.if-is_missed.false))
     ]
 
+-- All LANs are done.
 pub returns : goal.returns
 returns c = λ copies are.
     (let all : c.loop-number.number ≡ length c.args.view.now.domain.topology.lans =

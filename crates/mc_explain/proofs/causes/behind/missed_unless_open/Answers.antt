@@ -1,3 +1,4 @@
+-- No router is excluded and none has an open row, so the LANs without a copy are called missed.
 use Rattle.std.proofs.Common.{◌≡◌, ℕ, List, subst, sym, ◌∙◌}
 use Rattle.std.specs.Prelude.{IfOk}
 use Rattle.mc_forward.specs.FlightsInDomain.{net_in}

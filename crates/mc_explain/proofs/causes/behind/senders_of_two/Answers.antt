@@ -1,4 +1,5 @@
--- By the sender of the LAN's first copy.
+-- The sender that is kept for the LAN is that of its first copy, and each sender other than the source
+-- makes one cause.
 use Rattle.std.proofs.Common.{◌≡◌, ◌∙◌, ap}
 use Rattle.mc_theory.specs.Flights.{Copy}
 use Rattle.mc_theory.specs.Findings.{sender_on}

@@ -1,3 +1,4 @@
+-- There is such a LAN, so the line isn't left out.
 use Rattle.std.proofs.Common.{List, ℕ, ◌++◌, ◌∙◌, ap, sym}
 use Rattle.std.specs.String.{string_bytes}
 use Rattle.mc_explain.proofs.ShownNameLemmas.{missed_behind_text-some_lan}

@@ -1,3 +1,4 @@
+-- There is such a router, so the line isn't left out.
 use Rattle.std.proofs.Common.{List, ℕ, ◌++◌, ◌∙◌, ap, sym}
 use Rattle.std.specs.String.{string_bytes}
 use Rattle.mc_explain.proofs.ShownNameLemmas.{not_known_past_text-some_router}

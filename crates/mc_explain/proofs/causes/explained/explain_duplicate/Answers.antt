@@ -1,4 +1,5 @@
--- By the first copy of the LAN, and its second.
+-- The copy that is kept for the LAN is its first one, and the kept second copy is the flight's first double
+-- one.
 use Rattle.std.proofs.Common.{◌≡◌, ℕ, Some, refl, ap, subst, ◌∙◌}
 use Rattle.mc_theory.specs.Flights.{Copy}
 use Rattle.mc_theory.specs.Findings.{first_copy_on}
@@ -8,6 +9,7 @@ use Rattle.mc_explain.proofs.FoundCopyLemmas.{is_remedy-same_copy, first_double-
 use Rattle.mc_explain.proofs.FoundCopyLemmas.{causes-two_senders}
 use Rattle.mc_explain.proofs.causes.explained.explain_duplicate.Goals as goal
 
+-- A LAN with a second copy has a first.
 pub unreachable-requires : goal.unreachable-requires
 unreachable-requires c =
     let cs = c.args.flight.now.flight.carried in
@@ -17,6 +19,7 @@ unreachable-requires c =
     has.is.first c.in_ok-first_copies.ensures.first_copies c.copies.ensures.copies refl c.on.ensures
     c.in_default.is (subst (λ (l : ℕ). first_copy_on cs l ≡ Some has.is.first) has.on has.is.path.on)
 
+-- The senders are those of the two copies, and the remedy is the one for the second.
 pub returns : goal.returns
 returns c = record {
   ok = (

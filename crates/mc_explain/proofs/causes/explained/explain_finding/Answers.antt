@@ -6,6 +6,7 @@ use Rattle.mc_explain.specs.LastFlights.{EndsTravel}
 use Rattle.mc_explain.proofs.LastFlightLemmas.{has_second_copy-from_duplicate, has_loop-from_loop}
 use Rattle.mc_explain.proofs.causes.explained.explain_finding.Goals as goal
 
+-- A travel that finds a duplicate ends with a flight whose first double copy is on that LAN.
 pub explain_duplicate-requires-clause-second : goal.explain_duplicate-requires-clause-second
 explain_duplicate-requires-clause-second c =
     let f = c.args.view.now in
@@ -15,6 +16,7 @@ explain_duplicate-requires-clause-second c =
     has_second_copy-from_duplicate f c.requires.travel.0 c.in-Duplicate.lan j c.topology-rules.ensures.rules
     ends
 
+-- A travel that finds a loop ends with a flight whose first double copy came from its own LAN.
 pub explain_loop-requires-clause-second : goal.explain_loop-requires-clause-second
 explain_loop-requires-clause-second c =
     let f = c.args.view.now in

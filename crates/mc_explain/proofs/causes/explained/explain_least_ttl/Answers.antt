@@ -1,4 +1,5 @@
--- By the first copy of the LAN, and its path.
+-- The copy that is kept for the LAN is its first one, and the hops that were found are its path. Packets
+-- with the flow's TTL don't get through that path, so that one of its hops stops them.
 use Rattle.std.proofs.Common.{ℕ, ◌≤◌, List, [], ◌∷◌, ◌++◌, refl, ap, sym, subst, ◌∙◌}
 use Rattle.mc_theory.specs.Paths.{Hop, need}
 use Rattle.mc_forward.specs.FlightsInDomain.{net_in}
@@ -9,6 +10,7 @@ use Rattle.mc_explain.proofs.FoundCopyLemmas.{passes_hops-from_no_stop, is_stopp
 use Rattle.mc_explain.proofs.FoundCopyLemmas.{causes-two_pushed}
 use Rattle.mc_explain.proofs.causes.explained.explain_least_ttl.Goals as goal
 
+-- If no hop stopped a packet with the flow's TTL, it would get through the path, which it doesn't.
 pub unreachable-requires-in_default-first_stop : goal.unreachable-requires-in_default-first_stop
 unreachable-requires-in_default-first_stop c =
     let n = net_in c.args.view.now in
@@ -24,6 +26,7 @@ unreachable-requires-in_default-first_stop c =
     c.first_stop.result
     c.first_stop.ensures c.ttl.ensures path c.in_default-first_stop.is)
 
+-- A packet with TTL 255 came by this path, so its need is at most 255.
 pub need-requires : goal.need-requires
 need-requires c = record {
   bounded = (
@@ -41,6 +44,7 @@ need-requires c = record {
       in subst (λ (hs : List Hop). need hs ≤ 255) (sym path) r.path.small);
 }
 
+-- The causes are the need of the path and its first hop that stops a packet with the flow's TTL.
 pub returns : goal.returns
 returns c = record {
   ok = (

@@ -1,4 +1,5 @@
--- By the hops that were found.
+-- The kept second copy is the flight's first double one, so the hops that were found are those by which
+-- that copy came from its own LAN.
 use Rattle.std.proofs.Common.{length}
 use Rattle.mc_theory.specs.Hops.{hops_until}
 use Rattle.mc_forward.specs.FlightsInDomain.{net_in}

@@ -1,4 +1,5 @@
--- By the first copy of its LAN.
+-- The copy that is kept for the LAN is its first one, and the hops that were found are its path. The second
+-- copy was sent by an interface that isn't on that path.
 use Rattle.std.proofs.Common.{◌≡◌, ◌≤◌, List, Some, refl, ap, sym, subst, ◌∙◌}
 use Rattle.mc_theory.specs.Flights.{Copy}
 use Rattle.mc_theory.specs.Paths.{Hop, need}
@@ -7,6 +8,7 @@ use Rattle.mc_explain.proofs.FoundCopyLemmas.{held-not_none_on_first, held-is_fi
 use Rattle.mc_explain.proofs.FoundCopyLemmas.{found_hops-are_path, is_remedy-from_second_copy}
 use Rattle.mc_explain.proofs.causes.explained.remedy_for.Goals as goal
 
+-- A LAN with a second copy has a first.
 pub unreachable-requires : goal.unreachable-requires
 unreachable-requires c =
     let cs = c.args.flight.now.flight.carried in
@@ -15,6 +17,7 @@ unreachable-requires c =
     c.requires.second.first c.requires.first_copies refl lan c.on.ensures c.in_default.is
     c.requires.second.path.on
 
+-- The travel's packet came by this path, so its need is at most 255.
 pub need-requires : goal.need-requires
 need-requires c = record {
   bounded = (
@@ -30,6 +33,7 @@ need-requires c = record {
       subst (λ (hs : List Hop). need hs ≤ 255) (sym path) c.requires.second.path.small);
 }
 
+-- Packets reach the LAN by the first copy's path where the second copy's sender is taken out.
 pub returns : goal.returns
 returns c = record {
   ok = (

@@ -1,4 +1,5 @@
--- Hop by hop, from the end of the list.
+-- The packet got through all hops before this one, and what is left of its TTL isn't above the hop's
+-- threshold.
 use Rattle.std.proofs.Common.{◌≡◌, ap, arith}
 use Rattle.mc_theory.specs.Paths.{Hop}
 use Rattle.mc_explain.proofs.NeedLemmas.{stopping_hop-there}

@@ -1,4 +1,5 @@
--- Hop by hop.
+-- The sender that is kept for the LAN from which the hop takes is that of the LAN's first copy, with which
+-- the walk back goes on.
 use Rattle.std.proofs.Common.{◌≡◌, ℕ, ◌+◌, ◌++◌, length, drop, Some, ap, sym, subst, ◌∙◌}
 use Rattle.std.specs.Prelude.{option_and_then}
 use Rattle.mc_theory.specs.Flights.{Copy}

@@ -1,4 +1,4 @@
--- Hop by hop.
+-- Before any hop a packet needs a TTL of 1.
 use Rattle.mc_explain.proofs.NeedLemmas.{need_so_far-none}
 use Rattle.mc_explain.proofs.causes.path.need.Goals as goal
 

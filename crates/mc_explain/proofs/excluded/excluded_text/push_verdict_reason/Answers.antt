@@ -1,3 +1,4 @@
+-- Some router is excluded, so the line isn't left out.
 use Rattle.std.proofs.Common.{List, ℕ, ◌++◌, ◌∙◌, ap, sym}
 use Rattle.std.specs.String.{string_bytes}
 use Rattle.mc_explain.proofs.ShownNameLemmas.{verdict_reason-some_router}

@@ -1,3 +1,4 @@
+-- The names of a valid topology have no line feed, so each line begins with its own words.
 use Rattle.mc_explain.proofs.ExcludedLemmas.{are_indented-excluded_text, are_excluded_lines-excluded_lines}
 use Rattle.mc_explain.proofs.laws.excluded_laws.excluded_lines_have_prefix.Goals as goal
 

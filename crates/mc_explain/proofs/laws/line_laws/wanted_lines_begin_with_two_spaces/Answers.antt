@@ -1,4 +1,4 @@
--- Piece by piece.
+-- The names of a valid topology have no line feed, so the only one is that at the end of the line.
 use Rattle.mc_explain.proofs.NameListLemmas.{are_indented-also_missed_text, are_indented-wanted_text}
 use Rattle.mc_explain.proofs.laws.line_laws.wanted_lines_begin_with_two_spaces.Goals as goal
 

@@ -1,4 +1,4 @@
--- Interface by interface.
+-- An interface goes to the end of its own LAN's list alone.
 use Rattle.std.proofs.Common.{◌≡◌, ℕ, ◌<◌, ◌++◌, List, [], ◌∷◌, Option, length, take, get_or, sym, ap}
 use Rattle.std.proofs.Common.{subst, ◌∙◌, arith, append_assoc}
 use Rattle.std.specs.Prelude.{unwrap_or}
@@ -12,6 +12,7 @@ use Rattle.mc_explain.specs.TopologyLans.{interface_at, listed_interface_at, lis
 use Rattle.mc_explain.proofs.BucketLemmas.{are_buckets-more}
 use Rattle.mc_explain.proofs.searches.interfaces_of_lans.add_interfaces.Goals as goal
 
+-- The list of the interface's LAN gets it, and the other lists stay.
 pub loop-number-preserved : goal.loop-number-preserved
 loop-number-preserved c =
     let d = facts c.args.domain.now in
@@ -51,6 +52,7 @@ loop-number-preserved c =
           c.index_mut-list.ensures.value more (c.loop-number.invariant.holds earlier h));
     }
 
+-- All of these interfaces are done, so each LAN's list has them after the earlier ones.
 pub returns-clause-each : goal.returns-clause-each
 returns-clause-each c = λ earlier h.
     let numbers = c.args.numbers.now in

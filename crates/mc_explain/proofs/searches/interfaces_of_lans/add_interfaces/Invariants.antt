@@ -3,6 +3,7 @@ use Rattle.mc_forward.specs.ListedTables.{facts}
 use Rattle.mc_explain.specs.BucketsAndMarks.{AreInterfacesByLan}
 use Rattle.mc_explain.proofs.searches.interfaces_of_lans.add_interfaces.Given as goal
 
+-- each LAN's list has its interfaces of the earlier ones, and then of those so far
 abbrev pub invariant-loop-number : goal.invariant-loop-number
 invariant-loop-number l = record {
   count : length l.lists.items ≡ length l.fn.domain.topology.lans;

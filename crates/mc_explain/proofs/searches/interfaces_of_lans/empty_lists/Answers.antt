@@ -1,3 +1,4 @@
+-- As many lists are added as are asked for, each without an item.
 use Rattle.mc_forward.proofs.VifLanLemmas.{map_below-none, map_below-push}
 use Rattle.mc_explain.proofs.searches.interfaces_of_lans.empty_lists.Goals as goal
 

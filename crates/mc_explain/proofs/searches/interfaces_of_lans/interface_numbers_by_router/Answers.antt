@@ -1,4 +1,5 @@
--- Interface by interface.
+-- An interface goes to the end of its own router's list alone, so that each list has the router's
+-- interfaces in the topology's order.
 use Rattle.std.proofs.Common.{◌≡◌, ℕ, ◌<◌, ◌++◌, List, [], ◌∷◌, Option, length, filter, ◌==◌, sym, ap}
 use Rattle.std.proofs.Common.{subst, ◌∙◌, arith}
 use Rattle.std.specs.Prelude.{unwrap_or}
@@ -12,6 +13,7 @@ use Rattle.mc_explain.specs.TopologyLans.{interface_at, interfaces_of_router}
 use Rattle.mc_explain.proofs.BucketLemmas.{are_buckets-none, are_buckets-more, map-identity}
 use Rattle.mc_explain.proofs.searches.interfaces_of_lans.interface_numbers_by_router.Goals as goal
 
+-- At first there is an empty list for each router.
 pub loop-number-init : goal.loop-number-init
 unfolding below
 loop-number-init c =
@@ -24,6 +26,7 @@ loop-number-init c =
           c.routers.result c.in_ok-lists.ensures;
     }
 
+-- The list of the interface's router gets its number, and the other lists stay.
 pub loop-number-preserved : goal.loop-number-preserved
 loop-number-preserved c =
     let t = c.args.topology.now in
@@ -47,6 +50,7 @@ loop-number-preserved c =
           c.loop-number.invariant.holds);
     }
 
+-- All interfaces are done, so each list has those of its router.
 pub returns : goal.returns
 returns c =
     let t = c.args.topology.now in

@@ -4,6 +4,7 @@ use Rattle.mc_explain.specs.BucketsAndMarks.{AreBuckets}
 use Rattle.mc_explain.specs.TopologyLans.{interface_at}
 use Rattle.mc_explain.proofs.searches.interfaces_of_lans.interface_numbers_by_router.Given as goal
 
+-- each router's list has the numbers of its interfaces, of those so far
 abbrev pub invariant-loop-number : goal.invariant-loop-number
 invariant-loop-number l = record {
   count : length l.lists.items ≡ length l.fn.topology.routers;

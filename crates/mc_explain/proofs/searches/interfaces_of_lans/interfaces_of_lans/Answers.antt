@@ -1,4 +1,5 @@
--- Router by router.
+-- The interfaces are added router by router, so each LAN's list has them by router, and each router's in
+-- the topology's order.
 use Rattle.std.proofs.Common.{◌≡◌, ℕ, ◌<◌, ◌++◌, List, [], length, filter, ◌==◌, map, flat_map}
 use Rattle.std.proofs.Common.{get_or, sym, ap, subst, ◌∙◌, arith}
 use Rattle.std.proofs.lemmas.List.{length-map}
@@ -23,6 +24,7 @@ lists-by_routers t u xs ys same copied found =
     copied ∙ found ∙ ap (λ (v : TopologyValue). map (interfaces_of_router v (below (length v.interfaces)))
     (below (length v.routers))) same
 
+-- At first there is an empty list for each LAN.
 pub loop-router-init : goal.loop-router-init
 unfolding below
 loop-router-init c =
@@ -36,6 +38,7 @@ loop-router-init c =
           c.in_ok-lists.lists.items c.lans.result c.in_ok-lists.ensures;
     }
 
+-- The numbers of a router's interfaces are some of all, which are below their count.
 pub add_interfaces-requires-clause-numbers : goal.add_interfaces-requires-clause-numbers
 add_interfaces-requires-clause-numbers c = λ k default lt.
     let t = c.args.domain.now.topology in
@@ -53,6 +56,7 @@ add_interfaces-requires-clause-numbers c = λ k default lt.
     (get_or-filter_below_is_less (λ j. (interface_at t j).router == i) count k default
     (subst (λ (ks : List ℕ). k < length ks) own lt))
 
+-- This router's interfaces come after those of the routers before it.
 pub loop-router-preserved : goal.loop-router-preserved
 loop-router-preserved c =
     let d = facts c.args.domain.now in
@@ -77,6 +81,7 @@ loop-router-preserved c =
           c.loop-router.invariant.holds);
     }
 
+-- All routers are done, so each LAN's list has all interfaces on it.
 pub returns : goal.returns
 returns c =
     let d = facts c.args.domain.now in

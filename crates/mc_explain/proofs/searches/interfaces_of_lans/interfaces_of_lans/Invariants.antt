@@ -5,6 +5,7 @@ use Rattle.mc_explain.specs.BucketsAndMarks.{AreInterfacesByLan}
 use Rattle.mc_explain.specs.TopologyLans.{interfaces_of_router}
 use Rattle.mc_explain.proofs.searches.interfaces_of_lans.interfaces_of_lans.Given as goal
 
+-- each LAN's list has the interfaces on it of the routers so far
 abbrev pub invariant-loop-router : goal.invariant-loop-router
 invariant-loop-router l = record {
   count : length l.lists.items ≡ length l.fn.domain.topology.lans;

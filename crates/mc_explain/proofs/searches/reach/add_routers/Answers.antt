@@ -1,4 +1,4 @@
--- Router by router.
+-- The marks say which routers are listed, so that a router is added exactly where it isn't.
 use Rattle.std.proofs.Common.{◌≡◌, ℕ, List, ◌∷◌, inl, inr, map, refl, sym, ap, subst, ◌∙◌, arith}
 use Rattle.mc_theory.specs.Lists.{In}
 use Rattle.mc_forward.specs.ListedTables.{facts}
@@ -7,6 +7,8 @@ use Rattle.mc_explain.specs.SearchLine.{append_new, router_of_group}
 use Rattle.mc_explain.proofs.ReachLemmas.{group_router-of_topology}
 use Rattle.mc_explain.proofs.searches.reach.add_routers.Goals as goal
 
+-- The routers that are left are at first all on the LAN; each is one of the topology's, for which there are
+-- marks.
 pub loop-router_on_lan-init : goal.loop-router_on_lan-init
 loop-router_on_lan-init c =
     let d = facts c.args.lan_probe.now.view.now.domain in
@@ -22,6 +24,7 @@ loop-router_on_lan-init c =
           omega (arith, lt, c.requires.room);
     }
 
+-- The next router is one of those that are left, so it has a mark.
 pub add_router-requires-clause-router : goal.add_router-requires-clause-router
 add_router-requires-clause-router c =
     let lt = c.loop-router_on_lan.invariant.inside c.in-Some.router_on_lan
@@ -30,6 +33,7 @@ add_router-requires-clause-router c =
     ap router_of_group c.router_on_lan.view_is in
     omega (arith, lt, own, c.loop-router_on_lan.invariant.count)
 
+-- Adding the next router and then the others comes to adding all that were left.
 pub loop-router_on_lan-preserved : goal.loop-router_on_lan-preserved
 loop-router_on_lan-preserved c =
     let old = c.loop-router_on_lan.routers.items in

@@ -6,6 +6,7 @@ use Rattle.mc_explain.specs.BucketsAndMarks.{AreMarksOfListed}
 use Rattle.mc_explain.specs.SearchLine.{append_new, router_of_group, routers_on}
 use Rattle.mc_explain.proofs.searches.reach.add_routers.Given as goal
 
+-- with the routers that are left, the list becomes what it is to be; the marks say which routers it has
 abbrev pub invariant-loop-router_on_lan : goal.invariant-loop-router_on_lan
 invariant-loop-router_on_lan l = record {
   count : length l.listed ≡ length l.fn.listed;

@@ -3,6 +3,7 @@ use Rattle.std.specs.Prelude.{slice_index_or}
 use Rattle.mc_explain.specs.SearchReach.{has_event}
 use Rattle.mc_explain.proofs.searches.reach.mark_routers.Given as goal
 
+-- a router is marked in the end exactly if it is now, or an event that is left marks it
 abbrev pub invariant-loop-event : goal.invariant-loop-event
 invariant-loop-event l = record {
   count : length l.marks ≡ length l.fn.marks;

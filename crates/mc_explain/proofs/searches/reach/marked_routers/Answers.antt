@@ -1,4 +1,4 @@
--- Router by router.
+-- A router is taken exactly if it has a mark.
 use Rattle.std.proofs.Common.{◌≡◌, ℕ, ◌<◌, ◌++◌, ◌∷◌, [], Vec, Global, length, get_or, true, false}
 use Rattle.std.proofs.Common.{sym, ap, subst, ◌∙◌}
 use Rattle.mc_topology.specs.declared.number.RouterNo.{RouterNo}

@@ -1,4 +1,5 @@
--- By the marks.
+-- A mark of either kind says whether a router has an event of that kind; the routers that took none are
+-- those with such an event whose mark no event of a sent copy takes away.
 use Rattle.std.proofs.Common.{◌&&◌, ◌∙◌, ℕ, Bool, List, ap, false, arith, drop, length, not, subst, sym}
 use Rattle.std.specs.Prelude.{slice_index_or}
 use Rattle.std.proofs.lemmas.List.{take_at}

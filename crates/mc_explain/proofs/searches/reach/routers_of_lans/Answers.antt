@@ -1,4 +1,4 @@
--- LAN by LAN.
+-- Each LAN adds those of its routers that no LAN before it has.
 use Rattle.std.proofs.Common.{◌==◌, ◌≤◌, ◌∙◌, ℕ, Bool, List, ap, arith, drop, false, length, subst, sym, take}
 use Rattle.std.specs.List.{list_any}
 use Rattle.std.specs.Prelude.{slice_index_or}
@@ -10,6 +10,7 @@ use Rattle.mc_explain.proofs.FilterLemmas.{slice_index_or-replicate_false}
 use Rattle.mc_explain.proofs.ReachLemmas.{routers_of_lans-all_below, routers_of_lans-more}
 use Rattle.mc_explain.proofs.searches.reach.routers_of_lans.Goals as goal
 
+-- At first no router is listed, and none is marked.
 pub loop-lan-init : goal.loop-lan-init
 loop-lan-init c =
     let none = c.in_ok-listed.ensures in
@@ -23,6 +24,7 @@ loop-lan-init c =
           ∙ sym (ap (λ (rs : List ℕ). list_any (λ m. m == n) rs) c.new-routers.ensures.items);
     }
 
+-- The LAN's routers are added, and marked with them.
 pub loop-lan-preserved : goal.loop-lan-preserved
 loop-lan-preserved c =
     let listed = c.add_routers.new.listed in
@@ -40,6 +42,7 @@ loop-lan-preserved c =
           c.in_ok-add_routers.ensures.listed;
     }
 
+-- Each router on a LAN is one of the topology's.
 pub returns-clause-within : goal.returns-clause-within
 returns-clause-within c =
     let routers = c.args.lan_probe.now.view.now.domain.topology.routers in

@@ -4,6 +4,7 @@ use Rattle.mc_explain.specs.BucketsAndMarks.{AreMarksOfListed}
 use Rattle.mc_explain.specs.SearchReach.{routers_of_lans}
 use Rattle.mc_explain.proofs.searches.reach.routers_of_lans.Given as goal
 
+-- the list has the routers on the LANs so far, and the marks say which these are
 abbrev pub invariant-loop-lan : goal.invariant-loop-lan
 invariant-loop-lan l = record {
   count : length l.listed.items ≡ length l.fn.lan_probe.view.now.domain.topology.routers;

@@ -4,6 +4,7 @@ use Rattle.mc_explain.specs.SearchReach.{has_event}
 use Rattle.mc_explain.specs.declared.searches.reach.Handling.TheVariants.{SentOn}
 use Rattle.mc_explain.proofs.searches.reach.unmark_senders.Given as goal
 
+-- a router keeps its mark in the end exactly if it has one now and none of the events that are left sends
 abbrev pub invariant-loop-event : goal.invariant-loop-event
 invariant-loop-event l = record {
   count : length l.marks ≡ length l.fn.marks;

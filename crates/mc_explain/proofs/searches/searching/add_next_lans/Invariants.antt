@@ -5,6 +5,7 @@ use Rattle.mc_explain.specs.LanProbe.{IsVisitedLans}
 use Rattle.mc_explain.specs.SearchLine.{append_new, next_lan}
 use Rattle.mc_explain.proofs.searches.searching.add_next_lans.Given as goal
 
+-- with the LANs of the lines that are left, the visited ones become what they are to be
 abbrev pub invariant-loop-line : goal.invariant-loop-line
 invariant-loop-line l = record {
   rest : append_new l.visited_lans.lans.items (filter_map (next_lan (search_in l.fn.lan_probe))

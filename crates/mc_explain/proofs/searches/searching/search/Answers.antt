@@ -1,4 +1,5 @@
--- By the first copies.
+-- What is kept for a search, the first copy on each LAN among it, makes it the search of this flight's
+-- flow.
 use Rattle.std.proofs.Common.{subst}
 use Rattle.std.specs.Prelude.{IfOk}
 use Rattle.mc_explain.specs.SearchReach.{IsLanSearch}

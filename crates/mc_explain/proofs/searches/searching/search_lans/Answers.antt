@@ -1,4 +1,6 @@
--- LAN by LAN.
+-- The LAN at each position of the list of visited ones is searched, and the LANs to which its lines lead
+-- are added. There are as many positions as LANs, and no LAN is visited twice, so that all visited ones are
+-- searched.
 use Rattle.std.proofs.Common.{◌≡◌, ℕ, ◌≤◌, List, Vec, Global, Some, None, length, flat_map, sym, ap}
 use Rattle.std.proofs.Common.{subst, ◌∙◌, arith}
 use Rattle.std.specs.Prelude.{slice_get}
@@ -13,6 +15,8 @@ use Rattle.mc_explain.proofs.SearchLemmas.{lines_so_far-more, lines_so_far-same}
 use Rattle.mc_explain.proofs.searches.searching.search_lans.Goals as goal
 use Rattle.mc_explain.proofs.searches.searching.search_lans.Goals.{in-Some+in_ok-search_one_lan, in_default}
 
+-- A LAN at this position is searched: its lines come after the others. Where there is none, nothing is left
+-- to search.
 pub loop-position-preserved : goal.loop-position-preserved
 loop-position-preserved c =
     let s = search_in c.args.lan_probe.now in
@@ -52,6 +56,7 @@ loop-position-preserved c =
           })
     ]
 
+-- The visited LANs are no more than there are positions, so each has its lines.
 pub returns-clause-lines : goal.returns-clause-lines
 returns-clause-lines c =
     let s = search_in c.args.lan_probe.now in
@@ -69,6 +74,7 @@ returns-clause-lines c =
     ∙ ap (flat_map (lines_of_lan s)) (take_all k (visited_lans s missed k) few)
     ∙ ap (λ (n : ℕ). flat_map (lines_of_lan s) (visited_lans s missed n)) end
 
+-- There were as many steps as LANs.
 pub returns-clause-lans : goal.returns-clause-lans
 returns-clause-lans c =
     let count = length c.args.lan_probe.now.view.now.domain.topology.lans in

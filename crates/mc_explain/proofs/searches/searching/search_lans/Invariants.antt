@@ -4,6 +4,7 @@ use Rattle.mc_explain.specs.LanProbe.{IsVisitedLans}
 use Rattle.mc_explain.specs.SearchLine.{lines_of_lan, visited_lans}
 use Rattle.mc_explain.proofs.searches.searching.search_lans.Given as goal
 
+-- after so many steps these are the visited LANs, and the lines are those of the searched ones
 abbrev pub invariant-loop-position : goal.invariant-loop-position
 invariant-loop-position l = record {
   lans : l.visited_lans.lans.items ≡ visited_lans (search_in l.fn.lan_probe) l.fn.missed l.position;

@@ -1,4 +1,4 @@
--- By the lines that were added.
+-- The added lines are those of the LAN, and a line leads only to a LAN on which the domain places a vif.
 use Rattle.std.proofs.Common.{◌≡◌, length, refl, ◌∙◌, arith}
 use Rattle.mc_explain.specs.LanProbe.{search_in}
 use Rattle.mc_explain.proofs.NextLanLemmas.{added_line-inside, places_inside-from_is_domain}

@@ -1,4 +1,5 @@
--- Pair by pair.
+-- The pairs ascend strictly, so a search by halving finds a pair at its only place, or shows that it isn't
+-- among them.
 use Rattle.std.proofs.Common.{◌≡◌, ℕ, ◌+◌, ◌++◌, ◌∷◌, [], List, Vec, Global, get_or, map, set, take, refl}
 use Rattle.std.proofs.Common.{sym, ap}
 use Rattle.std.proofs.Common.{◌∙◌}
@@ -12,10 +13,13 @@ use Rattle.mc_explain.proofs.UnlistedPairLemmas.{with_routers_so_far}
 use Rattle.mc_explain.proofs.unlisted.unlisted_pairs.add_router.Goals as goal
 use Rattle.mc_explain.proofs.unlisted.unlisted_pairs.add_router.Goals.{in-Ok+in_ok-add, in_default}
 
+-- Before the first of the router's own pairs, each pair has the routers with lower numbers.
 pub loop-pair-init : goal.loop-pair-init
 loop-pair-init c =
     c.requires.shown ∙ with_routers_so_far-none c.args.summary.now c.args.router c.args.pairs.now
 
+-- Where the router's pair is among the shown ones, the router is added at that place; where it isn't, no
+-- list changes.
 pub loop-pair-preserved : goal.loop-pair-preserved
 loop-pair-preserved c =
     let summary = c.args.summary.now in
@@ -54,6 +58,7 @@ loop-pair-preserved c =
           ∙ next)
     ]
 
+-- All of the router's pairs are done, so each pair has the routers up to this one.
 pub returns : goal.returns
 returns c = record {
   ok = (

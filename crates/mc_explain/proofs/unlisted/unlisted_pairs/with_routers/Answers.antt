@@ -1,3 +1,4 @@
+-- Before the first router no pair has one.
 use Rattle.mc_theory.specs.Lists.{below}
 use Rattle.mc_explain.proofs.unlisted.unlisted_pairs.with_routers.Goals as goal
 

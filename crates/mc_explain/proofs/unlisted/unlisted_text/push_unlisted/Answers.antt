@@ -1,3 +1,5 @@
+-- The pairs that are written are the shown ones, each with all its routers, and the number after them is
+-- that of the further rows: the two parts of the text.
 use Rattle.std.proofs.Common.{ℕ, List, ◌++◌, ◌∙◌, flat_map, ap, ap₂, append_assoc}
 use Rattle.std.specs.String.{string_bytes}
 use Rattle.mc_explain.specs.UnlistedText.{further_rows, further_text, unlisted_pair_text}

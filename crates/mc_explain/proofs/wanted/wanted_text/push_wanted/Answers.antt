@@ -1,3 +1,4 @@
+-- Some LAN wants the flow, so the line is the one that names LANs.
 use Rattle.std.proofs.Common.{List, ℕ, ◌++◌, ◌∙◌, ap, sym}
 use Rattle.std.specs.String.{string_bytes}
 use Rattle.mc_explain.proofs.ShownNameLemmas.{wanted_text-some_lan}

@@ -3,6 +3,7 @@ use Rattle.mc_files.specs.Layout.{first_lan_number}
 use Rattle.mc_files.proofs.SlotLemmas.{slots-reports_slot}
 use Rattle.mc_files.proofs.numbered_slot.NumberedSlot.reports.Goals as goal
 
+-- The slot of this number is the LAN's: one slot of each LAN follows those of the routers.
 pub invariant_of-result : goal.invariant_of-result
 invariant_of-result c = (
   omega (
@@ -19,6 +20,7 @@ invariant_of-result c = (
       c.lan_name.ensures.name ∙ ap Some (sym c.reports.ensures.value),
 )
 
+-- The same for the LAN's name as the topology has it.
 pub returns-clause-slot : goal.returns-clause-slot
 returns-clause-slot c = λ name at.
     slots-reports_slot false c.args.topology.now (c.first_lan_slot_number.result + c.lan.inside.0)

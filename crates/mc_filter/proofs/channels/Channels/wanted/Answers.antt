@@ -6,6 +6,7 @@ use Rattle.mc_filter.proofs.AskedLemmas.{are_all_asked_for}
 use Rattle.mc_filter.proofs.ChannelLemmas.{wanted_answers_all}
 use Rattle.mc_filter.proofs.channels.Channels.wanted.Goals as goal
 
+-- There is an answer for each place, and a place for each channel.
 pub returns-clause-count : goal.returns-clause-count
 returns-clause-count c =
     let places = c.self.inside.places.items in
@@ -16,6 +17,8 @@ returns-clause-count c =
     let behind = c.deref.ensures.value in
     grind (arith, c.in_ok-wanted.wanted.ok, count, size, behind)
 
+-- The tally counts every record and has none left, so that the state at a place says by itself whether
+-- the channel there is wanted.
 pub returns-clause-each : goal.returns-clause-each
 returns-clause-each c = λ i channel answer at states.
     let groups = c.self.inside.groups in
@@ -27,6 +30,8 @@ returns-clause-each c = λ i channel answer at states.
     c.in_ok-tally.ensures.each))
     i channel answer (rw (sym c.self.view_is) at at) states
 
+-- If the tally of all records found nothing else asked for, each record keeps to the channels, and
+-- then asks for no more than them.
 pub returns-clause-all : goal.returns-clause-all
 returns-clause-all c = λ none.
     rw c.self.view_is at (are_all_asked_for c.self.inside.groups c.self.inside.channels

@@ -3,6 +3,8 @@ use Rattle.std.proofs.lemmas.Result.{on_ok_weaker}
 use Rattle.mc_filter.proofs.FilterLemmas.{Decides-FilterAdmits, Decides-Admits}
 use Rattle.mc_filter.proofs.filter.Filter.merge.Goals as goal
 
+-- What `merge_list` says by tests that compute is said here by relations: each test decides its
+-- relation.
 pub returns-clause-admits : goal.returns-clause-admits
 returns-clause-admits c =
     on_ok_weaker c.merge_list.result

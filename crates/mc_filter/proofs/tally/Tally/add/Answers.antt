@@ -5,6 +5,8 @@ use Rattle.mc_filter.specs.Tallies.{excludes_after}
 use Rattle.mc_filter.proofs.TallyLemmas.{AreTallied-more}
 use Rattle.mc_filter.proofs.tally.Tally.add.Goals as goal
 
+-- The channels of the record's group were updated, each by the count that its group had before, and
+-- the group's own count rises by one if the record is an EXCLUDE record.
 pub returns-clause-each : goal.returns-clause-each
 returns-clause-each c = λ groups records left up count at before.
     let r = c.args.group_record.now in
@@ -23,5 +25,6 @@ returns-clause-each c = λ groups records left up count at before.
     ) in
     rw (c.list_sources.ensures.excludes, after)
     (AreTallied-more groups c.args.channels.now records left c.args.self.now.excludes.items
-    c.args.self.now.states.items c.list_sources.new.self.states.items c.args.place r up count
-    c.requires.place at (rw read at c.list_sources.ensures.each) before)
+    c.args.self.now.states.items c.list_sources.new.self.states.items r c.args.place
+    (record { ascending = up; count = count; within = c.requires.place; group_is = at })
+    (rw read at c.list_sources.ensures.each) before)

@@ -3,9 +3,11 @@ use Rattle.std.proofs.lemmas.List.{length-set}
 use Rattle.std.proofs.lemmas.List.Elements.{All-nil}
 use Rattle.mc_text.specs.Pair.{pair_of}
 use Rattle.mc_filter.proofs.AskedLemmas.{ListsAsChannels-more}
-use Rattle.mc_filter.proofs.TallyLemmas.{AreListedUpTo-found, AreListedUpTo-missed}
+use Rattle.mc_filter.proofs.ListedSourcesLemmas.{AreListedUpTo-found, AreListedUpTo-missed}
 use Rattle.mc_filter.proofs.tally.Tally.list_sources.Goals as goal
 
+-- The next source makes the channel at the place that was found, whose state is updated there; no
+-- other channel has its number.
 pub loop-source-preserved-in-Some-place_of : goal.loop-source-preserved-in-Some-place_of
 loop-source-preserved-in-Some-place_of c =
     let before = c.loop-source.invariant in
@@ -14,12 +16,15 @@ loop-source-preserved-in-Some-place_of c =
     rw c.after_listing.ensures.value (record {
       excludes = before.excludes;
       count = length-set _ c.in-Some-place_of.place _ ∙ before.count;
-      each = AreListedUpTo-found c.args.channels.now c.args.group_record.now.group
-          c.args.group_record.now.kind c.args.before c.in-Some.source c.in-Some-place_of.place
-          c.index.result.now c.next.new.self c.args.group_record.now.sources
-          c.loop-source.self.states.items c.args.self.now.states.items c.place_of.ensures.ascending
-          (before.count ∙ c.requires.room) (found.0, ap pair_of found.1 ∙ pair)
-          c.index.ensures (rw c.in-Some.ensures.steps at before.each);
+      each = AreListedUpTo-found c.args.channels.now c.args.group_record.now c.args.before c.in-Some.source
+          c.next.new.self c.loop-source.self.states.items c.args.self.now.states.items
+          (rw c.in-Some.ensures.steps at before.each) c.in-Some-place_of.place c.index.result.now (record {
+            ascending = c.place_of.ensures.ascending;
+            count = before.count ∙ c.requires.room;
+            within = found.0;
+            channel_is = ap pair_of found.1 ∙ pair;
+            state = c.index.ensures;
+          });
       more = λ none.
           let parts = c.asks_more_by-self.ensures none in
           let earlier = (rw c.in-Some.ensures.steps at before.more) parts.0 in (
@@ -30,6 +35,7 @@ loop-source-preserved-in-Some-place_of c =
           );
     })
 
+-- The next source makes no channel of the index, so that no state depends on it.
 pub loop-source-preserved : goal.loop-source-preserved
 loop-source-preserved c =
     let before = c.loop-source.invariant in
@@ -38,10 +44,9 @@ loop-source-preserved c =
     record {
       excludes = before.excludes;
       count = before.count;
-      each = AreListedUpTo-missed c.args.channels.now c.args.group_record.now.group
-          c.args.group_record.now.kind c.args.before c.in-Some.source c.pair_number-number.result
-          c.next.new.self c.args.group_record.now.sources c.loop-source.self.states.items
-          c.args.self.now.states.items pair missed (rw c.in-Some.ensures.steps at before.each);
+      each = AreListedUpTo-missed c.args.channels.now c.args.group_record.now c.args.before c.in-Some.source
+          c.next.new.self c.loop-source.self.states.items c.args.self.now.states.items
+          (rw c.in-Some.ensures.steps at before.each) c.pair_number-number.result pair missed;
       more = λ none.
           let parts = c.asks_more_by-self-in-None-place_of.ensures none in
           let earlier = (rw c.in-Some.ensures.steps at before.more) parts.0 in (
@@ -52,6 +57,8 @@ loop-source-preserved c =
           );
     }
 
+-- No source is left, so that each of them was seen to make a channel or not, as the record's kind
+-- wants it.
 pub returns-clause-more : goal.returns-clause-more
 returns-clause-more c = λ none.
     let parts = c.loop-source.invariant.more none in

@@ -1,6 +1,8 @@
 use Rattle.std.proofs.Common.{refl, arith}
 use Rattle.mc_filter.proofs.tally.Tally.none.Goals as goal
 
+-- No group has an EXCLUDE record yet, and each channel's source is listed by the first 0 of them, which
+-- are all: so no state wants its channel, and all records are left.
 pub returns-clause-each : goal.returns-clause-each
 returns-clause-each c = λ gs cs records some count g d' s d below within is.
     let unseen = c.in_ok-resize.ensures.by_index.1 g 0 refl (omega (

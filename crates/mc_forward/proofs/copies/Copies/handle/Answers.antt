@@ -6,6 +6,7 @@ use Rattle.mc_forward.proofs.HandleLemmas.{without_waiting-after_handle, event_o
 use Rattle.mc_forward.proofs.HandleLemmas.{still_waits-after_handle}
 use Rattle.mc_forward.proofs.copies.Copies.handle.Goals as goal
 
+-- What the router sends waits behind the others, so that the handled copy is still at its place.
 pub remove_waiting-requires : goal.remove_waiting-requires
 remove_waiting-requires c = record {
   waits = (
@@ -15,6 +16,8 @@ remove_waiting-requires c = record {
       c.index.result.now c.requires.waits ok));
 }
 
+-- Sending first and removing then leaves what removing first and sending then does, since new copies
+-- wait behind all others.
 pub returns-in-Ok-clause-ok : goal.returns-in-Ok-clause-ok
 returns-in-Ok-clause-ok c =
     let read = subst (λ (f : Flight). c.index.result.now ≡ get_or f.waiting c.args.index
@@ -25,6 +28,8 @@ returns-in-Ok-clause-ok c =
     ∙ without_waiting-after_handle (net_in c.args.flow.now) c.args.self.now c.forward.new.self c.args.index
     c.index.result.now c.requires.waits read c.in-Ok.ensures.ok
 
+-- The copy was read before anything was sent, so that the event is of the one that waited at this
+-- place.
 pub returns-in-Ok-clause-event : goal.returns-in-Ok-clause-event
 returns-in-Ok-clause-event c =
     let read = subst (λ (f : Flight). c.index.result.now ≡ get_or f.waiting c.args.index

@@ -5,6 +5,9 @@ use Rattle.mc_forward.specs.Domains.{oif_pairs}
 use Rattle.mc_forward.specs.FlightsInDomain.{net_in, Extends}
 use Rattle.mc_forward.proofs.copies.Copies.send_all.Given as goal
 
+-- Sending by the pairs that are left, from the copies so far, leads where sending by all pairs leads
+-- from the old copies; and the counts so far and those of the pairs that are left make up those of all
+-- pairs.
 abbrev pub invariant-loop-oif : goal.invariant-loop-oif
 invariant-loop-oif l = record {
   rest : sends (net_in l.fn.view) l.fn.taken.router l.fn.taken.ttl

@@ -6,6 +6,8 @@ use Rattle.mc_forward.proofs.WaitAtRouterLemmas.{wait_at_routers-step, from_eith
 use Rattle.mc_forward.proofs.CopiesInDomainLemmas.{copies_in_domain-step, are_placed_below-domain}
 use Rattle.mc_forward.proofs.flight.Flight.handle.Goals as goal
 
+-- A step puts copies only on LANs where the domain places vifs, and lets them wait only at routers
+-- that have vifs there; where memory runs out, the flight is the old one.
 pub invariant_of-self : goal.invariant_of-self
 invariant_of-self c =
     let n = c.self.inside.flow in

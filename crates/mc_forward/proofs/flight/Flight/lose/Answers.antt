@@ -3,6 +3,7 @@ use Rattle.mc_forward.specs.FlightsInDomain.{WaitAtRouters, AreCopiesInDomain}
 use Rattle.mc_forward.proofs.WaitAtRouterLemmas.{wait_at_routers-without}
 use Rattle.mc_forward.proofs.flight.Flight.lose.Goals as goal
 
+-- Taking away a waiting copy leaves fewer that wait and the same that were carried.
 pub invariant_of-self : goal.invariant_of-self
 invariant_of-self c =
     let routers = length c.self.inside.flow.domain.topology.routers in

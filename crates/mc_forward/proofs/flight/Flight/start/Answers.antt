@@ -6,6 +6,8 @@ use Rattle.mc_forward.proofs.WaitAtRouterLemmas.{wait_at_routers-put, wait_at_ro
 use Rattle.mc_forward.proofs.CopiesInDomainLemmas.{copies_in_domain-put, copies_in_domain-none}
 use Rattle.mc_forward.proofs.flight.Flight.start.Goals as goal
 
+-- The one copy is on the source's LAN, which is the topology's, and waits at routers that have vifs
+-- there.
 pub invariant_of-result : goal.invariant_of-result
 invariant_of-result c =
     let n = c.new-view.result in

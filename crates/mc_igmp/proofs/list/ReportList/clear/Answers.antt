@@ -1,3 +1,4 @@
+-- No bytes are no records.
 use Rattle.std.proofs.Common.{[], refl}
 use Rattle.mc_igmp.specs.Records.{records_in}
 use Rattle.mc_igmp.proofs.RecordsLemmas.{after_records-none}

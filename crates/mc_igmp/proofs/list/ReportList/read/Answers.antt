@@ -8,10 +8,12 @@ use Rattle.mc_igmp.proofs.ListLemmas.{read_lines_more, report_list_answer-too_la
 use Rattle.mc_igmp.proofs.ListLemmas.{read_lines_all, read_lines_fault}
 use Rattle.mc_igmp.proofs.list.ReportList.read.Goals as goal
 
+-- The size of the text is checked before any of its lines.
 pub returns-then-text-gt-MAX_TEXT : goal.returns-then-text-gt-MAX_TEXT
 returns-then-text-gt-MAX_TEXT c =
     report_list_answer-too_large c.args.text.now _ c.if-text-gt-MAX_TEXT.true (ap Err c.at.ensures)
 
+-- No line was read, and no record is there.
 pub loop-line-init : goal.loop-line-init
 loop-line-init c =
     rw (
@@ -21,6 +23,7 @@ loop-line-init c =
     )
     (with_front-none (read_lines (lines_of c.args.text.now)))
 
+-- The records of the line go behind those of the lines before it.
 pub loop-line-preserved : goal.loop-line-preserved
 loop-line-preserved c =
     let read = c.in_ok-push_line.ensures.ok in
@@ -28,6 +31,7 @@ loop-line-preserved c =
     c.loop-line.line-iterator c.next.new.self _ c.in-Some.ensures.steps read.1 read.2
     c.loop-line.invariant
 
+-- No line before it has a fault, so that this one's is the first.
 pub returns-in_err-push_line : goal.returns-in_err-push_line
 returns-in_err-push_line c =
     let p = err_from_is_err_and c.from_residual.result c.from_residual.ensures.1 in
@@ -35,6 +39,7 @@ returns-in_err-push_line c =
     c.loop-line.line-iterator c.next.new.self _ c.if-text-gt-MAX_TEXT.false
     c.in-Some.ensures.steps c.in_err-push_line.ensures.err c.loop-line.invariant)
 
+-- No line is left, so that the records are those of all lines.
 pub returns : goal.returns
 returns c = read_lines_all c.args.text.now c.loop-line.list c.loop-line.line-iterator
     c.if-text-gt-MAX_TEXT.false c.in-None.ensures.steps.0 c.loop-line.invariant

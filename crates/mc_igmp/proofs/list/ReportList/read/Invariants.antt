@@ -1,3 +1,4 @@
+-- The records so far and those of the lines to come are those of all lines.
 use Rattle.std.proofs.Common.{◌≡◌}
 use Rattle.mc_text.specs.Lines.{lines_of}
 use Rattle.mc_igmp.specs.ReadingList.{read_lines}

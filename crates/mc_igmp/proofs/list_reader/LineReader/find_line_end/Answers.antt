@@ -1,3 +1,4 @@
+-- What was decoded of the rest are digits before its first line feed, and so of this line, or nothing was.
 use Rattle.mc_igmp.proofs.DecodeAheadLemmas.{decoded_ahead-up_to_line_end}
 use Rattle.mc_igmp.proofs.list_reader.LineReader.find_line_end.Goals as goal
 

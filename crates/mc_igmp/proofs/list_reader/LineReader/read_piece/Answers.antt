@@ -7,6 +7,7 @@ use Rattle.mc_text.proofs.PieceLemmas.{position-within_length}
 use Rattle.mc_igmp.proofs.PieceLemmas.{read_rest_of_lines_more, read_rest_of_lines-fault}
 use Rattle.mc_igmp.proofs.list_reader.LineReader.read_piece.Goals as goal
 
+-- The line is the next of the text, whatever follows it, so that its fault is the text's.
 pub returns-in_err-end_line-clause-fault : goal.returns-in_err-end_line-clause-fault
 returns-in_err-end_line-clause-fault c = λ more.
     let at = c.lines in
@@ -16,6 +17,7 @@ returns-in_err-end_line-clause-fault c = λ more.
     rw (p.1, p.2, at.invariant.reads more) (read_rest_of_lines-fault at.self.list at.self.ended
     at.self.begun.items at.rest.now more c.in-Some.end _ at.invariant.begun (sym found.end) refused)
 
+-- The records of the line that ended go behind those before it, and the next line begins after its line feed.
 pub lines-preserved : goal.lines-preserved
 lines-preserved c =
     let at = c.lines in
@@ -37,6 +39,7 @@ lines-preserved c =
       begun = tt;
     })
 
+-- The rest has no line feed, else another line would have ended.
 pub returns-clause-begun : goal.returns-clause-begun
 returns-clause-begun c =
     let found = c.in_default.ensures in

@@ -5,6 +5,7 @@ use Rattle.mc_igmp.specs.ListSoFar.{ListSoFar, list_if}
 use Rattle.mc_igmp.proofs.PieceLemmas.{list_if-unended, list_if-ended}
 use Rattle.mc_igmp.proofs.list_reader.ListReader.finish.Goals as goal
 
+-- Bytes are left after the last line feed: the last line is unended.
 pub returns-then-not-is_empty-clause-ends : goal.returns-then-not-is_empty-clause-ends
 returns-then-not-is_empty-clause-ends c =
     let so_far : ListSoFar = record {
@@ -22,6 +23,7 @@ returns-then-not-is_empty-clause-ends c =
     ∙ sym (list_if-unended so_far (omega arith) c.in_default.is on.0 some)
     ∙ ap (λ (s : ListSoFar). list_if s []) c.self.view_is
 
+-- No bytes are left, so that the lines that have ended are all.
 pub returns-clause-ends : goal.returns-clause-ends
 returns-clause-ends c =
     let so_far : ListSoFar = record {

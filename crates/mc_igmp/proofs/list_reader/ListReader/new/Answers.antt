@@ -1,3 +1,4 @@
+-- With nothing fed before, the text to come is the whole text.
 use Rattle.mc_igmp.proofs.PieceLemmas.{list_if-no_list}
 use Rattle.mc_igmp.proofs.list_reader.ListReader.new.Goals as goal
 

@@ -14,6 +14,8 @@ use Rattle.mc_input.proofs.ReadRestLemmas.{IsFaultOf-check_names_from, read_rest
 use Rattle.mc_input.proofs.StreamLemmas.{ReadsFirst-of_bundle, gives-names_Err}
 use Rattle.mc_input.proofs.bundle_slots.BundleSlotsSlots.feed.Goals as goal
 
+-- The names of all parts are checked before any content, so that the fault of this part's name is that
+-- of the whole stream.
 pub returns-in_err-open_named-clause-fault : goal.returns-in_err-open_named-clause-fault
 returns-in_err-open_named-clause-fault g c =
     let p = err_from_is_err_and c.from_residual.result c.from_residual.ensures.1 in
@@ -29,6 +31,7 @@ returns-in_err-open_named-clause-fault g c =
     (slots-with_certificate s.certified t n own c.slot-own.ensures) refused)
     stream known loud))
 
+-- Feeding fails only by the framing, whose fault comes before those of names and contents.
 pub returns-in_err-feed_part-clause-fault : goal.returns-in_err-feed_part-clause-fault
 returns-in_err-feed_part-clause-fault g c =
     let p = err_from_is_err_and c.from_residual-in_err-feed_part.result
@@ -45,6 +48,7 @@ returns-in_err-feed_part-clause-fault g c =
     (λ read memory. next.2 ∙ c.in_err-feed_part.ensures.fault next.0 next.1 read memory) real)
     stream known loud))
 
+-- One call after another reads on from where the first stopped.
 pub returns-in_err-feed_part-clause-advances : goal.returns-in_err-feed_part-clause-advances
 returns-in_err-feed_part-clause-advances g c = (
   refl,
@@ -52,6 +56,8 @@ returns-in_err-feed_part-clause-advances g c = (
       c.in_ok-open_named.ensures.advances c.in_err-feed_part.ensures.advances,
 )
 
+-- Opening the part failed at nothing, and the feeding's fault is `Read` exactly where the input
+-- failed.
 pub returns-in_err-feed_part-clause-failures : goal.returns-in_err-feed_part-clause-failures
 returns-in_err-feed_part-clause-failures g c =
     let p = err_from_is_err_and c.from_residual-in_err-feed_part.result
@@ -62,6 +68,8 @@ returns-in_err-feed_part-clause-failures g c =
     ∙ ap (λ n. cond (is_failed fault) (n + 1) n) c.in_ok-open_named.ensures.failures
     ∙ ap (λ b. cond b (before + 1) before) (is_failed-from_bundle_fault fault))
 
+-- The part was opened under the slot's name and fed whole, so that the stream is that part and those
+-- after it.
 pub returns-clause-part : goal.returns-clause-part
 returns-clause-part g c =
     let s = c.args.self.now in

@@ -3,6 +3,8 @@ use Rattle.mc_input.specs.Stream.{IsFaultBeforeOrOwn, Stream, bundle_gives}
 use Rattle.mc_input.proofs.StreamLemmas.{gives-names_Err}
 use Rattle.mc_input.proofs.bundle_slots.BundleSlotsSlots.refuse.Goals as goal
 
+-- The further names and the framing were checked to the end, and a fault of theirs refuses the stream
+-- as a whole.
 pub returns-in-Err-clause-fault : goal.returns-in-Err-clause-fault
 returns-in-Err-clause-fault g c = λ stream known loud.
     let s = c.args.self.now in

@@ -13,6 +13,8 @@ use Rattle.mc_input.proofs.WalkLemmas.{IfErr-IsFaultOfStream_implied, KeepsOfFir
 use Rattle.mc_input.proofs.WalkLemmas.{read_first-Err_implied}
 use Rattle.mc_input.proofs.cache_keeper.ListedPairsCacheKeeper.read_cache.Goals as goal
 
+-- The reader lists the flows' pairs, so that what it keeps of the whole cache is the rows of those; it
+-- keeps nothing else.
 pub returns-clause-cache : goal.returns-clause-cache
 returns-clause-cache g c =
     let t = c.args.slot.now.topology in
@@ -44,6 +46,7 @@ returns-clause-cache g c =
       ),
     )) keeps)
 
+-- A cache is refused for the same fault whichever of its rows are listed.
 pub returns-clause-fault : goal.returns-clause-fault
 returns-clause-fault g c =
     let t = c.args.slot.now.topology in

@@ -15,6 +15,7 @@ use Rattle.mc_input.proofs.SummaryLemmas.{summary_in-same_pairs}
 use Rattle.mc_input.proofs.WalkLemmas.{IsFaultOfStream-implied, KeepsOfFirst-implied, read_first-Err_implied}
 use Rattle.mc_input.proofs.cache_keeper.SummaryKeeperCacheKeeper.read_cache.Goals as goal
 
+-- A cache is refused for the same fault whether it is summarized or not.
 pub returns-in_err-read-clause-fault : goal.returns-in_err-read-clause-fault
 returns-in_err-read-clause-fault g c =
     let p = err_from_is_err_and c.from_residual-in_err-read.result c.from_residual-in_err-read.ensures.1 in
@@ -31,6 +32,8 @@ returns-in_err-read-clause-fault g c =
     ∙ ap (λ (ps : List (ℕ × ℕ)). summary_in all order ps part.bytes) c.in_ok-clone.ensures.cases
     ∙ summary_in-same_pairs all order c.args.self.now.listed pairs part.bytes c.requires.listed))))
 
+-- The reader lists the flows' pairs and summarizes the others, and this summary is pushed behind those
+-- of the routers before.
 pub returns-clause-cache : goal.returns-clause-cache
 returns-clause-cache g c =
     let t = c.args.slot.now.topology in

@@ -6,6 +6,8 @@ use Rattle.mc_input.specs.Stream.{IsFedPart}
 use Rattle.mc_input.proofs.StreamLemmas.{IsFaultOfStream-of_file, ReadsFirst-of_file}
 use Rattle.mc_input.proofs.file_slots.FileSlotsSlots.feed.Goals as goal
 
+-- The slot's own file is the first of what the folder gives from its number on, so that its fault is
+-- that of the first part.
 pub returns-in_err-feed_header_or_file-clause-fault : goal.returns-in_err-feed_header_or_file-clause-fault
 returns-in_err-feed_header_or_file-clause-fault g c =
     let p = err_from_is_err_and c.from_residual-in_err-feed_header_or_file.result
@@ -18,6 +20,8 @@ returns-in_err-feed_header_or_file-clause-fault g c =
     rw (c.in_err-feed_header_or_file.ensures.fault files (seen files) is
     (c.header_of_slot-header.ensures.header files c.args.slot.now at) loud) refl))
 
+-- The slot's file, or the header in its place, was fed whole, and a folder's other files don't depend
+-- on it.
 pub returns-clause-part : goal.returns-clause-part
 returns-clause-part g c =
     let seen = files_without c.args.self.now.without.now in

@@ -3,6 +3,8 @@ use Rattle.mc_asked.specs.LanWants.{LanWantsValue, lan_wants}
 use Rattle.mc_asked.proofs.AskedLawLemmas.{lan_wants_from-push}
 use Rattle.mc_input.proofs.list_keeper.WantKeeperListKeeper.keep_list.Goals as goal
 
+-- The wants of the next list are pushed behind those of the lists before it, with the number of its
+-- LAN.
 pub returns-clause-kept : goal.returns-clause-kept
 returns-clause-kept c = λ lists size before.
     let all = c.args.self.now.all in

@@ -1,3 +1,4 @@
+-- `from_hex_word` answers just the address that the word shows, as `address_in` does.
 use Rattle.std.proofs.Common.{◌∙◌, ap}
 use Rattle.std.specs.Option.{ok_or}
 use Rattle.mc_tables.specs.declared.fault.TableFaultKind.TheVariants.{BadAddress}

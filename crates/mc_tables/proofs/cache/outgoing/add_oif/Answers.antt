@@ -1,3 +1,4 @@
+-- A vif above all others has its place by ascending vif at the end, and repeats none.
 use Rattle.std.proofs.Common.{sym, ap, ◌∙◌, Ok}
 use Rattle.std.specs.Prelude.{nat_lt}
 use Rattle.std.specs.List.{list_all}

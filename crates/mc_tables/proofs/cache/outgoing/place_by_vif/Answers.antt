@@ -1,3 +1,4 @@
+-- Without a greater vif the place is the end.
 use Rattle.std.proofs.Common.{◌∙◌, ap, length}
 use Rattle.std.specs.Prelude.{unwrap_or}
 use Rattle.mc_tables.proofs.ColonLemmas.{unwrap_or-position}

@@ -1,3 +1,4 @@
+-- Before the first word no outgoing vif was read, and all words are to come.
 use Rattle.mc_tables.proofs.OifLemmas.{oifs_in_by_steps}
 use Rattle.mc_tables.proofs.cache.outgoing.read_oifs.Goals as goal
 

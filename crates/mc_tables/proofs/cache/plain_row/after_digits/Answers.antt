@@ -1,3 +1,4 @@
+-- One to twenty digits with a space behind them are the first word, and a counter.
 use Rattle.std.proofs.Common.{sym, ap, ◌∙◌, ◌∷◌}
 use Rattle.std.specs.Prelude.{not}
 use Rattle.std.specs.Char.{is_ascii_digit}

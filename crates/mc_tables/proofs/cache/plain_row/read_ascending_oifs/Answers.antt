@@ -6,6 +6,7 @@ use Rattle.mc_tables.proofs.PlainRowLemmas.{greater_oif_is_appended}
 use Rattle.mc_tables.proofs.FourOifLemmas.{oifs_after_words-ascending}
 use Rattle.mc_tables.proofs.cache.plain_row.read_ascending_oifs.Goals as goal
 
+-- A vif that isn't below the next one is greater than all before it, and goes behind them.
 pub oifs-preserved : goal.oifs-preserved
 oifs-preserved c =
     let found = c.in-Some-oif_at_front in
@@ -19,6 +20,7 @@ oifs-preserved c =
       rw pushed step.1,
     )
 
+-- Four that ascend from the next one go behind those before them, one after another.
 pub fours-preserved : goal.fours-preserved
 fours-preserved c =
     let added = rw c.in-Some.is at c.in_ok-after.ensures.added in

@@ -1,3 +1,5 @@
+-- The six words at the line's front are the addresses, the incoming vif and the counters, each as a row has
+-- it, and the other words are those of the outgoing vifs.
 use Rattle.std.proofs.Common.{List, ℕ, ◌∷◌, ◌∙◌, sym, ap, take, drop}
 use Rattle.mc_text.specs.Lines.{words_of}
 use Rattle.mc_tables.proofs.PlainRowLemmas.{row_in_words-front}

@@ -1,3 +1,4 @@
+-- Spaces in front of the first word belong to no word.
 use Rattle.std.proofs.Common.{◌∙◌, ◌-◌, length, drop, sym, ap, arith}
 use Rattle.std.proofs.lemmas.List.{take_all, length-drop}
 use Rattle.mc_text.specs.Lines.{words_of}

@@ -22,6 +22,7 @@ fault_of_table : (read : Result (List RowValue) TableFault) (fault : TableFault)
 fault_of_table (Ok rows) fault is = absurd cc
 fault_of_table (Err other) fault is = ap Err (err_injective is)
 
+-- With nothing listed the same text is read, so that its fault is the same.
 pub returns-in_err-cache-clause-fault : goal.returns-in_err-cache-clause-fault
 returns-in_err-cache-clause-fault c =
     let p = err_from_is_err_and c.from_residual.result c.from_residual.ensures.1 in
@@ -29,6 +30,8 @@ returns-in_err-cache-clause-fault c =
     fault_of_table (cache_rows_in c.args.order c.args.text.now) _
     (sym (c.in_err-cache.ensures (λ is. there (err_injective is)))))
 
+-- The summary has the sources and groups of all resolved rows, where none is listed: as a list, they keep
+-- each row.
 pub returns-clause-kept : goal.returns-clause-kept
 returns-clause-kept c = λ rows read.
     let cache = c.in_ok-cache.cache in

@@ -11,6 +11,7 @@ none_listed [] same = refl
 none_listed (pair ∷ listed) same =
     let there = (same pair).0 (0, omega arith, refl) in absurd (omega (arith, there.1))
 
+-- The reader was given no pairs, and its reading is that of the whole text.
 pub returns : goal.returns
 returns c = λ there.
     c.read_whole.ensures.table there

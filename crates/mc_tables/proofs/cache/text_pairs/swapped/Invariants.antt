@@ -1,3 +1,4 @@
+-- The pairs before this one are there, each swapped.
 use Rattle.std.proofs.Common.{◌≡◌, map, take}
 use Rattle.mc_tables.specs.Summary.{group_first}
 use Rattle.mc_tables.proofs.cache.text_pairs.swapped.Given as goal

@@ -1,3 +1,4 @@
+-- Eight hexadecimal digits with a space behind them are the first word.
 use Rattle.std.proofs.Common.{take}
 use Rattle.mc_tables.proofs.AddressLemmas.{address_in-from_clauses}
 use Rattle.mc_tables.proofs.PlainRowLemmas.{address_is_first_word}

@@ -1,3 +1,4 @@
+-- A byte is a digit exactly if it lies less than 10 above `0`, where lesser bytes wrap round.
 use Rattle.std.proofs.Common.{◌+◌, ◌-◌, ◌%◌, ltb, map, replicate, refl, ap, ◌∙◌, arith, w8, length}
 use Rattle.std.proofs.lemmas.List.{length-map}
 use Rattle.std.proofs.lemmas.Simd.{bitmask_splat, length-chunk, zip2_splat, map-map}

@@ -1,3 +1,4 @@
+-- Trailing ones are set bits.
 use Rattle.mc_tables.proofs.MarkedLemmas.{trailing_ones-set}
 use Rattle.mc_tables.proofs.lines.marked_line.front_run_length.Goals as goal
 

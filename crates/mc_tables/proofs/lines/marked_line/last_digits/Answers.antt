@@ -1,3 +1,4 @@
+-- Shifted by one, the mark of a space lies at the place of the byte before it.
 use Rattle.mc_tables.proofs.MarkedLemmas.{last_digits-are_marks}
 use Rattle.mc_tables.proofs.lines.marked_line.last_digits.Goals as goal
 

@@ -1,3 +1,4 @@
+-- The mark of each byte is whether it equals a space.
 use Rattle.std.proofs.Common.{refl, arith, eqb, w8}
 use Rattle.std.proofs.lemmas.Simd.{bitmask_splat, length-chunk}
 use Rattle.std.specs.Simd.Lanes.{chunk}

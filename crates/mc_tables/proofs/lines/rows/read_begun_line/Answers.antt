@@ -5,6 +5,7 @@ use Rattle.mc_tables.specs.LinesSoFar.{LinesSoFar, with_begun, with_ended, read_
 use Rattle.mc_tables.proofs.PieceLemmas.{read_after-taken, read_after-refused, judge-begun_line}
 use Rattle.mc_tables.proofs.lines.rows.read_begun_line.Goals as goal
 
+-- The buffer now has the whole line. What is read after it is what the bytes behind its line feed are.
 pub returns-clause-reads : goal.returns-clause-reads
 returns-clause-reads g c = λ more.
     let header = g.R.TableRows.header in
@@ -26,6 +27,7 @@ returns-clause-reads g c = λ more.
     ∙ ap (λ (l : LinesSoFar). read_after header (table new) l (drop (end + 1) rest ++ more))
     (sym c.begin_next_line.ensures.change)
 
+-- A fault of the line is that of the text, whatever follows.
 pub returns-in_err-add_line-clause-fault : goal.returns-in_err-add_line-clause-fault
 returns-in_err-add_line-clause-fault g c = λ more.
     let header = g.R.TableRows.header in

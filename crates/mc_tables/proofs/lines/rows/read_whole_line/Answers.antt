@@ -5,6 +5,8 @@ use Rattle.mc_tables.specs.LinesSoFar.{LinesSoFar, with_begun, read_after, line_
 use Rattle.mc_tables.proofs.PieceLemmas.{read_after-taken, read_after-refused, judge-begun_line}
 use Rattle.mc_tables.proofs.lines.rows.read_whole_line.Goals as goal
 
+-- The line is the one that the buffer would have. What is read after it is what the bytes behind its line
+-- feed are.
 pub returns-clause-reads : goal.returns-clause-reads
 returns-clause-reads g c = λ more.
     let header = g.R.TableRows.header in
@@ -23,6 +25,7 @@ returns-clause-reads g c = λ more.
     ∙ ap (λ (l : LinesSoFar). read_after header (table new) l (drop (end + 1) rest ++ more))
     (sym c.skip_line.ensures.change)
 
+-- A fault of the line is that of the text, whatever follows.
 pub returns-in_err-add_line-clause-fault : goal.returns-in_err-add_line-clause-fault
 returns-in_err-add_line-clause-fault g c = λ more.
     let header = g.R.TableRows.header in

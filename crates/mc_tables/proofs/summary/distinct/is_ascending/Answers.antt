@@ -1,3 +1,4 @@
+-- The test compares each number with the next.
 use Rattle.std.proofs.Common.{rules}
 use Rattle.std.specs.Prelude.{nat_lt}
 use Rattle.std.proofs.lemmas.List.Sorted.{answers_always}

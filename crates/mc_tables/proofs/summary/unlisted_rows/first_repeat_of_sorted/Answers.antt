@@ -5,9 +5,11 @@ use Rattle.mc_tables.proofs.SortedRowLemmas.{first_repeat-scan_none, first_repea
 use Rattle.mc_tables.proofs.summary.unlisted_rows.first_repeat_of_sorted.Goals as goal
 use Rattle.mc_tables.proofs.summary.unlisted_rows.first_repeat_of_sorted.Goals.{then-repeats, else-repeats}
 
+-- One row repeats none.
 pub loop-i-init : goal.loop-i-init
 loop-i-init c = sym (first_repeat-scan_none c.args.rows.now)
 
+-- In sorted rows, one that repeats an earlier line has the same key as the one before it.
 pub loop-i-preserved : goal.loop-i-preserved
 loop-i-preserved c =
     let rows = c.args.rows.now in

@@ -5,6 +5,7 @@ use Rattle.mc_text.proofs.ResultLemmas.{result_ok-none_not_bad, result_ok-some}
 use Rattle.mc_tables.proofs.HexadecimalLemmas.{is_utf8-hexadecimal, parse-hexadecimal}
 use Rattle.mc_tables.proofs.vifs.vif_line.hexadecimal.Goals as goal
 
+-- Hexadecimal digits are ASCII, and so UTF-8.
 pub returns-in_err-text : goal.returns-in_err-text
 returns-in_err-text c = record {
   value = (
@@ -13,6 +14,7 @@ returns-in_err-text c = record {
       (is_utf8-hexadecimal c.args.digits.now c.requires.digits)));
 }
 
+-- One to eight hexadecimal digits fit in 32 bits, so that they are read.
 pub returns : goal.returns
 returns c = record {
   value = (

@@ -1,3 +1,4 @@
+-- The device isn't `none`, so that it repeats one exactly if an earlier row has it.
 use Rattle.std.proofs.Common.{ℕ, ◌∙◌, sym, ap, ◌≡◌, false}
 use Rattle.std.specs.List.{list_any}
 use Rattle.std.specs.Str.{bytes_eq}

@@ -1,3 +1,4 @@
+-- An index repeats one exactly if an earlier row has it.
 use Rattle.std.proofs.Common.{ℕ, ◌∙◌, ap}
 use Rattle.mc_tables.specs.VifTable.{VifValue}
 use Rattle.mc_tables.specs.VifReading.{index_repeats}

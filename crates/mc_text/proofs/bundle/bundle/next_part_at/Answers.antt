@@ -6,12 +6,14 @@ use Rattle.mc_text.specs.BundleView.{place_text}
 use Rattle.mc_text.proofs.BundlePlaces.{next_part_from-line_fault, next_part_from-end_fault}
 use Rattle.mc_text.proofs.bundle.bundle.next_part_at.Goals as goal
 
+-- Without a whole line at the front there is neither a part nor an end: the line's fault is the answer.
 pub returns-in_err-line : goal.returns-in_err-line
 returns-in_err-line c =
     let p = err_from_is_err_and c.from_residual.result c.from_residual.ensures.1 in
     rw (p.1, p.2)
     (next_part_from-line_fault (place_text c.args.place.now) c.in_err-line.field-0.0 c.in_err-line.ensures)
 
+-- The line is `end`, so that what is wrong behind it decides.
 pub returns-in_err-check_end_is_last : goal.returns-in_err-check_end_is_last
 returns-in_err-check_end_is_last c =
     let p = err_from_is_err_and c.from_residual-in_err-check_end_is_last.result

@@ -7,10 +7,13 @@ use Rattle.mc_text.proofs.BundleLaws.{next_part_from-fewer_parts, read_parts_mor
 use Rattle.mc_text.proofs.BundleLaws.{read_parts_fault}
 use Rattle.mc_text.proofs.bundle.bundle.parts_of.Goals as goal
 
+-- Each part takes one from the number of parts that may still come.
 pub places-smaller : goal.places-smaller
 places-smaller c = let found = rw c.in-Ok-Some.field-0-is at c.in-Ok-Some.ensures in
     next_part_from-fewer_parts (place_text c.places.place) _ _ found
 
+-- The parts read so far and those from this place are all parts: the new one goes from the second list to the
+-- first.
 pub places-preserved : goal.places-preserved
 places-preserved c =
     let found = rw c.in-Ok-Some.field-0-is at c.in-Ok-Some.ensures in
@@ -21,11 +24,13 @@ places-preserved c =
     rw (items, texts) (read_parts_more (part_texts c.places.parts.items) (place_text c.places.place) _ _ _
     found c.places.invariant)
 
+-- At the line `end` no part follows, so that the parts read so far are all.
 pub returns-in-Ok-None : goal.returns-in-Ok-None
 returns-in-Ok-None c =
     let found = rw c.in-Ok-None.field-0-is at c.in-Ok-None.ensures in
     read_parts_all (part_texts c.places.parts.items) (place_text c.places.place) _ found c.places.invariant
 
+-- The parts from this place end with this fault, and parts in front of it don't change a fault.
 pub returns-in-Err : goal.returns-in-Err
 returns-in-Err c = read_parts_fault (part_texts c.places.parts.items) (place_text c.places.place) _
     c.in-Err.fault c.in-Err.ensures c.places.invariant

@@ -7,9 +7,11 @@ use Rattle.mc_text.proofs.StepLemmas.{with_front}
 use Rattle.mc_text.proofs.BundleLaws.{parts_at}
 use Rattle.mc_text.proofs.bundle.bundle.parts_of.Given as goal
 
+-- The parts so far and then those from this place are those of the whole text.
 abbrev pub invariant-places : goal.invariant-places
 invariant-places l = with_front (part_texts l.parts.items) (parts_at (place_text l.place))
     ≡ parts_from max_parts (max_bundle - 17) l.text
 
+-- Each part leaves fewer that may come.
 abbrev pub decreases-places : goal.decreases-places
 decreases-places l = l.place.parts

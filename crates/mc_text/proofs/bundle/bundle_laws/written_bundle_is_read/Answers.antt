@@ -1,3 +1,4 @@
+-- Reading takes off the front what the spelling put there, part by part.
 use Rattle.std.proofs.Common.{refl}
 use Rattle.mc_text.specs.Bundle.{bundle_spelling}
 use Rattle.mc_text.proofs.BundleLaws.{bundle_of-complete}

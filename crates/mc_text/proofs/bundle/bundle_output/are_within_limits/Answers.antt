@@ -1,3 +1,4 @@
+-- A part over the limit is one of the parts whose sizes the limits bound.
 use Rattle.mc_text.proofs.Pieces.{part_too_large}
 use Rattle.mc_text.proofs.bundle.bundle_output.are_within_limits.Goals as goal
 

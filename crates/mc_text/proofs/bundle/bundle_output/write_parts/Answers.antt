@@ -10,10 +10,13 @@ use Rattle.mc_text.proofs.Pieces.{bundle_spelling-front_of_bundle, front_of_bund
 use Rattle.mc_text.proofs.Pieces.{bundle_spelling-split_at_part, appends_prefix-last}
 use Rattle.mc_text.proofs.bundle.bundle_output.write_parts.Goals as goal
 
+-- Only the first line was begun, and a proper prefix of it is one of the bundle.
 pub returns-in_err-write_all-clause-err : goal.returns-in_err-write_all-clause-err
 returns-in_err-write_all-clause-err g c = OnErr-from _ _ (appends_prefix-after_front _ _ _ []
     (codes "mcaudit bundle 1\n") _ _ (Appends-nil _) c.in_err-write_all.ensures.err refl)
 
+-- The bundle is what was written, this part, and the rest: a proper prefix of the part leaves one of the
+-- bundle.
 pub returns-in_err-write_part-clause-err : goal.returns-in_err-write_part-clause-err
 returns-in_err-write_part-clause-err g c =
     let at = bundle_spelling-split_at_part c.args.parts.now c.loop-part.part-index c.part-item.result
@@ -22,6 +25,7 @@ returns-in_err-write_part-clause-err g c =
     (spelled c.part-item.result) _ _ c.loop-part.invariant.bytes
     c.in_err-write_part.ensures.err at)
 
+-- The first line and the parts before, and then this part, are the front of the bundle up to the next part.
 pub loop-part-preserved : goal.loop-part-preserved
 loop-part-preserved g c =
     let more = front_of_bundle_more c.args.parts.now c.loop-part.part-index c.part-item.result
@@ -34,6 +38,7 @@ loop-part-preserved g c =
           c.in_ok-write_part.ensures.ok);
     }
 
+-- After the last part the front lacks the line `end` alone.
 pub returns-clause-ok : goal.returns-clause-ok
 returns-clause-ok g c =
     let parts = c.args.parts.now in
@@ -42,6 +47,7 @@ returns-clause-ok g c =
     rw (bundle_spelling-front_of_bundle parts) (on_ok_weaker _
     (Appends-trans _ _ _ (front_of_bundle parts) (codes "end\n") front) c.write_all-2.ensures.ok)
 
+-- The front was written whole, and of the line `end` a proper prefix.
 pub returns-clause-err : goal.returns-clause-err
 returns-clause-err g c =
     let parts = c.args.parts.now in

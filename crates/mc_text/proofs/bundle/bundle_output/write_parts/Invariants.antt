@@ -3,6 +3,7 @@ use Rattle.std.specs.Io.KnownBytes.{Appends}
 use Rattle.mc_text.proofs.Pieces.{front_of_bundle}
 use Rattle.mc_text.proofs.bundle.bundle_output.write_parts.Given as goal
 
+-- The first line and the parts before this one were written.
 abbrev pub invariant-loop-part : goal.invariant-loop-part
 invariant-loop-part g l = record {
   same : g.W.Output.borrows l.output ≡ g.W.Output.borrows l.fn.output;

@@ -7,11 +7,13 @@ use Rattle.mc_text.proofs.RestOfBundleLemmas.{advances, parts_from_current-in_pa
 use Rattle.mc_text.proofs.FedPieceLemmas.{result_after-append_piece, fact-from_OnOk}
 use Rattle.mc_text.proofs.bundle.fed_part.feed_part.Goals as goal
 
+-- A read that fails takes no more bytes than may come, as the reads before it.
 pub returns-in_err-count-clause-advances : goal.returns-in_err-count-clause-advances
 returns-in_err-count-clause-advances g c =
     advances c.args.parts.now c.pieces.parts c.read.new.self c.pieces.invariant.advances
     (sym c.in_err-count.ensures.borrows) c.in_err-count.ensures.consumed
 
+-- A read of 0 bytes into a buffer with room means that none of the part is left: the pieces fed are the part.
 pub returns-then-count-eq0-clause-part : goal.returns-then-count-eq0-clause-part
 returns-then-count-eq0-clause-part g c = λ text remaining.
     let known = c.pieces.invariant.part text remaining in
@@ -40,11 +42,14 @@ returns-then-count-eq0-clause-part g c = λ text remaining.
       ap (g.P.PieceReader.result_after c.args.reader.now) bytes ∙ known.6 [] (omega (arith, known.5)),
     )
 
+-- The bytes of the piece that the reader refused were taken from the input all the same.
 pub returns-then-is_err-clause-advances : goal.returns-then-is_err-clause-advances
 returns-then-is_err-clause-advances g c =
     advances c.args.parts.now c.pieces.parts c.read.new.self c.pieces.invariant.advances
     (sym c.in_ok-count.ensures.borrows) c.in_ok-count.ensures.consumed
 
+-- The piece moves from the bytes to come to the bytes fed. It is no longer than what is left of the part, and
+-- so within the limit of a text, under which the reader's result goes on.
 pub pieces-preserved : goal.pieces-preserved
 pieces-preserved g c =
     let same = c.in_ok-count.ensures.same in

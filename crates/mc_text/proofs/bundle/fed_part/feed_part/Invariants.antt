@@ -5,6 +5,8 @@ use Rattle.mc_text.specs.PartsReading.{parts_from_current}
 use Rattle.mc_text.specs.RestOfBundle.{Advances}
 use Rattle.mc_text.proofs.bundle.fed_part.feed_part.Given as goal
 
+-- The bundle is still that of the start, as its current part is `done` and what comes later; and the reader's
+-- result is the same for the bytes fed and more as for more alone now.
 abbrev pub invariant-pieces : goal.invariant-pieces
 invariant-pieces g l = record {
   advances : Advances l.fn.parts l.parts;
@@ -21,5 +23,6 @@ invariant-pieces g l = record {
       g.P.PieceReader.result_after l.fn.reader (done ++ more) ≡ g.P.PieceReader.result_after l.reader more);
 }
 
+-- Each piece takes something from what is left of the part.
 abbrev pub decreases-pieces : goal.decreases-pieces
 decreases-pieces g l = l.parts.left

@@ -5,17 +5,20 @@ use Rattle.mc_text.specs.PartsReading.{parts_from_current}
 use Rattle.mc_text.proofs.RestOfBundleLemmas.{advances}
 use Rattle.mc_text.proofs.bundle.part_bytes.collect_part.Goals as goal
 
+-- A read that fails takes no more bytes than may come, as the reads before it.
 pub returns-in_err-count-clause-advances : goal.returns-in_err-count-clause-advances
 returns-in_err-count-clause-advances g c =
     advances c.args.parts.now c.pieces.parts c.read.new.self c.pieces.invariant.advances
     (sym c.in_err-count.ensures.borrows) c.in_err-count.ensures.consumed
 
+-- The bytes collected so far don't change which fault the rest of the bundle has.
 pub returns-in_err-count-clause-fault : goal.returns-in_err-count-clause-fault
 returns-in_err-count-clause-fault g c = λ text done remaining.
     let known = c.pieces.invariant.bytes text done remaining in
     let read = c.in_err-count.ensures.fault known.0 (done ++ c.pieces.bytes.items) known.1 in
     search rules
 
+-- A read of 0 bytes adds nothing to the bytes collected, which are then the whole rest of the part.
 pub returns-then-count-eq0-clause-bytes : goal.returns-then-count-eq0-clause-bytes
 returns-then-count-eq0-clause-bytes g c = λ text done remaining.
     let known = c.pieces.invariant.bytes text done remaining in
@@ -29,11 +32,13 @@ returns-then-count-eq0-clause-bytes g c = λ text done remaining.
           ∙ ap (λ l. parts_from_current new l read.0) (append-nil bytes),
     )
 
+-- The bytes for which there was no memory were taken from the input all the same.
 pub returns-then-is_err-clause-advances : goal.returns-then-is_err-clause-advances
 returns-then-is_err-clause-advances g c =
     advances c.args.parts.now c.pieces.parts c.read.new.self c.pieces.invariant.advances
     (sym c.in_ok-count.ensures.borrows) c.in_ok-count.ensures.consumed
 
+-- The piece that was read moves from the bytes to come to the bytes collected: their join stays the same.
 pub pieces-preserved : goal.pieces-preserved
 pieces-preserved g c =
     let pushed : is_ok c.extend_from_slice.result ≡ true =

@@ -4,6 +4,7 @@ use Rattle.mc_text.specs.PartsReading.{parts_from_current}
 use Rattle.mc_text.specs.RestOfBundle.{Advances}
 use Rattle.mc_text.proofs.bundle.part_bytes.collect_part.Given as goal
 
+-- The bundle is still that of the start, with the bytes collected so far behind those done before.
 abbrev pub invariant-pieces : goal.invariant-pieces
 invariant-pieces g l = record {
   advances : Advances l.fn.parts l.parts;
@@ -16,5 +17,6 @@ invariant-pieces g l = record {
       × (parts_from_current l.fn.parts done text ≡ parts_from_current l.parts (done ++ l.bytes.items) later);
 }
 
+-- Each piece takes something from what is left of the part.
 abbrev pub decreases-pieces : goal.decreases-pieces
 decreases-pieces g l = l.parts.left

@@ -5,6 +5,7 @@ use Rattle.mc_text.specs.declared.bundle.bundle_fault.BundleFault.TheVariants.{N
 use Rattle.mc_text.proofs.BundleWords.{line_at-cut_line}
 use Rattle.mc_text.proofs.bundle.part_line.line_at.Goals as goal
 
+-- A line feed within the first 96 bytes of the rest is the first one of the rest itself.
 pub returns-in-Some : goal.returns-in-Some
 returns-in-Some c =
     let rest = c.args.rest.now in
@@ -12,6 +13,7 @@ returns-in-Some c =
     ∙ ap (λ (after : List ℕ). Ok (take c.in-Some.end rest, after))
     (sym (take_rest rest (c.in-Some.end + 1)))
 
+-- The first 96 bytes have no line feed: the text ends too early, or the line is too long.
 pub returns-in-None : goal.returns-in-None
 returns-in-None c header =
     line_at-cut_line c.args.rest.now _ _ c.min.ensures c.in-None.ensures

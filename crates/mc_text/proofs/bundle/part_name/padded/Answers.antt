@@ -1,3 +1,4 @@
+-- The copy is at the front, and the zeros that it doesn't cover are 64 less its length.
 use Rattle.std.proofs.Common.{ℕ, ◌-◌, List, ◌++◌, length, ap, ◌∙◌}
 use Rattle.std.specs.Prelude.{replicate}
 use Rattle.std.proofs.lemmas.List.{drop-replicate}

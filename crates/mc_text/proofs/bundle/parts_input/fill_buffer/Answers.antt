@@ -1,4 +1,4 @@
--- What stands at the buffer's front is what the input gave.
+-- What is at the buffer's front is what the input gave.
 use Rattle.std.proofs.Common.{[], arith}
 use Rattle.std.proofs.KnownBytes.{Consumes-nil, Consumes-kept}
 use Rattle.mc_text.proofs.PartsLimitLemmas.{consumes_up_to-filled_buffer}

@@ -3,6 +3,7 @@ use Rattle.std.specs.Str.{bytes_eq}
 use Rattle.mc_text.proofs.PartsLimitLemmas.{consumes_within-fault, length-end_line}
 use Rattle.mc_text.proofs.bundle.parts_input.open_next.Goals as goal
 
+-- The line `end` has 4 bytes with its line feed, and one more was looked for: within the room and a line.
 pub returns-in_err-read_end-clause-consumed : goal.returns-in_err-read_end-clause-consumed
 returns-in_err-read_end-clause-consumed g c =
     let line = take c.in_ok-count.count c.read_line.new.line in
@@ -19,6 +20,7 @@ returns-in_err-read_end-clause-consumed g c =
       length-take c.in_ok-count.count c.read_line.new.line,
     ))
 
+-- What was taken is the line, and `open_part` reckoned it off the room.
 pub returns-clause-consumed : goal.returns-clause-consumed
 returns-clause-consumed g c =
     let line = c.in_ok-count.ensures.taken in (

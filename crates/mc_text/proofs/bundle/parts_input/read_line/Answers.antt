@@ -9,12 +9,14 @@ use Rattle.mc_text.proofs.PartsLemmas.{reads_as-no_end, reads_as-line_too_long, 
 use Rattle.mc_text.proofs.PartsLemmas.{eqb-of_distinct}
 use Rattle.mc_text.proofs.bundle.parts_input.read_line.Goals as goal
 
+-- The input ended, and none of the fewer than 96 bytes read is a line feed.
 pub returns-in-None-clause-reads : goal.returns-in-None-clause-reads
 returns-in-None-clause-reads g c =
     let none = c.in_ok-next_byte.ensures.none c.in-None.is in
     reads_as-no_end _ _ _ _ (take c.bytes.count c.bytes.line) c.bytes.invariant.bytes none.0 none.1
     c.bytes.invariant.without (omega (arith, length-take c.bytes.count c.bytes.line))
 
+-- The bytes before this line feed have none, so that they are the line.
 pub returns-in-Some-eq10-clause-reads : goal.returns-in-Some-eq10-clause-reads
 returns-in-Some-eq10-clause-reads g c =
     let some = rw c.in-Some-eq10.is at c.in_ok-next_byte.ensures.some in
@@ -23,6 +25,7 @@ returns-in-Some-eq10-clause-reads g c =
     reads_as-line _ _ _ _ _ (take c.bytes.count c.bytes.line) refl c.bytes.invariant.bytes feed
     c.bytes.invariant.without (omega (arith, length-take c.bytes.count c.bytes.line))
 
+-- The byte is no line feed, and it comes after those read before.
 pub bytes-preserved : goal.bytes-preserved
 bytes-preserved g c =
     let some = rw c.in-Some.is at c.in_ok-next_byte.ensures.some in
@@ -43,11 +46,13 @@ bytes-preserved g c =
           c.bytes.invariant.without (eqb-of_distinct byte 10 c.in-Some.byte-test.1, tt));
     }
 
+-- 96 bytes were read without a line feed.
 pub returns-clause-reads : goal.returns-clause-reads
 returns-clause-reads g c =
     reads_as-line_too_long _ _ _ (take c.bytes.count c.bytes.line) c.bytes.invariant.bytes
     c.bytes.invariant.without (omega (arith, length-take c.bytes.count c.bytes.line))
 
+-- In each of the next three, at most one byte more than those in the buffer was taken.
 pub returns-in_err-next_byte-clause-consumed : goal.returns-in_err-next_byte-clause-consumed
 returns-in_err-next_byte-clause-consumed g c =
     consumes_up_to-after_consumes _ _ _ (take c.bytes.count c.bytes.line) 1 96 c.bytes.invariant.bytes
@@ -64,6 +69,7 @@ returns-in-Some-eq10-clause-taken g c =
     (c.bytes.count + 1) c.bytes.invariant.bytes
     c.in_ok-next_byte.ensures.consumed (omega (arith, length-take c.bytes.count c.bytes.line))
 
+-- The bytes taken are the 96 in the buffer.
 pub returns-clause-consumed : goal.returns-clause-consumed
 returns-clause-consumed g c = (
   take c.bytes.count c.bytes.line,

@@ -3,6 +3,7 @@ use Rattle.std.specs.Io.KnownBytes.{Consumes}
 use Rattle.mc_text.proofs.BundleWords.{HasNoByte}
 use Rattle.mc_text.proofs.bundle.parts_input.read_line.Given as goal
 
+-- The bytes taken so far are at the front of the line's buffer, and none is a line feed.
 abbrev pub invariant-bytes : goal.invariant-bytes
 invariant-bytes g l = record {
   same : g.R.Input.borrows l.input ≡ g.R.Input.borrows l.fn.input;
@@ -13,5 +14,6 @@ invariant-bytes g l = record {
   without : HasNoByte 10 (take l.count l.line);
 }
 
+-- Each byte takes a place of the 96.
 abbrev pub decreases-bytes : goal.decreases-bytes
 decreases-bytes g l = 96 - l.count

@@ -1,3 +1,4 @@
+-- The first 17 bytes, or all if there are fewer, aren't the first line: the text doesn't begin with it.
 use Rattle.std.proofs.Common.{arith, sym}
 use Rattle.std.proofs.lemmas.Bool.{not-true}
 use Rattle.mc_text.proofs.PartsLemmas.{reads_as-no_magic}

@@ -1,3 +1,4 @@
+-- First the first line or the rest of a part is taken, then the next line: the bounds of both add up.
 use Rattle.std.proofs.Common.{◌+◌}
 use Rattle.mc_text.proofs.PartsLimitLemmas.{consumes_within-after_consumes_up_to}
 use Rattle.mc_text.proofs.bundle.parts_input.read_next.Goals.{then-start+in_ok-read_magic}

@@ -9,6 +9,7 @@ use Rattle.mc_text.proofs.PartsLemmas.{reads_as-rest_truncated, reads_as-rest}
 use Rattle.mc_text.proofs.PartsLemmas.{reads_as-rest_other_byte, eqb-of_distinct}
 use Rattle.mc_text.proofs.bundle.parts_input.skip_rest.Goals as goal
 
+-- A buffer that isn't filled means that the input ended, before the part did.
 pub returns-then-branch-size-clause-reads : goal.returns-then-branch-size-clause-reads
 returns-then-branch-size-clause-reads g c =
     let n = c.in_ok-fill_buffer.field-0 in
@@ -27,6 +28,7 @@ returns-then-branch-size-clause-reads g c =
     )))
     (omega (arith, left, size, length-take n c.fill_buffer.new.buffer))
 
+-- A whole piece was skipped: as many bytes more are taken as fewer are unread.
 pub skipping-preserved : goal.skipping-preserved
 skipping-preserved g c =
     let bytes = c.skipping.invariant.bytes.0 in
@@ -65,6 +67,7 @@ skipping-preserved g c =
       );
     }
 
+-- All of the part was skipped, and then the input ended before its line feed.
 pub returns-in-None-clause-reads : goal.returns-in-None-clause-reads
 returns-in-None-clause-reads g c =
     let none = c.in_ok-next_byte.ensures.none c.in-None.is in
@@ -72,6 +75,7 @@ returns-in-None-clause-reads g c =
     reads_as-rest_truncated _ _ _ c.args.left c.skipping.invariant.bytes.0 [] c.skipping.invariant.bytes.1
     none.0 none.1 (omega (arith, left))
 
+-- All of the part was skipped, and a line feed follows it.
 pub returns-in-Some-eq10-clause-reads : goal.returns-in-Some-eq10-clause-reads
 returns-in-Some-eq10-clause-reads g c =
     let some = rw c.in-Some-eq10.is at c.in_ok-next_byte.ensures.some in
@@ -81,6 +85,7 @@ returns-in-Some-eq10-clause-reads g c =
     reads_as-rest _ _ _ c.args.left c.skipping.invariant.bytes.0 tt c.skipping.invariant.bytes.1 feed
     (omega (arith, left))
 
+-- All of the part was skipped, and another byte than a line feed follows it.
 pub returns-in-Some-clause-reads : goal.returns-in-Some-clause-reads
 returns-in-Some-clause-reads g c =
     let some = rw c.in-Some.is at c.in_ok-next_byte.ensures.some in
@@ -89,6 +94,7 @@ returns-in-Some-clause-reads g c =
     c.skipping.invariant.bytes.1 some (omega (arith, left))
     (eqb-of_distinct c.in-Some.field-0 10 c.in-Some.field-0-test.1)
 
+-- A piece is never longer than what is unread.
 pub returns-in_err-fill_buffer-clause-consumed : goal.returns-in_err-fill_buffer-clause-consumed
 returns-in_err-fill_buffer-clause-consumed g c =
     let bytes = c.skipping.invariant.bytes in
@@ -102,6 +108,7 @@ returns-in_err-fill_buffer-clause-consumed g c =
       length-take c.min-size.result c.skipping.buffer,
     ))
 
+-- As above: fewer bytes came than the piece asked for.
 pub returns-then-branch-size-clause-consumed : goal.returns-then-branch-size-clause-consumed
 returns-then-branch-size-clause-consumed g c =
     let bytes = c.skipping.invariant.bytes in
@@ -115,6 +122,7 @@ returns-then-branch-size-clause-consumed g c =
       length-take c.min-size.result c.skipping.buffer,
     ))
 
+-- In this one and the rest, all of the part was skipped and at most one byte taken after it.
 pub returns-in_err-next_byte-clause-consumed : goal.returns-in_err-next_byte-clause-consumed
 returns-in_err-next_byte-clause-consumed g c =
     let bytes = c.skipping.invariant.bytes in

@@ -2,6 +2,7 @@ use Rattle.std.proofs.Common.{ℕ, List, length, ◌+◌, ◌≡◌}
 use Rattle.std.specs.Io.KnownBytes.{Consumes}
 use Rattle.mc_text.proofs.bundle.parts_input.skip_rest.Given as goal
 
+-- The bytes taken so far and those that are still unread are as many as the part had left.
 abbrev pub invariant-skipping : goal.invariant-skipping
 invariant-skipping g l = record {
   same : g.R.Input.borrows l.input ≡ g.R.Input.borrows l.fn.input;

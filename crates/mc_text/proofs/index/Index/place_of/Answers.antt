@@ -5,6 +5,7 @@ use Rattle.mc_text.specs.Index.{index_slot}
 use Rattle.mc_text.proofs.IndexLemmas.{contains-not_found, contains-unmarked_slot}
 use Rattle.mc_text.proofs.index.Index.place_of.Goals as goal
 
+-- The slot of each number is marked, so that a number whose slot has no mark isn't there.
 pub returns-then-mark-eq0-clause-none : goal.returns-then-mark-eq0-clause-none
 returns-then-mark-eq0-clause-none c =
     let marks = c.self.inside.marks.items in
@@ -20,6 +21,7 @@ returns-then-mark-eq0-clause-none c =
     (contains-unmarked_slot (length marks) marks c.self.inside.numbers.items c.args.number
     c.self.invariant.marked empty)
 
+-- The numbers ascend, so that a binary search finds any that is there.
 pub returns-clause-none : goal.returns-clause-none
 returns-clause-none c =
     rw (← c.self.view_is)

@@ -2,6 +2,7 @@ use Rattle.std.proofs.Common.{◌-◌, ◌≡◌, ◌≤◌, vec_len}
 use Rattle.mc_text.specs.ReadFault.{ReadsOnto}
 use Rattle.mc_text.proofs.io.input_bytes.fill_to_limit.Given as goal
 
+-- What the input gave so far was appended, and not past the limit.
 abbrev pub invariant-reading : goal.invariant-reading
 invariant-reading g l = record {
   same : g.R.Input.borrows l.input ≡ g.R.Input.borrows l.fn.input;
@@ -11,5 +12,6 @@ invariant-reading g l = record {
       l.bytes.items;
 }
 
+-- Each read leaves less room up to the limit.
 abbrev pub decreases-reading : goal.decreases-reading
 decreases-reading g l = l.limit - vec_len l.bytes

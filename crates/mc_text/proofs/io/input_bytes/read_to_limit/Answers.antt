@@ -32,10 +32,12 @@ take-limit_of_known (Some text) None bytes limit read few end = absurd read
 take-limit_of_known (Some text) (Some rest) bytes limit read few end =
     rw read (take-limit bytes rest limit (nat_lt (length bytes) limit) refl few end)
 
+-- The bytes were appended to none, so that they are just what the input gave.
 pub returns-clause-rest : goal.returns-clause-rest
 returns-clause-rest g c =
     consumes-from_reads_onto _ _ _ _ c.new-bytes.ensures.items c.in_ok-fill_to_limit.ensures.bytes
 
+-- Fewer bytes than the limit are returned only at the input's end.
 pub returns-clause-bytes : goal.returns-clause-bytes
 returns-clause-bytes g c =
     let count = c.fill_to_limit.new.bytes.ok.0 in

@@ -1,3 +1,4 @@
+-- The bytes that a write took are the next ones of the text.
 use Rattle.std.proofs.Common.{arith, ◌<◌, ◌∙◌}
 use Rattle.std.proofs.KnownBytes.{Appends-trans}
 use Rattle.std.proofs.Math.Seq.{take-add}

@@ -1,3 +1,4 @@
+-- The pieces before were written whole, and of this one a proper prefix, which is one of the whole text.
 use Rattle.std.proofs.Common.{List, ℕ, Bor}
 use Rattle.mc_text.proofs.StepLemmas.{OnErr-from}
 use Rattle.mc_text.proofs.Pieces.{appends_prefix-after_front, flat_map-split_at}

@@ -3,6 +3,7 @@ use Rattle.std.specs.Prelude.{flat_map}
 use Rattle.std.specs.Io.KnownBytes.{Appends}
 use Rattle.mc_text.proofs.io.output_bytes.write_pieces.Given as goal
 
+-- The pieces before this one were written.
 abbrev pub invariant-loop-piece : goal.invariant-loop-piece
 invariant-loop-piece g l = record {
   same : g.W.Output.borrows l.output ≡ g.W.Output.borrows l.fn.output;

@@ -1,3 +1,4 @@
+-- A word that shows an address has eight digits, which can be decoded.
 use Rattle.mc_text.specs.AddressWord.{printed_octets}
 use Rattle.mc_text.proofs.AddrLemmas.{length-printed_octets}
 use Rattle.mc_text.proofs.text.addr.parse_address_word.Goals as goal

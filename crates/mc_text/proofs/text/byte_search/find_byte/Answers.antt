@@ -1,3 +1,4 @@
+-- `memchr` answers the first place of the byte, which is its position.
 use Rattle.mc_text.proofs.FindByte.{position-first_byte}
 use Rattle.memchr.specs.Find.{is_byte}
 use Rattle.mc_text.proofs.text.byte_search.find_byte.Goals as goal

@@ -1,3 +1,5 @@
+-- A byte is a digit exactly if it lies less than 10 from `0`, or its lower case less than 6 from `a`; bytes
+-- below wrap round to large distances.
 use Rattle.std.proofs.Common.{bit_or}
 use Rattle.std.proofs.lemmas.Simd.{zip2_splat, zip2_of_maps}
 use Rattle.mc_text.proofs.DigitLaneLemmas.{zip2-splat_lane, lane_below, lane_minus, mask-all_digits}

@@ -1,3 +1,4 @@
+-- The even lanes are the high digits and the odd ones the low digits of the pairs.
 use Rattle.mc_text.proofs.DigitLaneLemmas.{zip2-pair_lane}
 use Rattle.mc_text.proofs.text.digit_lanes.bytes_of_hex_digits.Goals as goal
 

@@ -1,3 +1,4 @@
+-- Of a digit the smaller of the two distances is its value: the other one wraps round or is larger.
 use Rattle.std.proofs.Common.{bit_or, ◌∙◌}
 use Rattle.std.proofs.lemmas.Simd.{zip2_splat}
 use Rattle.mc_text.proofs.DigitLaneLemmas.{zip2-splat_lane, lane_minus, select-smaller_lane, map-value_lane}

@@ -4,6 +4,8 @@ use Rattle.mc_topology.proofs.InterfaceKeys.{is_interface_of-interface_row}
 use Rattle.mc_topology.proofs.Keyed.{is_some_lookup-any_row}
 use Rattle.mc_topology.proofs.interfaces.Interfaces.has.Goals as goal
 
+-- Keys are equal exactly if the router and the device are, so that the map has the key exactly if some
+-- row has both.
 pub returns : goal.returns
 returns c =
     let key = c.args.key.now in

@@ -4,6 +4,8 @@ use Rattle.mc_topology.specs.Lookup.{interface_row}
 use Rattle.mc_topology.proofs.Places.{slice_get-row}
 use Rattle.mc_topology.proofs.interfaces.Interfaces.interface.Goals as goal
 
+-- The map's keys and its values stand in the order of the rows, so that those at one index make up
+-- that row.
 pub returns : goal.returns
 returns c = record {
   item = (

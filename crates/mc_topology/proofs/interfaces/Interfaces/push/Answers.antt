@@ -5,12 +5,14 @@ use Rattle.mc_topology.specs.SectionRows.{InterfaceRow}
 use Rattle.mc_topology.proofs.InterfaceKeys.{interface_rows-insert_new}
 use Rattle.mc_topology.proofs.interfaces.Interfaces.push.Goals as goal
 
+-- No row has the new key, so that the map puts it behind the others.
 pub returns-clause-added : goal.returns-clause-added
 returns-clause-added c =
     rw c.in_ok-insert.ensures.entries
     (interface_rows-insert_new c.self.inside.lans c.args.key c.args.lan c.args.self.now c.self.view_is
     c.requires.new)
 
+-- The devices before were short, and the new one is.
 pub invariant_of-self-2 : goal.invariant_of-self-2
 invariant_of-self-2 c =
     let rows = map interface_row c.self.inside.lans.entries in

@@ -1,6 +1,7 @@
 use Rattle.mc_topology.proofs.InsertedRows.{lan_names-insert_new}
 use Rattle.mc_topology.proofs.lans.Lans.push.Goals as goal
 
+-- No LAN has the new name, so that the set puts it behind the others.
 pub returns-clause-added : goal.returns-clause-added
 returns-clause-added c =
     rw c.in_ok-insert.ensures.keys

@@ -4,6 +4,7 @@ use Rattle.mc_topology.specs.Document.{are_known}
 use Rattle.mc_topology.proofs.Tables.{are_known-now, keys_in-view}
 use Rattle.mc_topology.proofs.read.document.has_only.Goals as goal
 
+-- The keys of the table are the names of its members, and each is compared by its bytes.
 pub returns : goal.returns
 returns c =
     c.has_known_keys.ensures ∙ are_known-now c.args.known.now (keys_of c.args.table.now.entries)

@@ -2,6 +2,7 @@ use Rattle.std.proofs.Common.{arith, sym, ◌∙◌}
 use Rattle.mc_topology.proofs.NameLemmas.{device_length-at_most_15}
 use Rattle.mc_topology.proofs.read.interfaces.interface_of_values.Goals as goal
 
+-- A device's name has at most 15 bytes, so that the key has room for it.
 pub returns-in_default-new-clause-interface : goal.returns-in_default-new-clause-interface
 returns-in_default-new-clause-interface c =
     let device = c.args.device.now in

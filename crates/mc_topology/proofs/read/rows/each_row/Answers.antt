@@ -2,10 +2,12 @@ use Rattle.std.proofs.Common.{◌+◌, length, length-append, sym, ap, ◌∙◌
 use Rattle.std.proofs.lemmas.Result.{err_from_is_err_and}
 use Rattle.toml.specs.View.{view}
 use Rattle.mc_topology.specs.declared.fault.TopologyFault.{TopologyFault}
-use Rattle.mc_topology.specs.Answer.{locate_fault}
+use Rattle.mc_topology.specs.Faults.{locate_fault}
 use Rattle.mc_topology.proofs.EachRow.{read_rows-more, read_rows-Err, read_rows-all}
 use Rattle.mc_topology.proofs.read.rows.each_row.Goals as goal
 
+-- The rows before this one were read, so that the first fault of all rows is this one's, unless memory
+-- ran out.
 pub returns-in_err-read_row-clause-rows : goal.returns-in_err-read_row-clause-rows
 returns-in_err-read_row-clause-rows g c =
     let p = err_from_is_err_and c.from_residual.result c.from_residual.ensures.1 in
@@ -20,6 +22,7 @@ returns-in_err-read_row-clause-rows g c =
     sym c.loop-index.invariant.rows ∙ refused (rw (c.loop-index.invariant.count) fault)
     )
 
+-- One more row is read in view of those before it, and numbered by how many they are.
 pub loop-index-preserved : goal.loop-index-preserved
 loop-index-preserved g c =
     let added = c.in_ok-read_row.ensures.added in
@@ -33,6 +36,7 @@ loop-index-preserved g c =
       count = rw (added.2, length-append) (omega (arith, c.loop-index.invariant.count));
     }
 
+-- No row is left, so that reading the rest gives the rows that were read.
 pub returns-clause-rows : goal.returns-clause-rows
 returns-clause-rows g c =
     let all =

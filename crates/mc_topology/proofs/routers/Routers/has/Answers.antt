@@ -5,6 +5,8 @@ use Rattle.mc_topology.proofs.Keyed.{is_some_lookup-any_row}
 use Rattle.mc_topology.proofs.InsertedRows.{bytes_eq-router_row}
 use Rattle.mc_topology.proofs.routers.Routers.has.Goals as goal
 
+-- Two names are equal exactly if their bytes are, so that the map has the name exactly if some router
+-- does.
 pub returns : goal.returns
 returns c =
     let name = c.args.name.now in

@@ -4,6 +4,7 @@ use Rattle.mc_topology.specs.SectionRows.{router_row}
 use Rattle.mc_topology.proofs.Places.{slice_get-router_name}
 use Rattle.mc_topology.proofs.routers.Routers.name.Goals as goal
 
+-- The map's keys stand in the order of the rows, so that the one at an index is that row's name.
 pub returns : goal.returns
 returns c = record {
   item = (

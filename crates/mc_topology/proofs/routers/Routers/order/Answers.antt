@@ -1,6 +1,8 @@
 use Rattle.mc_topology.proofs.Places.{slice_get-router_order}
 use Rattle.mc_topology.proofs.routers.Routers.order.Goals as goal
 
+-- The map's values stand in the order of the rows, so that the one at an index is that row's byte
+-- order.
 pub returns : goal.returns
 returns c = record {
   item = (

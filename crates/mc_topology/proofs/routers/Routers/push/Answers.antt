@@ -1,6 +1,7 @@
 use Rattle.mc_topology.proofs.InsertedRows.{router_rows-insert_new}
 use Rattle.mc_topology.proofs.routers.Routers.push.Goals as goal
 
+-- No router has the new name, so that the map puts it behind the others.
 pub returns-clause-added : goal.returns-clause-added
 returns-clause-added c =
     rw c.in_ok-insert.ensures.entries

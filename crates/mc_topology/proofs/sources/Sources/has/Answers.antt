@@ -5,6 +5,8 @@ use Rattle.mc_topology.proofs.Keyed.{is_some_lookup-any_row}
 use Rattle.mc_topology.proofs.InsertedRows.{nat_eq-source_row}
 use Rattle.mc_topology.proofs.sources.Sources.has.Goals as goal
 
+-- Each source is kept under its own address, so that the map has the address exactly if some source
+-- does.
 pub returns : goal.returns
 returns c =
     let address = c.args.address in

@@ -14,11 +14,13 @@ lookup-source_row address entries =
     lookup-find_row source_row (λ a. address == a) (λ s. s.address == address) (nat_eq-source_row address)
     (λ s. s.lan) (λ e. refl) entries
 
+-- The map has nothing for the address, so that no source has it.
 pub returns-in_err-lan : goal.returns-in_err-lan
 returns-in_err-lan c =
     rw (← c.self.view_is) (c.from_residual.ensures
     ∙ (c.in_err-lan.ensures.value ∙ lookup-source_row c.args.address c.self.inside.lans.entries))
 
+-- The map has the LAN under the address, which is that of the first source with it.
 pub returns : goal.returns
 returns c =
     rw (← c.self.view_is)

@@ -4,6 +4,7 @@ use Rattle.mc_topology.specs.Sources.{has_source}
 use Rattle.mc_topology.proofs.InsertedRows.{source_rows-insert_new}
 use Rattle.mc_topology.proofs.sources.Sources.push.Goals as goal
 
+-- No source has the new address, so that the map puts it behind the others.
 pub returns-clause-added : goal.returns-clause-added
 returns-clause-added c =
     let new = subst (λ (s : SourceRow). has_source s.address c.args.self.now ≡ false)

@@ -1,5 +1,6 @@
 use Rattle.mc_topology.proofs.topology.Topology.source.Goals as goal
 
+-- Each source of a topology keeps its rules, and this is the one with the number.
 pub returns-clause-valid : goal.returns-clause-valid
 returns-clause-valid c =
     rw (← c.self.view_is)

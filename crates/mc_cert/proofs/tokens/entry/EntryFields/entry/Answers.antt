@@ -1,6 +1,8 @@
 use Rattle.mc_cert.proofs.FieldLemmas.{DenotesEntry-from_found}
 use Rattle.mc_cert.proofs.tokens.entry.EntryFields.entry.Goals as goal
 
+-- The three required keys were read, and the forwarder's two both or neither: those are the rules of an
+-- entry.
 pub returns : goal.returns
 returns c = λ t ms held.
     let f = c.args.self in

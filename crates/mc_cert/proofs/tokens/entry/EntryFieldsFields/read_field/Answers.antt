@@ -6,6 +6,8 @@ use Rattle.mc_cert.proofs.FieldLemmas.{HoldsEntry-lan, HoldsEntry-need, HoldsEnt
 use Rattle.mc_cert.proofs.FieldLemmas.{HoldsEntry-vif}
 use Rattle.mc_cert.proofs.tokens.entry.EntryFieldsFields.read_field.Goals as goal
 
+-- Each value replaces an earlier one of its key, in the fields as in the object, and leaves what was read
+-- under the other keys.
 pub returns-in_ok-lan-in-Lan : goal.returns-in_ok-lan-in-Lan
 returns-in_ok-lan-in-Lan c =
     let f = c.args.self in

@@ -2,6 +2,7 @@ use Rattle.std.proofs.Common.{◌≡◌, Some, arith}
 use Rattle.mc_cert.proofs.FieldLemmas.{DenotesFlow-from_found}
 use Rattle.mc_cert.proofs.tokens.flow.FlowFields.entries_of_flow.Goals as goal
 
+-- The group and the source that were read are the flow's, and the entries are there.
 pub returns : goal.returns
 returns c =
     let f = c.flow-flow.result.now in

@@ -2,6 +2,7 @@ use Rattle.std.proofs.Common.{◌≡◌, Some, arith}
 use Rattle.mc_cert.proofs.FieldLemmas.{DenotesNumber-from_found}
 use Rattle.mc_cert.proofs.tokens.shared_flow.SharedFlowFields.tree_of.Goals as goal
 
+-- The group and the source that were read are the flow's, and the number is there.
 pub returns : goal.returns
 returns c =
     let f = c.flow-flow.result.now in

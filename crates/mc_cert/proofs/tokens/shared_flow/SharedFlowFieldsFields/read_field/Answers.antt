@@ -5,6 +5,8 @@ use Rattle.mc_cert.specs.Tokens.{HoldsSharedFlow}
 use Rattle.mc_cert.proofs.FieldLemmas.{HoldsSharedFlow-group, HoldsSharedFlow-source, HoldsSharedFlow-tree}
 use Rattle.mc_cert.proofs.tokens.shared_flow.SharedFlowFieldsFields.read_field.Goals as goal
 
+-- Each value replaces an earlier one of its key, in the fields as in the object, and leaves what was read
+-- under the other keys.
 pub returns-in_ok-group-in-Group : goal.returns-in_ok-group-in-Group
 returns-in_ok-group-in-Group c =
     let f = c.args.self in

@@ -7,6 +7,8 @@ use Rattle.mc_cert.proofs.FieldLemmas.{HoldsVersionOne-flows, HoldsVersionOne-ve
 use Rattle.mc_cert.proofs.TokenLemmas.{Reads-deeper}
 use Rattle.mc_cert.proofs.tokens.version_one.VersionOneFieldsFields.read_field.Goals as goal
 
+-- Each value replaces an earlier one of its key, in the fields as in the object, and leaves what was read
+-- under the other key.
 pub returns-in_ok-flows-in-Flows : goal.returns-in_ok-flows-in-Flows
 returns-in_ok-flows-in-Flows c =
     let f = c.args.self in

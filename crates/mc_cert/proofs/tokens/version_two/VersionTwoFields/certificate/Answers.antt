@@ -7,6 +7,7 @@ use Rattle.mc_cert.proofs.Documents.{AllByRecursion-from_All}
 use Rattle.mc_cert.proofs.FieldLemmas.{IsWritableTree-from_trees, IsVersion-from_version_two_found}
 use Rattle.mc_cert.proofs.tokens.version_two.VersionTwoFields.certificate.Goals as goal
 
+-- There is a number for each flow of the topology, which has at most 4,096.
 pub certificate_of-requires-clause-few : goal.certificate_of-requires-clause-few
 certificate_of-requires-clause-few c =
     let (ms, held) = c.requires.read in
@@ -17,6 +18,7 @@ certificate_of-requires-clause-few c =
     (ap (option_map (λ ns. ns.items)) is) (ap (option_map (λ ts. map (λ es. es.items) ts.items)) are) in
     omega (arith, count, c.flows-rules.ensures.rules.few_flows)
 
+-- What a tree's value denotes is a tree that a text can have.
 pub certificate_of-requires-clause-lists : goal.certificate_of-requires-clause-lists
 certificate_of-requires-clause-lists c =
     let (ms, held) = c.requires.read in
@@ -26,6 +28,7 @@ certificate_of-requires-clause-lists c =
     c.in-Some-Some-Some.numbers.items (map (λ es. es.items) c.in-Some-Some-Some.trees.items) ms held
     (ap (option_map (λ ns. ns.items)) is) (ap (option_map (λ ts. map (λ es. es.items) ts.items)) are)).0
 
+-- Each number is that of a tree, so that the flow's object denotes this tree.
 pub returns-in_ok-certificate-in-Some-Some-Some : goal.returns-in_ok-certificate-in-Some-Some-Some
 returns-in_ok-certificate-in-Some-Some-Some c = λ ms held.
     let is : c.args.self.flows ≡ Some c.in-Some-Some-Some.numbers = grind arith in

@@ -7,6 +7,8 @@ use Rattle.mc_cert.proofs.FieldLemmas.{HoldsVersionTwo-flows, HoldsVersionTwo-tr
 use Rattle.mc_cert.proofs.TokenLemmas.{Reads-deeper}
 use Rattle.mc_cert.proofs.tokens.version_two.VersionTwoFieldsFields.read_field.Goals as goal
 
+-- Each value replaces an earlier one of its key, in the fields as in the object, and leaves what was read
+-- under the other keys.
 pub returns-in_ok-numbers-in-Flows : goal.returns-in_ok-numbers-in-Flows
 returns-in_ok-numbers-in-Flows c =
     let f = c.args.self in

@@ -1,4 +1,4 @@
--- The list of the LAN.
+-- The list at a LAN's number is that of the LAN, as there is one for each LAN, in their order.
 use Rattle.std.proofs.Common.{ℕ, List, length, get_or, ap, ap₂, ◌∙◌}
 use Rattle.std.proofs.lemmas.Option.{get_or_from_slice_get}
 use Rattle.std.specs.Prelude.{slice_get}

@@ -8,6 +8,7 @@ use Rattle.mc_explain.specs.SearchLine.{group_by_router}
 use Rattle.mc_explain.specs.TopologyLans.{interfaces_on_lan}
 use Rattle.mc_explain.proofs.searches.lan_probe.LanProbe.routers_on.Goals as goal
 
+-- There is a list of interfaces for each LAN.
 pub on-requires : goal.on-requires
 on-requires c = record {
   known = (
@@ -18,6 +19,7 @@ on-requires c = record {
       subst (λ (n : ℕ). c.args.lan < n) (sym size) c.requires.lan);
 }
 
+-- The interfaces that are kept for the LAN are those that the topology has on it.
 pub returns : goal.returns
 returns c = record {
   value = (

@@ -1,4 +1,4 @@
--- Without a row of the source and the group.
+-- Neither an open row nor the lack of one has a pair by which it could send.
 use Rattle.std.proofs.Common.{inl, inr, sym, ap, ◌∙◌}
 use Rattle.mc_forward.specs.RowValues.{row_value}
 use Rattle.mc_explain.proofs.ProbeLemmas.{list_any_sends-open_row, list_any_sends-no_row}

@@ -1,8 +1,10 @@
--- The first router's interfaces are at the front.
+-- The interfaces at the front that are the first router's are its group, and the groups of the others are
+-- those that are left.
 use Rattle.std.proofs.Common.{◌≤◌, ℕ, length, sym, subst, ◌∙◌, rules}
 use Rattle.mc_explain.proofs.GroupLemmas.{leading_of_router-at_most_length, group_by_router-split}
 use Rattle.mc_explain.proofs.searches.routers_on_lan.RoutersOnLanIterator.next.Goals as goal
 
+-- No more of the interfaces are the first router's than there are.
 pub split_at-requires : goal.split_at-requires
 split_at-requires c = subst (λ (n : ℕ). n ≤ length c.self.inside.left.now) (sym c.leading_of_router.ensures)
     (leading_of_router-at_most_length _ c.self.inside.left.now)

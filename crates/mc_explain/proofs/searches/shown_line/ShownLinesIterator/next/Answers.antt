@@ -1,8 +1,10 @@
--- The first shown line is at the front.
+-- The lines at the front about routers that expect copies from one LAN are shown as one, and the shown
+-- lines after it are those of the rest.
 use Rattle.std.proofs.Common.{◌≤◌, ℕ, length, sym, subst, ◌∙◌, rules}
 use Rattle.mc_explain.proofs.ShownLineLemmas.{leading_expected-at_most_length, shown_lines-split}
 use Rattle.mc_explain.proofs.searches.shown_line.ShownLinesIterator.next.Goals as goal
 
+-- No more of the lines are of this kind than there are.
 pub split_at-requires : goal.split_at-requires
 split_at-requires c = subst (λ (n : ℕ). n ≤ length c.self.inside.left.now) (sym c.leading_expected.ensures)
     (leading_expected-at_most_length _ c.self.inside.left.now)

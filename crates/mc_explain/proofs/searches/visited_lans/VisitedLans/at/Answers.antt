@@ -5,6 +5,7 @@ use Rattle.mc_forward.proofs.IndexLemmas.{slice_get-from_read}
 use Rattle.mc_explain.proofs.SearchLemmas.{visited-within_marks}
 use Rattle.mc_explain.proofs.searches.visited_lans.VisitedLans.at.Goals as goal
 
+-- Each visited LAN has a mark, and there is a mark for each LAN.
 pub returns-then-position-len-clause-listed : goal.returns-then-position-len-clause-listed
 returns-then-position-len-clause-listed c = λ lans m.
     let items = c.args.self.now.lans.items in
@@ -14,6 +15,7 @@ returns-then-position-len-clause-listed c = λ lans m.
     subst (λ (n : ℕ). lan < n) m.count (visited-within_marks c.args.self.now.marks items k lan m.marked
     (slice_get-from_read items k lan within c.index.ensures))
 
+-- At or past the end of the list there is no LAN.
 pub returns-else-position-len-clause-lan : goal.returns-else-position-len-clause-lan
 returns-else-position-len-clause-lan c =
     let items = c.args.self.now.lans.items in

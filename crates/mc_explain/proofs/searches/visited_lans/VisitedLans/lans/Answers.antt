@@ -1,3 +1,4 @@
+-- Each visited LAN has a mark, and there is a mark for each LAN: so its number is below the count of LANs.
 use Rattle.mc_explain.proofs.SearchLemmas.{visited-all_within_marks}
 use Rattle.mc_explain.proofs.searches.visited_lans.VisitedLans.lans.Goals as goal
 

@@ -8,6 +8,7 @@ use Rattle.mc_explain.specs.UnlistedText.{shown_unlisted_pairs, count_rows_of_pa
 use Rattle.mc_asked.proofs.SharedPairLemmas.{is_strictly_sorted_by-shown_pairs, sum_by-map_lengths}
 use Rattle.mc_explain.proofs.unlisted.unlisted_pairs.UnlistedPairs.new.Goals as goal
 
+-- The shown pairs are in ascending order, each once, so a pair can be found by halving.
 pub with_routers-requires : goal.with_routers-requires
 with_routers-requires c = record {
   sorted = (
@@ -16,6 +17,8 @@ with_routers-requires c = record {
       c.args.summary.now)));
 }
 
+-- Each row of a shown pair is counted for the router that has it; the rows that are left are the further
+-- ones. They are no more than all rows, of which each summary counts fewer than 2^32.
 pub returns : goal.returns
 returns c =
     let t = c.args.topology.now in

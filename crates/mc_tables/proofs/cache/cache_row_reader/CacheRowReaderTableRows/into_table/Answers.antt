@@ -1,3 +1,4 @@
+-- At the text's end only a repeat among the rows that aren't kept can refuse the table of the others.
 use Rattle.std.proofs.Common.{Ok, ◌∙◌, ap}
 use Rattle.mc_text.specs.Steps.{◌>>=◌}
 use Rattle.mc_tables.proofs.cache.cache_row_reader.CacheRowReaderTableRows.into_table.Goals as goal

@@ -1,3 +1,4 @@
+-- A line without a line feed is refused, but for a repeat in an earlier line, which comes first.
 use Rattle.std.proofs.Common.{Err, ◌∙◌, ap}
 use Rattle.mc_tables.proofs.RowsSoFarLemmas.{table_from-unended}
 use Rattle.mc_tables.proofs.cache.cache_row_reader.CacheRowReaderTableRows.unended_fault.Goals as goal

@@ -1,3 +1,4 @@
+-- The groups are sorted, so that a binary search finds those that are there and no others.
 use Rattle.std.proofs.Common.{List, ℕ, ◌∙◌, ap, subst, sym}
 use Rattle.std.proofs.lemmas.Cmp.{nat_cmp_total}
 use Rattle.std.specs.FinSet as set

@@ -12,6 +12,7 @@ use Rattle.mc_tables.proofs.CacheMapLemmas.{table_of_kept, is_some_get-entries_b
 use Rattle.mc_tables.proofs.CacheMapLemmas.{lookup-entries_by_key_push, kept_rows_value}
 use Rattle.mc_tables.proofs.cache.cache_rows.CacheRows.insert_entry.Goals as goal
 
+-- The new number is how many entries there were, which is the place at which the entry was pushed.
 pub returns-in_ok-push-in-New-clause-inserted : goal.returns-in_ok-push-in-New-clause-inserted
 returns-in_ok-push-in-New-clause-inserted c =
     let key = c.args.key.now in
@@ -50,6 +51,7 @@ returns-in_ok-push-in-New-clause-inserted c =
           } in k) grown,
     )
 
+-- A key with a number has an entry already, and neither numbers nor entries changed.
 pub returns-in-Repeated-clause-inserted : goal.returns-in-Repeated-clause-inserted
 returns-in-Repeated-clause-inserted c =
     let key = c.args.key.now in
@@ -71,6 +73,7 @@ returns-in-Repeated-clause-inserted c =
           own.2,
     )
 
+-- A key that isn't listed gets no number, and neither numbers nor entries changed.
 pub returns-in-Unlisted-clause-inserted : goal.returns-in-Unlisted-clause-inserted
 returns-in-Unlisted-clause-inserted c =
     let key = c.args.key.now in

@@ -6,6 +6,7 @@ use Rattle.mc_tables.specs.FlatRows.{entries_of}
 use Rattle.mc_tables.proofs.CacheMapLemmas.{lookup-entries_by_key, lookup-from_entries}
 use Rattle.mc_tables.proofs.cache.cache_rows.CacheRows.number_with_hint.Goals as goal
 
+-- Each number is that of an entry.
 pub returns-clause-within : goal.returns-clause-within
 returns-clause-within c =
     let key : ℕ × ℕ = (c.args.source, c.args.group) in
@@ -16,6 +17,7 @@ returns-clause-within c =
     (subst (λ (o : Option ℕ). IfSome o (λ number. number < length es))
     (sym c.number_with_hint.ensures) (c.self.invariant key))
 
+-- The table's map has for each key the entry with the key's number.
 pub returns-clause-entry : goal.returns-clause-entry
 returns-clause-entry c =
     let key : ℕ × ℕ = (c.args.source, c.args.group) in

@@ -1,3 +1,4 @@
+-- Sorting permutes the groups, and a set doesn't depend on their order.
 use Rattle.std.proofs.Common.{◌∙◌, List, ℕ, ap, arith, drop, length, subst}
 use Rattle.std.proofs.lemmas.Cmp.{nat_cmp_total}
 use Rattle.std.proofs.lemmas.List.{take_at}

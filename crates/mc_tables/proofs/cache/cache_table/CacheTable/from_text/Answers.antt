@@ -1,3 +1,4 @@
+-- The reader reads what is listed, and here all sources and groups of the text are: nothing is left out.
 use Rattle.std.proofs.Common.{Some, refl, ◌∙◌}
 use Rattle.mc_tables.specs.ListedRows.{listed_in}
 use Rattle.mc_tables.specs.RowsSoFar.{cache_if}

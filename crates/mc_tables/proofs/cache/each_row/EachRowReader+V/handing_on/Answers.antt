@@ -1,3 +1,4 @@
+-- A reader that was fed nothing hands on all rows of the text.
 use Rattle.std.proofs.Common.{ap, ◌∙◌}
 use Rattle.mc_tables.specs.EachRow.{each_row_if}
 use Rattle.mc_tables.specs.TableSoFar.{table_start}

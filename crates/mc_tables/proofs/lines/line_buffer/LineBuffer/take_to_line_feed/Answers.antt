@@ -5,6 +5,7 @@ use Rattle.mc_text.proofs.PieceLemmas.{position-within_length}
 use Rattle.mc_tables.proofs.PieceLemmas.{lines_so_far-with_begun}
 use Rattle.mc_tables.proofs.lines.line_buffer.LineBuffer.take_to_line_feed.Goals as goal
 
+-- The bytes before the first line feed have none.
 pub invariant_of-self-in-Some : goal.invariant_of-self-in-Some
 invariant_of-self-in-Some c =
     let lines : LinesSoFar = record {
@@ -24,6 +25,7 @@ invariant_of-self-in-Some c =
     (HasNoByte-take_position 10 c.args.rest.now end (sym c.in-Some.ensures)) in
     rw c.in_ok-extend_from_slice-in-Some.ensures.items kept
 
+-- None of the bytes is a line feed.
 pub invariant_of-self-in-None : goal.invariant_of-self-in-None
 invariant_of-self-in-None c =
     let lines : LinesSoFar = record {
@@ -38,6 +40,7 @@ invariant_of-self-in-None c =
     (omega arith) (HasNoByte-from_position 10 c.args.rest.now (sym c.in-None.ensures)) in
     rw c.in_ok-extend_from_slice-in-None.ensures.items kept
 
+-- All bytes belong to the line that has begun.
 pub returns-in_ok-extend_from_slice-in-None : goal.returns-in_ok-extend_from_slice-in-None
 returns-in_ok-extend_from_slice-in-None c = record {
   rules = subst IsValidLinesSoFar c.self.view_is c.self.invariant;

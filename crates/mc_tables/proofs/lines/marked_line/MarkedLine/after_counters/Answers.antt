@@ -4,6 +4,7 @@ use Rattle.mc_tables.proofs.MarkedLemmas.{digits_or_spaces-run, digits_or_spaces
 use Rattle.mc_tables.proofs.MarkedLemmas.{has_counters-from_marks}
 use Rattle.mc_tables.proofs.lines.marked_line.MarkedLine.after_counters.Goals as goal
 
+-- Only bytes of the line are marked, and the run of marks reaches the end of the third counter.
 pub without_front-requires : goal.without_front-requires
 without_front-requires c = record {
   within = (
@@ -16,6 +17,8 @@ without_front-requires c = record {
       omega (arith, within, c.if-front_run_length-end.false));
 }
 
+-- All bytes up to the third counter's end are digits or spaces, and in each of the three stretches only the
+-- last digit has a space behind it: it holds spaces and one counter.
 pub returns : goal.returns
 returns c = record {
   counters = (

@@ -18,6 +18,7 @@ by_parts first read lines rows fault reader answer is none view =
     is ∙ ap (λ f. unless_fault f (read_after first (read rows) lines [])) (sym none)
     ∙ ap (λ s. table_if first read s []) view
 
+-- No line has ended, so that the text has no header.
 pub returns-then-ended-eq0 : goal.returns-then-ended-eq0
 returns-then-ended-eq0 g c =
     let first = g.R.TableRows.header in
@@ -30,6 +31,7 @@ returns-then-ended-eq0 g c =
     (sym c.ended.ensures.ended ∙ c.if-ended-eq0.true)))
     c.in_default.is c.self.view_is
 
+-- The last line has no line feed, and the rows say with which fault such a text ends.
 pub returns-in-Err : goal.returns-in-Err
 returns-in-Err g c =
     let first = g.R.TableRows.header in

@@ -8,6 +8,7 @@ use Rattle.mc_tables.specs.TableSoFar.{table_if}
 use Rattle.mc_tables.proofs.PieceLemmas.{whole_if-only_piece}
 use Rattle.mc_tables.proofs.lines.table_reader.TableReader.read_whole.Goals as goal
 
+-- The text was fed as one piece and ended: the result is that of the whole, as it isn't too large.
 pub returns : goal.returns
 returns g c = record {
   table = λ _.
@@ -18,6 +19,7 @@ returns g c = record {
       (λ more. absurd (let refused = c.in_ok-feed.ensures.too_large c.requires.sound more in cc));
 }
 
+-- The fault of the only piece is that of the whole text, or that it is too large.
 pub returns-in_err-feed : goal.returns-in_err-feed
 returns-in_err-feed g c = record {
   table = (

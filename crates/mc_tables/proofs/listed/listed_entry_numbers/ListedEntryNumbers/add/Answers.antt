@@ -12,6 +12,7 @@ use Rattle.mc_tables.proofs.NumberLemmas.{set_has_key-listed_place, number_of_ke
 use Rattle.mc_tables.proofs.NumberLemmas.{adds_number-set, contains-unlisted}
 use Rattle.mc_tables.proofs.listed.listed_entry_numbers.ListedEntryNumbers.add.Goals as goal
 
+-- A key without a place isn't listed.
 pub returns-in_default-clause-numbered : goal.returns-in_default-clause-numbered
 returns-in_default-clause-numbered c =
     let key = c.args.key.now in
@@ -22,6 +23,7 @@ returns-in_default-clause-numbered c =
       refl,
     )
 
+-- Places that were added have no number, so that nothing changed.
 pub returns-in_err-ensure_places-clause-refused : goal.returns-in_err-ensure_places-clause-refused
 returns-in_err-ensure_places-clause-refused c =
     let keys = c.self.inside.pairs in
@@ -32,6 +34,7 @@ returns-in_err-ensure_places-clause-refused c =
     more.0 c.args.self.now more.1
     c.self.view_is)
 
+-- The place holds a number, which is the key's own, as no other key has the place.
 pub returns-then-index-ne0-clause-numbered : goal.returns-then-index-ne0-clause-numbered
 returns-then-index-ne0-clause-numbered c =
     let key = c.args.key.now in
@@ -55,6 +58,7 @@ returns-then-index-ne0-clause-numbered c =
       kept,
     )
 
+-- The place is the key's alone and was empty: the key gets the number, and no other changes.
 pub returns-clause-numbered : goal.returns-clause-numbered
 returns-clause-numbered c =
     let key = c.args.key.now in

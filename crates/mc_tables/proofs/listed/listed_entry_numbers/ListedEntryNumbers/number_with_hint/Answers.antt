@@ -3,6 +3,7 @@ use Rattle.mc_tables.specs.CacheNumbers.{EntryNumbersValue, number_of_key, decod
 use Rattle.mc_tables.proofs.NumberLemmas.{number_of_key-missing, number_of_key-here}
 use Rattle.mc_tables.proofs.listed.listed_entry_numbers.ListedEntryNumbers.number_with_hint.Goals as goal
 
+-- A key without a place isn't listed, and has no number.
 pub returns-in_err-place : goal.returns-in_err-place
 returns-in_err-place c =
     let key = c.args.key.now in
@@ -11,6 +12,7 @@ returns-in_err-place c =
     c.in_err-place.ensures.none)
     ∙ ap (λ (s : EntryNumbersValue). number_of_key s.numbers key) c.self.view_is
 
+-- The number is the one at the key's place.
 pub returns : goal.returns
 returns c =
     let key = c.args.key.now in

@@ -1,3 +1,4 @@
+-- An empty list of numbers has none at any place.
 use Rattle.mc_tables.proofs.NumberLemmas.{numbers_at_places-none}
 use Rattle.mc_tables.proofs.listed.listed_entry_numbers.ListedEntryNumbers.of.Goals as goal
 

@@ -1,3 +1,4 @@
+-- The index has the pairs' numbers, and each number stands for one pair.
 use Rattle.mc_tables.proofs.ListedPairLemmas.{contains-map_pair_of}
 use Rattle.mc_tables.proofs.listed.listed_pairs.ListedPairs.of.Goals as goal
 

@@ -4,6 +4,7 @@ use Rattle.mc_tables.specs.CacheTable.{same_key}
 use Rattle.mc_tables.proofs.ListedPairLemmas.{if_none-missing_pair, pair_of-increasing_distinct}
 use Rattle.mc_tables.proofs.listed.listed_pairs.ListedPairs.place_with_hint.Goals as goal
 
+-- A pair whose number isn't indexed isn't listed.
 pub returns-clause-none : goal.returns-clause-none
 returns-clause-none c =
     rw (← c.self.view_is)
@@ -11,6 +12,7 @@ returns-clause-none c =
     c.place_with_hint.result
     c.pair_number.ensures.pair (rw c.deref.ensures at c.place_with_hint.ensures.none))
 
+-- Indexed numbers ascend, so that they differ, and so do their pairs.
 pub returns-clause-distinct : goal.returns-clause-distinct
 returns-clause-distinct c =
     subst (λ (keys : List (ℕ × ℕ)). IsDistinct same_key keys) c.self.view_is

@@ -1,3 +1,4 @@
+-- The keys that have a number are those with an unresolved row.
 use Rattle.std.proofs.Common.{ℕ, ◌∙◌, sym, ap}
 use Rattle.std.specs.Prelude.{is_some}
 use Rattle.std.specs.FinSet as set

@@ -10,6 +10,7 @@ use Rattle.mc_tables.proofs.LowestLemmas.{take_put_pair-ascends, put_pair-at_sea
 use Rattle.mc_tables.proofs.LowestLemmas.{take_put_pair-above, key_cmp-not_less}
 use Rattle.mc_tables.proofs.summary.lowest_pairs.LowestPairs.add.Goals as goal
 
+-- The list is full, and the pair isn't below its last: put in its place, it would be cut off.
 pub returns-then-le : goal.returns-then-le
 returns-then-le c =
     let ps : List (ℕ × ℕ) = c.self.inside.pairs.items in
@@ -23,6 +24,7 @@ returns-then-le c =
     (sym (take_all 20 ps (omega arith))
     ∙ sym (take_put_pair-above pair last ps 19 c.self.invariant.0 (omega arith) above))
 
+-- The search gives the place at which the list with the pair ascends, and it is cut to 20 again.
 pub invariant_of-self-in-Err : goal.invariant_of-self-in-Err
 invariant_of-self-in-Err c =
     let ps : List (ℕ × ℕ) = c.self.inside.pairs.items in
@@ -36,6 +38,7 @@ invariant_of-self-in-Err c =
       omega (arith, length-take 20 (put_pair pair ps)),
     )
 
+-- The pair is inserted where the search says, which is where `put_pair` puts it.
 pub returns-in_ok-insert : goal.returns-in_ok-insert
 returns-in_ok-insert c =
     let ps : List (ℕ × ℕ) = c.self.inside.pairs.items in
@@ -45,6 +48,7 @@ returns-in_ok-insert c =
     c.truncate.ensures.items ∙ ap (take 20) (c.in_ok-insert.ensures.items ∙ sym put)
     ∙ ap (λ (l : List (ℕ × ℕ)). take 20 (put_pair pair l)) c.self.view_is
 
+-- The pair is there already, so that putting it in changes nothing.
 pub returns-in_default : goal.returns-in_default
 returns-in_default c =
     let ps : List (ℕ × ℕ) = c.self.inside.pairs.items in

@@ -12,6 +12,7 @@ shown_pairs-push_every : (all : Bool) (every more lowest : List (ℕ × ℕ)) (p
 shown_pairs-push_every all every more lowest pair is one =
     rw (is, one) (shown_pairs-push true every pair)
 
+-- All pairs are kept, and put in order only when they are shown.
 pub returns-then-self : goal.returns-then-self
 returns-then-self c =
     let inside = c.self.inside in

@@ -10,6 +10,7 @@ cond-none_kept : (all : Bool) (every lowest : List (ℕ × ℕ)) → every ≡ [
 cond-none_kept true every lowest none least = ap in_order none ∙ sym in_order-none
 cond-none_kept false every lowest none least = least
 
+-- Whichever list is shown, it is empty.
 pub returns : goal.returns
 returns c =
     let kept : List (ℕ × ℕ) → KeptPairs = λ pairs. record { all = c.args.all; pairs = pairs } in

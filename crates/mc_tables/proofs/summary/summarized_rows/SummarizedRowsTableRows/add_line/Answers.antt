@@ -1,3 +1,4 @@
+-- A row that was accepted keeps the rules of both the table and the summary.
 use Rattle.std.proofs.Common.{subst}
 use Rattle.mc_text.specs.LineView.{line_text}
 use Rattle.mc_tables.specs.CacheTable.{IsValidCache}

@@ -6,6 +6,7 @@ use Rattle.mc_tables.specs.SummaryReading.{SummarizedRowsSoFar, summary_from}
 use Rattle.mc_tables.proofs.SummaryLemmas.{with_summary}
 use Rattle.mc_tables.proofs.summary.summarized_rows.SummarizedRowsTableRows.into_table.Goals as goal
 
+-- The rules of the summary held after each line.
 pub of-requires : goal.of-requires
 of-requires c = record {
   valid = (
@@ -13,6 +14,7 @@ of-requires c = record {
       (sym c.self.view_is) c.requires.valid.1);
 }
 
+-- The table is that of the rows, and the summary is the one made beside it.
 pub returns : goal.returns
 returns c = record {
   table = ap (λ (n : SummaryValue). Ok (record { table = c.in_ok-into_table.field-0; summary = n }))

@@ -1,3 +1,4 @@
+-- A line without a line feed is refused, but for a repeat in an earlier line, which comes first.
 use Rattle.std.proofs.Common.{Err, ap, sym, ◌∙◌}
 use Rattle.mc_tables.specs.declared.fault.TableFaultKind.TheVariants.{Unended}
 use Rattle.mc_tables.specs.RowsSoFar.{refusal_at}

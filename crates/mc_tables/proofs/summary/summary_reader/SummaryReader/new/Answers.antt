@@ -9,6 +9,7 @@ use Rattle.mc_tables.proofs.SummaryRuleLemmas.{empty_summary-is_valid}
 use Rattle.mc_tables.proofs.RowRuleLemmas.{table_of_none-is_valid}
 use Rattle.mc_tables.proofs.summary.summary_reader.SummaryReader.new.Goals as goal
 
+-- Lines are read one after the other, and with no rows both the table and the summary keep the rules.
 pub with_rows-requires : goal.with_rows-requires
 with_rows-requires c = record {
   steps = summary_reads_in_steps;
@@ -18,6 +19,7 @@ with_rows-requires c = record {
       (sym c.new.ensures) (table_of_none-is_valid, empty_summary-is_valid c.args.all c.args.listed));
 }
 
+-- A reader that was fed nothing has all of the text before it.
 pub returns-clause-reads : goal.returns-clause-reads
 returns-clause-reads c = λ text within.
     ap (λ (s : SummarizedCacheSoFar). summary_if s text)

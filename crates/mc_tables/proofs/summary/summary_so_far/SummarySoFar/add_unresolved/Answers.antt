@@ -1,3 +1,4 @@
+-- A listed key gets a number, whichever it is, and so joins the keys that have one.
 use Rattle.std.proofs.Common.{◌∙◌, Some, ap}
 use Rattle.std.specs.FinSet as set
 use Rattle.mc_tables.specs.CacheTable.{key_cmp}

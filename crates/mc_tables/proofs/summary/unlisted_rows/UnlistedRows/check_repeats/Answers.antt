@@ -7,6 +7,7 @@ use Rattle.mc_tables.proofs.UnlistedRowLemmas.{first_repeat-distinct, first_repe
 use Rattle.mc_tables.proofs.summary.unlisted_rows.UnlistedRows.check_repeats.Goals as goal
 use Rattle.mc_tables.proofs.summary.unlisted_rows.UnlistedRows.check_repeats.Goals.{in-Some, in-None}
 
+-- Rows whose keys differ have no repeat.
 pub returns-then-unwrap_or : goal.returns-then-unwrap_or
 returns-then-unwrap_or c =
     let rows = c.self.inside.rows.items in
@@ -16,6 +17,7 @@ returns-then-unwrap_or c =
     c.are_keys_distinct.ensures (sym c.unwrap_or.ensures ∙ c.if-unwrap_or.true)) in
     ap repeat_fault (sym (first_repeat-distinct rows apart) ∙ ap first_repeat c.self.view_is)
 
+-- Which line repeats an earlier one first doesn't depend on the order of the rows.
 pub returns : goal.returns
 returns c =
     let found : c.first_repeat_of_sorted.result ≡ first_repeat c.args.self.now =

@@ -1,3 +1,4 @@
+-- Lines are read one after the other, and no rows break no rule.
 use Rattle.mc_tables.proofs.VifPieceLemmas.{vif_rows-valid_none, vifs_read_in_steps}
 use Rattle.mc_tables.proofs.vifs.vif_reader.VifReader.new.Goals as goal
 

@@ -1,3 +1,4 @@
+-- The new row was read as one that repeats neither an index nor a device.
 use Rattle.std.proofs.Common.{sym, subst}
 use Rattle.mc_text.specs.LineView.{line_text}
 use Rattle.mc_tables.specs.VifTable.{AreValidVifRows}

@@ -1,3 +1,4 @@
+-- Reading the whole text in one piece ends with what the text is read as.
 use Rattle.std.proofs.Common.{refl, ◌∙◌}
 use Rattle.mc_tables.specs.VifReading.{vifs_in}
 use Rattle.mc_tables.specs.VifsSoFar.{vifs_if}

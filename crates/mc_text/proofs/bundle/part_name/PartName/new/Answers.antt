@@ -1,3 +1,4 @@
+-- The test of a name holds of every name, so that no name is refused.
 use Rattle.mc_text.proofs.BundleWords.{is_part_name-complete}
 use Rattle.mc_text.proofs.bundle.part_name.PartName.new.Goals as goal
 

@@ -8,6 +8,8 @@ use Rattle.mc_text.proofs.PartsMeaning.{reads_as-ok, reads_as-err, parts_from_cu
 use Rattle.mc_text.proofs.bundle.parts.Parts.next.Goals as goal
 use Rattle.mc_text.proofs.bundle.parts.Parts.next.Goals.{in-Start, in-Part}
 
+-- To read the next line is to skip what is left of the current part (or the first line) and open the next
+-- one, so that the parts to come are the current part, the opened one and the rest.
 pub returns-in-Ok-Some-clause-opened : goal.returns-in-Ok-Some-clause-opened
 returns-in-Ok-Some-clause-opened g c = λ text done remaining _.
     let own = c.self.inside in
@@ -33,6 +35,7 @@ returns-in-Ok-Some-clause-opened g c = λ text done remaining _.
           (parts_of_opened (Some part) read.0)) c.self.view_is all,
     )
 
+-- As above, but the line is `end`: the current part, if there is one, is the last.
 pub returns-in-Ok-None-clause-ended : goal.returns-in-Ok-None-clause-ended
 returns-in-Ok-None-clause-ended g c = λ text done remaining _.
     let own = c.self.inside in
@@ -54,6 +57,7 @@ returns-in-Ok-None-clause-ended g c = λ text done remaining _.
     subst (λ (s : PartsState). parts_from_current s done text ≡ Ok (current_part s done text))
     c.self.view_is all
 
+-- The fault of the next line is that of all that is to come, as the current part in front of it has none.
 pub returns-in-Err-clause-fault : goal.returns-in-Err-clause-fault
 returns-in-Err-clause-fault g c = λ text done remaining there.
     let own = c.self.inside in

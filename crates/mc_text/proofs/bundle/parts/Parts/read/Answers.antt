@@ -7,6 +7,7 @@ use Rattle.mc_text.proofs.PartsMeaning.{split-from_Consumes, text-nil_at_end}
 use Rattle.mc_text.proofs.PartsMeaning.{parts_from_current-truncated, parts_from_current-read_more}
 use Rattle.mc_text.proofs.bundle.parts.Parts.read.Goals as goal
 
+-- The buffer has room and part of the part is left, so that a read of 0 bytes means that the input ended.
 pub returns-in-Ok-eq0-clause-fault : goal.returns-in-Ok-eq0-clause-fault
 returns-in-Ok-eq0-clause-fault g c = λ text done remaining there.
     let own = c.self.inside in
@@ -25,6 +26,8 @@ returns-in-Ok-eq0-clause-fault g c = λ text done remaining there.
     (parts_from_current-truncated state done text c.self.invariant c.in-Part.is none)
     ∙ ap Err (sym c.failed.ensures.fault)
 
+-- The bytes are taken from the front of the text and belong to the part, as no more were asked for than it
+-- has left: moving them to those done changes nothing of what the bundle is.
 pub returns-in-Ok-clause-bytes : goal.returns-in-Ok-clause-bytes
 returns-in-Ok-clause-bytes g c = λ text done remaining.
     let own = c.self.inside in

@@ -1,3 +1,4 @@
+-- Code and definition both answer just the address that the word shows, so that they agree.
 use Rattle.mc_text.proofs.StepLemmas.{answer_is_value}
 use Rattle.mc_text.proofs.AddressReading.{address_of_word-sound, address_of_word-complete}
 use Rattle.mc_text.proofs.text.addr.Addr.from_hex_word.Goals as goal

@@ -1,3 +1,4 @@
+-- Code and definition both answer just the address whose dotted text it is, so that they agree.
 use Rattle.mc_text.proofs.StepLemmas.{answer_is_value}
 use Rattle.mc_text.proofs.AddressReading.{address_of_text-sound, address_of_text-complete}
 use Rattle.mc_text.proofs.text.addr.Addr.parse_dotted.Goals as goal

@@ -1,3 +1,4 @@
+-- The standard library prints the octets in decimal with dots, and the octets are this address's.
 use Rattle.std.proofs.Common.{List, ℕ, ap, subst, ◌∙◌}
 use Rattle.std.specs.Fmt.{HasWritten}
 use Rattle.std.specs.Net.Addr.{IsIpv4OfBits}

@@ -6,17 +6,20 @@ use Rattle.mc_text.proofs.GroupRangeLemmas.{position-slash, take-slash, drop-sla
 use Rattle.mc_text.proofs.GroupRangeLemmas.{range_text-from_parts, if_range_text}
 use Rattle.mc_text.proofs.text.group_range.GroupRange.parse.Goals as goal
 
+-- The text of a range has a slash.
 pub returns-in_err-slash-clause-only : goal.returns-in_err-slash-clause-only
 returns-in_err-slash-clause-only c = λ range valid is.
     let at = position-slash c.args.text.now range is in
     cc (c.in_err-slash.ensures)
 
+-- The first slash of a range's text comes after its address, which would have been read.
 pub returns-in_err-first-clause-only : goal.returns-in_err-first-clause-only
 returns-in_err-first-clause-only c = λ range valid is.
     let front = take-slash c.args.text.now range c.in_ok-slash.slash is (sym c.in_ok-slash.ensures) in
     let none = c.in_err-first.ensures.only range.0 (omega (arith, valid.high)) front in
     cc
 
+-- After the slash comes the length, at most 32, which would have been read.
 pub returns-in_err-length-clause-only : goal.returns-in_err-length-clause-only
 returns-in_err-length-clause-only c = λ range valid is.
     let slash = c.in_ok-slash.slash in
@@ -26,6 +29,7 @@ returns-in_err-length-clause-only c = λ range valid is.
     let none = c.in_err-length.ensures.only range.1 bound back in
     cc
 
+-- The text is the part before the slash, the slash, and the part behind it, each as it was read.
 pub returns-clause-found : goal.returns-clause-found
 returns-clause-found c =
     let text = c.args.text.now in
@@ -35,6 +39,7 @@ returns-clause-found c =
     (range_text-from_parts text slash range (sym c.in_ok-slash.ensures) c.in_ok-first.ensures.found
     (sym (take_rest text (slash + 1)) ∙ c.in_ok-length.ensures.found)) c.if_valid.ensures.same
 
+-- Address and length are each read as what the text writes, and a range that keeps the rules isn't refused.
 pub returns-clause-only : goal.returns-clause-only
 returns-clause-only c = λ range valid is.
     let text = c.args.text.now in

@@ -14,7 +14,7 @@ use Rattle.mc_text.specs.Addr.{dotted}
 use Rattle.mc_theory.specs.Nets.{Interface}
 use Rattle.mc_theory.specs.Certificates.{Entry}
 use Rattle.mc_topology.specs.declared.flow.Flow.{Flow}
-use Rattle.mc_topology.specs.Answer.{read_rows}
+use Rattle.mc_topology.specs.EachRow.{read_rows}
 use Rattle.mc_topology.specs.Names.{index_of}
 use Rattle.mc_topology.specs.SectionRows.{RouterRow}
 use Rattle.mc_topology.specs.Lookup.{router_no_of}

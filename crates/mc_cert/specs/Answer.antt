@@ -9,7 +9,7 @@ use Rattle.mc_cert.specs.declared.fault.CertFaultKind.TheVariants.{Memory}
 use Rattle.mc_cert.specs.declared.fault.CertFault.{CertFault}
 use Rattle.mc_text.specs.Steps as Steps
 use Rattle.mc_text.specs.Steps.{map_fault}
-use Rattle.mc_topology.specs.Answer.{read_rows}
+use Rattle.mc_topology.specs.EachRow.{read_rows}
 
 -- the result of a step, whose fault is at this place
 abbrev pub locate_fault : {A : Type 0} → At → Result A CertFaultKind → Result A CertFault

@@ -6,7 +6,7 @@ use Rattle.serde_json.specs.Data.{Data, Members}
 use Rattle.serde_json.specs.Find.{get_member, as_u64}
 use Rattle.mc_theory.specs.Nets.{Interface}
 use Rattle.mc_theory.specs.Certificates.{Entry}
-use Rattle.mc_topology.specs.Answer.{◌>>=◌}
+use Rattle.mc_text.specs.Steps.{◌>>=◌}
 use Rattle.mc_topology.specs.Names.{index_of}
 use Rattle.mc_topology.specs.SectionRows.{RouterRow}
 use Rattle.mc_topology.specs.Lookup.{router_no_of}

@@ -7,7 +7,7 @@ use Rattle.serde_json.specs.Find.{get_member, as_str, as_number, as_array, as_ob
 use Rattle.mc_cert.specs.declared.fault.CertFaultKind.{CertFaultKind}
 use Rattle.mc_cert.specs.declared.fault.CertFaultKind.TheVariants.{MissingKey, UnknownKey, BadKind}
 use Rattle.mc_cert.specs.declared.fault.CertFaultKind.TheVariants.{BadNumber, TooMany}
-use Rattle.mc_topology.specs.Answer.{◌>>=◌}
+use Rattle.mc_text.specs.Steps.{◌>>=◌}
 use Rattle.mc_topology.specs.Document.{are_known}
 
 -- the keys of an object, in their order

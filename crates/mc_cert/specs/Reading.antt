@@ -7,7 +7,7 @@ use Rattle.mc_text.specs.Lines.{max_text}
 use Rattle.serde_json.specs.Data.{Data, Members}
 use Rattle.serde_json.specs.Find.{as_object, as_u64}
 use Rattle.serde_json.specs.Read.{read}
-use Rattle.mc_topology.specs.Answer.{◌>>=◌}
+use Rattle.mc_text.specs.Steps.{◌>>=◌}
 use Rattle.mc_topology.specs.Topology.{TopologyValue}
 use Rattle.mc_cert.specs.declared.fault.At.TheVariants.{Top}
 use Rattle.mc_cert.specs.declared.fault.CertFaultKind.{CertFaultKind}

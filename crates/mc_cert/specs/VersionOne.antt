@@ -5,7 +5,7 @@ use Rattle.std.specs.Prelude.{Result, Ok, Err, ok_or, if◌then◌else◌}
 use Rattle.std.specs.Str.{bytes_eq}
 use Rattle.serde_json.specs.Data.{Data, Members}
 use Rattle.mc_text.specs.Addr.{dotted}
-use Rattle.mc_topology.specs.Answer.{◌>>=◌}
+use Rattle.mc_text.specs.Steps.{◌>>=◌}
 use Rattle.mc_topology.specs.declared.flow.Flow.{Flow}
 use Rattle.mc_topology.specs.Topology.{TopologyValue}
 use Rattle.mc_cert.specs.declared.fault.At.TheVariants as at

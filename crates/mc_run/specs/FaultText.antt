@@ -8,7 +8,7 @@ use Rattle.mc_igmp.specs.declared.fault.ListFaultKind.TheVariants as list
 use Rattle.mc_tables.specs.declared.fault.TableFault.{TableFault}
 use Rattle.mc_tables.specs.declared.fault.TableFaultKind.{TableFaultKind}
 use Rattle.mc_tables.specs.declared.fault.TableFaultKind.TheVariants as table
-use Rattle.mc_topology.specs.Answer.{section_text}
+use Rattle.mc_topology.specs.Faults.{section_text}
 use Rattle.mc_topology.specs.declared.fault.TopologyFault.{TopologyFault}
 use Rattle.mc_topology.specs.declared.fault.TopologyFaultKind.{TopologyFaultKind}
 use Rattle.mc_topology.specs.declared.fault.TopologyFaultKind.TheVariants as topology

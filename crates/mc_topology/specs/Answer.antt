@@ -4,9 +4,6 @@ use Rattle.std.specs.Prelude.{◌≡◌, Result, Ok, Err}
 use Rattle.mc_topology.specs.declared.fault.Section.TheVariants.{Top}
 use Rattle.mc_topology.specs.declared.fault.TopologyFault.{TopologyFault}
 use Rattle.mc_topology.specs.declared.fault.TopologyFaultKind.TheVariants.{Memory}
-pub use Rattle.mc_text.specs.Steps.{◌>>=◌}
-pub use Rattle.mc_topology.specs.EachRow.{read_rows}
-pub use Rattle.mc_topology.specs.Faults.{section_text}
 
 -- a call's result, with `view` applied to its value, is that of the step
 abbrev pub ResultsAgree : {X Y E : Type 0} → (X → Y) → Result X E → Result Y E → Type 0

@@ -26,14 +26,14 @@ use Rattle.mc_run.specs.declared.fault.RunFault.TheVariants.{Memory, Write}
 
 -- whether a byte is printed as it is between quotes: 0x20 to 0x7e, but not the quote and the backslash
 abbrev pub is_unescaped : ℕ → Bool
-is_unescaped b = ((nat_le 0x20 b && nat_le b 0x7e) && not (b == 0x22)) && not (b == 0x5c)
+is_unescaped byte = ((nat_le 0x20 byte && nat_le byte 0x7e) && not (byte == 0x22)) && not (byte == 0x5c)
 
 -- a byte between quotes; one that is escaped is written `\xhh`
 abbrev pub quoted_byte : ℕ → List ℕ
-quoted_byte b =
-    if is_unescaped b
-    then b ∷ []
-    else codes "\\x" ++ (hex_digit_of (b / 16) ∷ hex_digit_of (b % 16) ∷ [])
+quoted_byte byte =
+    if is_unescaped byte
+    then byte ∷ []
+    else codes "\\x" ++ (hex_digit_of (byte / 16) ∷ hex_digit_of (byte % 16) ∷ [])
 
 -- bytes between quotes
 abbrev pub quoted : List ℕ → List ℕ

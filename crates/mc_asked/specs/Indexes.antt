@@ -28,8 +28,8 @@ is_of_merged_filter_by excluded want =
 -- The answers say of each flow, a source and a group, whether the records want it.
 abbrev pub AreFlowsWanted : (flows : List (ℕ × ℕ)) → List Record → List Bool → Type 0
 AreFlowsWanted flows records answers =
-    (i : ℕ) (flow : ℕ × ℕ) (is_wanted : Bool) → slice_get flows i ≡ Some flow →
-    slice_get answers i ≡ Some is_wanted → IsWantedAnswer records flow is_wanted
+    (index : ℕ) (flow : ℕ × ℕ) (is_wanted : Bool) → slice_get flows index ≡ Some flow →
+    slice_get answers index ≡ Some is_wanted → IsWantedAnswer records flow is_wanted
 
 -- The index has exactly the groups of the flows, each a source and a group, that the records want.
 abbrev pub IsIndexOfWantedGroups : (flows : List (ℕ × ℕ)) → List Record → List ℕ → Type 0

@@ -24,8 +24,8 @@ unadmitted_in records groups =
 
 -- Each pair has a mark, which is set exactly if the pair passes the test.
 abbrev pub AreMarksOf : (test : ℕ × ℕ → Bool) → (pairs : List (ℕ × ℕ)) → (marks : List Bool) → Type 0
-AreMarksOf test pairs marks = (i : ℕ) (pair : ℕ × ℕ) (mark : Bool) → slice_get pairs i ≡ Some pair →
-    slice_get marks i ≡ Some mark → mark ≡ test pair
+AreMarksOf test pairs marks = (index : ℕ) (pair : ℕ × ℕ) (mark : Bool) → slice_get pairs index ≡ Some pair →
+    slice_get marks index ≡ Some mark → mark ≡ test pair
 
 -- ---- of the LANs of a want
 

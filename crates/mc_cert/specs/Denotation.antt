@@ -31,7 +31,7 @@ HasText key members text = get_member key members ≡ Some (string text)
 
 -- under the key there is this whole number
 abbrev pub HasNumber : List ℕ → Members → ℕ → Type 0
-HasNumber key members n = get_member key members ≡ Some (number (unsigned n))
+HasNumber key members whole = get_member key members ≡ Some (number (unsigned whole))
 
 -- the value is a list of these rows
 abbrev pub AreRows : Data → List Data → Type 0
@@ -99,7 +99,8 @@ pub record DenotesEntries (topology : TopologyValue) (rows : List Data) (tree : 
 
 -- a value denotes the tree of the topology's flow with this number: an object of the flow's group,
 -- its source and the entries
-pub record DenotesFlow (topology : TopologyValue) (flow_number : ℕ) (value : Data) (tree : Tree) : Type 0 where
+pub record DenotesFlow (topology : TopologyValue) (flow_number : ℕ) (value : Data)
+    (tree : Tree) : Type 0 where
   pub flow : Flow
   pub members : Members
   pub rows : List Data

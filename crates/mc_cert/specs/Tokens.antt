@@ -49,10 +49,10 @@ IsRouterName routers router value =
     (name : List ℕ) × (value ≡ string name) × (router_no_of name routers ≡ Some router)
 
 -- the value is this whole number, which is from `low` to `high`
-pub record IsWhole (low high n : ℕ) (value : Data) : Type 0 where
-  pub whole : value ≡ number (unsigned n)
-  pub from : low ≤ n
-  pub to : n ≤ high
+pub record IsWhole (low high meant : ℕ) (value : Data) : Type 0 where
+  pub whole : value ≡ number (unsigned meant)
+  pub from : low ≤ meant
+  pub to : meant ≤ high
 
 -- the value is the text of an address
 abbrev pub IsAddress : ℕ → Data → Type 0

@@ -53,8 +53,9 @@ pub record IsTrueBehind (domain : DomainValue) (flow : ℕ) (behind : Behind) : 
       → HasCircle (net_of domain flow) flight.carried lan behind.causes.items
   -- and each complete run without loss of a packet with at least the TTL that is given has the finding's
   -- fault.
-  pub shown : (finding : Finding) (k ttl : ℕ) → optional_finding_value behind.finding ≡ Some finding
-      → behind.shown_from ≡ Some k → k ≤ ttl → EachCompleteRunHasFault (net_of domain flow) ttl finding
+  pub shown : (finding : Finding) (least ttl : ℕ) → optional_finding_value behind.finding ≡ Some finding
+      → behind.shown_from ≡ Some least → least ≤ ttl
+      → EachCompleteRunHasFault (net_of domain flow) ttl finding
   -- Copies left by the interfaces that are named.
   pub strays : (interface : Interface) → In interface behind.strays.items → In interface flight.strays
   -- Where a LAN is named as missed, no copy waits any more, and that LAN wants the flow and carried none.

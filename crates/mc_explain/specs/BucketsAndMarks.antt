@@ -11,9 +11,9 @@ use Rattle.std.specs.List.{list_any}
 
 -- The list at each place holds f of the keys whose number is the place's, in their order.
 abbrev pub AreBuckets : {A : Type 0} → (ℕ → A) → (ℕ → ℕ) → List (List A) → List ℕ → Type 0
-AreBuckets f number lists ks =
-    (b : ℕ) → b < length lists → slice_index_or lists b []
-    ≡ map f (filter (λ key. number key == b) ks)
+AreBuckets view number lists keys =
+    (place : ℕ) → place < length lists → slice_index_or lists place []
+    ≡ map view (filter (λ key. number key == place) keys)
 
 -- The list of each LAN holds the interfaces that are on it, of those with these numbers, in their order.
 abbrev pub AreInterfacesByLan : DomainFacts → List (List ListedInterface) → (numbers : List ℕ) → Type 0

@@ -95,7 +95,7 @@ pub record StaysReached (net : Net) (interface : Interface) (lan least : ℕ) : 
 
 -- The LANs that packets sent with this TTL reach in a net they also reach in the net `left`.
 abbrev pub ReachesAsMuch : (left net : Net) → (ttl : ℕ) → Type 0
-ReachesAsMuch left net ttl = (m : ℕ) → IsReachedWithTtl net ttl m → IsReachedWithTtl left ttl m
+ReachesAsMuch left net ttl = (lan : ℕ) → IsReachedWithTtl net ttl lan → IsReachedWithTtl left ttl lan
 
 -- If `left_picks` are a complete run without loss of a packet with this TTL in the net `left`, then each LAN
 -- that carries a copy in the run `picks` in the whole net carries one in that run in `left`, too.

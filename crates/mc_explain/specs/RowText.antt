@@ -14,18 +14,18 @@ use Rattle.mc_forward.specs.ListedTables.{DomainFacts}
 
 -- a lowercase hexadecimal digit
 abbrev pub hex_digit_of : ℕ → ℕ
-hex_digit_of d = if nat_le d 9 then 48 + d else 87 + d
+hex_digit_of digit = if nat_le digit 9 then 48 + digit else 87 + digit
 
 -- whether a byte is written as it is: 0x21 to 0x7e, but not the backslash
 abbrev pub is_plain : ℕ → Bool
-is_plain b = (nat_le 0x21 b && nat_le b 0x7e) && not (b == 0x5c)
+is_plain byte = (nat_le 0x21 byte && nat_le byte 0x7e) && not (byte == 0x5c)
 
 -- a byte of a device's name; one that isn't plain is written `\xhh`
 abbrev pub byte_text : ℕ → List ℕ
-byte_text b =
-    if is_plain b
-    then b ∷ []
-    else codes "\\x" ++ (hex_digit_of (b / 16) ∷ hex_digit_of (b % 16) ∷ [])
+byte_text byte =
+    if is_plain byte
+    then byte ∷ []
+    else codes "\\x" ++ (hex_digit_of (byte / 16) ∷ hex_digit_of (byte % 16) ∷ [])
 
 -- the name of a device
 abbrev pub device_name_text : List ℕ → List ℕ

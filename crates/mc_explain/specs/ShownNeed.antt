@@ -16,7 +16,7 @@ use Rattle.mc_theory.specs.ShownFrom.{IsShownFrom}
 -- missed LAN.
 abbrev pub IsShownFromIfAny : Net → List Copy → Finding → Option ℕ → Type 0
 IsShownFromIfAny net copies finding None = IsSecondCopyOrStray finding → ⊥
-IsShownFromIfAny net copies finding (Some k) = IsShownFrom net copies finding k
+IsShownFromIfAny net copies finding (Some least) = IsShownFrom net copies finding least
 
 -- ---- how the number is worked out
 

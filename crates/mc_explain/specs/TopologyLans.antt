@@ -12,13 +12,13 @@ use Rattle.mc_explain.specs.declared.searches.listed_interface.ListedInterface.{
 
 -- the topology's interface with this number, from 0
 abbrev pub interface_at : TopologyValue → ℕ → InterfaceRow
-interface_at topology k =
-    unwrap_or (slice_get topology.interfaces k) (record { router = 0; device = []; lan = 0 })
+interface_at topology number =
+    unwrap_or (slice_get topology.interfaces number) (record { router = 0; device = []; lan = 0 })
 
 -- the router's interfaces, of those with these numbers
 abbrev pub interfaces_of_router : TopologyValue → List ℕ → (router : ℕ) → List ℕ
-interfaces_of_router topology ks router = filter
-    (λ number. (interface_at topology number).router == router) ks
+interfaces_of_router topology numbers router = filter
+    (λ number. (interface_at topology number).router == router) numbers
 
 -- the numbers of all interfaces, by router and then in the topology's order
 abbrev pub interfaces_by_router : TopologyValue → List ℕ
@@ -39,15 +39,15 @@ vif_of_device domain router device = find (λ vif. vif_has_device device (domain
 
 -- an interface by its router, its number, and the router's vif of its device
 abbrev pub listed_interface_of : DomainFacts → ℕ → InterfaceRow → ListedInterface
-listed_interface_of domain k row = record {
+listed_interface_of domain number row = record {
   router = row.router;
-  interface = k;
+  interface = number;
   vif = vif_of_device domain row.router row.device;
 }
 
 -- the interface with this number, with its router and the router's vif of its device
 abbrev pub listed_interface_at : DomainFacts → ℕ → ListedInterface
-listed_interface_at domain k = listed_interface_of domain k (interface_at domain.topology k)
+listed_interface_at domain number = listed_interface_of domain number (interface_at domain.topology number)
 
 -- ---- LANs
 

@@ -53,7 +53,7 @@ pub record IsAssembled (t : TopologyValue) (tables : List TablesValue) (rs : Lis
 -- R holds of the two items that both lists have at one place, wherever both have one
 abbrev pub RelatedAtEachIndex : {A B : Type 0} → (A → B → Type 0) → List A → List B → Type 0
 RelatedAtEachIndex {A} {B} R xs ys =
-    (k : ℕ) (x : A) (y : B) → slice_get xs k ≡ Some x → slice_get ys k ≡ Some y → R x y
+    (index : ℕ) (x : A) (y : B) → slice_get xs index ≡ Some x → slice_get ys index ≡ Some y → R x y
 
 -- the answer is yes exactly if these records want the channel, a source and a group
 abbrev pub IsChannelWanted : List Record → ℕ × ℕ → Bool → Type 0

@@ -20,7 +20,7 @@ use Rattle.serde_json.specs.Written.{compact_text}
 
 -- a number from 0 on
 abbrev pub count_data : ℕ → Data
-count_data n = number (unsigned n)
+count_data count = number (unsigned count)
 
 -- a list of values
 abbrev pub list_data : List Data → Data

@@ -145,8 +145,8 @@ IsFoundAtFlowTtlIf false whole domain flow found = found ≡ None
 abbrev pub IsFoundBelow : (whole : Bool) → DomainValue → (flow : ℕ) → (shown_from : Option ℕ)
     → Option Finding → Type 0
 IsFoundBelow whole domain flow None found = found ≡ None
-IsFoundBelow whole domain flow (Some k) found =
-    IsFoundAtFlowTtlIf (nat_lt (ttl_of domain flow) k) whole domain flow found
+IsFoundBelow whole domain flow (Some least) found =
+    IsFoundAtFlowTtlIf (nat_lt (ttl_of domain flow) least) whole domain flow found
 
 -- These are the packets that show the finding, and what one with the flow's own TTL meets.
 pub record IsShownBy (whole : Bool) (domain : DomainValue) (flow : ℕ) (flights : ExaminedFlights)

@@ -20,7 +20,8 @@ pub record HasCounters (line after : List ℕ) : Type 0 where
 -- each bit that is set marks a byte, the one at its place, and that byte passes
 abbrev pub AreMarks : (ℕ → Bool) → List ℕ → ℕ → Type 0
 AreMarks passes bytes marks =
-    (k : ℕ) → bit_at marks k ≡ 1 → (k < length bytes) × (passes (slice_index bytes k) ≡ true)
+    (place : ℕ) → bit_at marks place ≡ 1
+    → (place < length bytes) × (passes (slice_index bytes place) ≡ true)
 
 -- the bytes that are marked as digits are digits, and those that are marked as spaces are spaces
 pub record IsMarked (line : MarkedLine) : Type 0 where
@@ -30,4 +31,4 @@ pub record IsMarked (line : MarkedLine) : Type 0 where
 -- the bits of `ends` mark the digits that have a space after them
 abbrev pub AreLastDigits : ℕ → ℕ → ℕ → Type 0
 AreLastDigits digits spaces ends =
-    (k : ℕ) → bit_at ends k ≡ min (bit_at digits k) (bit_at spaces (k + 1))
+    (place : ℕ) → bit_at ends place ≡ min (bit_at digits place) (bit_at spaces (place + 1))

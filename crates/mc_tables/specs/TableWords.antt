@@ -52,7 +52,7 @@ number_in least most word =
 
 -- the word denotes the address a, as a router prints it whose machine has this byte order
 abbrev pub WordDenotesAddress : Order → List ℕ → ℕ → Type 0
-WordDenotesAddress order word a = IsAddr a × IsAddressWord order word a
+WordDenotesAddress order word address = IsAddr address × IsAddressWord order word address
 
 -- the address that the word denotes, if it denotes one
 abbrev pub address_in : Order → List ℕ → Option ℕ

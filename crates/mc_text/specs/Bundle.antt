@@ -46,7 +46,7 @@ pub record PartText : Type 0 where
 
 -- whether a byte may be in a part's name: ASCII letters, digits, `-`, `_`, `.` and `/`
 abbrev pub is_name_byte : ℕ → Bool
-is_name_byte b = is_ascii_alphanumeric b || (b == 45) || (b == 95) || (b == 46) || (b == 47)
+is_name_byte byte = is_ascii_alphanumeric byte || (byte == 45) || (byte == 95) || (byte == 46) || (byte == 47)
 
 -- a part's name: 1 to 64 bytes that may be in one
 pub record IsPartName (name : List ℕ) : Type 0 where

@@ -5,7 +5,8 @@ use Rattle.std.specs.List.{list_all}
 -- whether a device's name may have the byte: not 0x09 to 0x0D (tab, line feed and the like), space,
 -- `/` or `:`
 abbrev pub is_device_name_byte : ℕ → Bool
-is_device_name_byte b = not ((nat_le 9 b && nat_le b 13) || ((b == 32) || ((b == 47) || (b == 58))))
+is_device_name_byte byte =
+    not ((nat_le 9 byte && nat_le byte 13) || ((byte == 32) || ((byte == 47) || (byte == 58))))
 
 -- 1 to 15 bytes (IFNAMSIZ of include/uapi/linux/if.h), each one that a name may have; the kernel
 -- also refuses the names `.` and `..`, and the byte 0xA0

@@ -8,7 +8,7 @@ use Rattle.mc_topology.specs.declared.fault.TopologyFaultKind.TheVariants.{BadAd
 -- the address, which has to be there and to pass the test (else BadAddress)
 abbrev pub checked_address : (ℕ → Bool) → Option ℕ → Result ℕ TopologyFaultKind
 checked_address p None = Err BadAddress
-checked_address p (Some a) = if p a then Ok a else Err BadAddress
+checked_address p (Some address) = if p address then Ok address else Err BadAddress
 
 -- the address that a text writes, of a host that may send (else BadAddress)
 unfoldable pub source_address_of : List ℕ → Result ℕ TopologyFaultKind

@@ -9,7 +9,7 @@ use Rattle.mc_text.specs.DeviceName.{is_device_name}
 -- whether a byte may be in a name: a letter, a digit, `-`, `_` or `.`, which are the bytes of a
 -- part's name in a bundle, but for `/`
 abbrev pub is_name_byte : ℕ → Bool
-is_name_byte b = is_part_byte b && not (b == 47)
+is_name_byte byte = is_part_byte byte && not (byte == 47)
 
 -- whether a LAN or a router can have the name: 1 to 32 letters, digits, `-`, `_` or `.`
 unfoldable pub is_name : List ℕ → Bool

@@ -56,7 +56,8 @@ flow_key flow = (flow.source, flow.group)
 -- no two items of the list have the same key
 abbrev pub AreDistinctBy : {X K : Type 0} → (X → K) → List X → Type 0
 AreDistinctBy {X} {K} key xs =
-    (i j : ℕ) (x y : X) → slice_get xs i ≡ Some x → slice_get xs j ≡ Some y → key x ≡ key y → i ≡ j
+    (first second : ℕ) (x y : X) → slice_get xs first ≡ Some x → slice_get xs second ≡ Some y
+    → key x ≡ key y → first ≡ second
 
 -- the item is in the list
 abbrev pub IsIn : {X : Type 0} → List X → X → Type 0

@@ -6,7 +6,7 @@ use Rattle.mc_text.specs.Lines.{LineText, HasNoLineFeed, lines_from, max_text}
 use Rattle.mc_text.specs.Steps.{◌>>=◌}
 use Rattle.mc_igmp.specs.declared.record.Record.{Record}
 use Rattle.mc_igmp.specs.declared.fault.ListFault.{ListFault}
-use Rattle.mc_igmp.specs.declared.list_reader.LineReader.{LineReader}
+use Rattle.mc_igmp.specs.declared.line_reader.LineReader.{LineReader}
 use Rattle.mc_igmp.specs.declared.fault.ListFaultKind.TheVariants.{TooLarge}
 use Rattle.mc_igmp.specs.ReadingList.{fault_at, read_lines}
 
@@ -55,13 +55,7 @@ no_list = record { size = 0; ended = 0; begun = []; records = []; fault = None }
 
 -- the state without its records
 abbrev pub without_records : ListSoFar → ListSoFar
-without_records so_far = record {
-  size = so_far.size;
-  ended = so_far.ended;
-  begun = so_far.begun;
-  records = [];
-  fault = so_far.fault;
-}
+without_records so_far = record so_far { records = [] }
 
 -- an earlier fault, if there was one, or else what is read
 abbrev pub unless_fault : Option ListFault → Result (List Record) ListFault

@@ -7,6 +7,7 @@ mod digits;
 mod fault;
 mod group_records;
 pub mod laws;
+mod line_reader;
 mod list;
 mod list_reader;
 mod message;

@@ -1,5 +1,5 @@
--- Two words, as a number of 32 bits, are 65,536 times the first plus the second: their sum, but for 65,535
--- times the first.
+-- Two words, as a number of 32 bits, are 65,536 times the first plus
+-- the second: their sum, but for 65,535 times the first.
 use Rattle.std.proofs.Common.{arith, length-drop}
 use Rattle.std.proofs.lemmas.List.{take_rest}
 use Rattle.mc_igmp.proofs.ChecksumLemmas.{word_sum-eight}

@@ -1,5 +1,5 @@
--- While all values are those of digits, the bytes so far are decoded; once one isn't, no bytes are what the
--- digits write.
+-- While all values are those of digits, the bytes so far are
+-- decoded; once one isn't, no bytes are what the digits write.
 use Rattle.std.proofs.Common.{◌≡◌, ◌≢◌, ℕ, ◌*◌, ◌<◌, ◌≤◌, List, take, drop, Ok}
 use Rattle.hex.specs.Hex.{decode_pairs}
 use Rattle.hex.proofs.Pairs.{prepend}

@@ -5,8 +5,8 @@ use Rattle.mc_igmp.specs.Records.{records_in, HaveNoChanges}
 use Rattle.mc_igmp.proofs.RecordsLemmas.{after_records-first, after_records-none, records_in-first}
 use Rattle.mc_igmp.proofs.group_records.skip_records.Goals as goal
 
--- The first record of the rest doesn't end within the bytes, and its number is how many came before it, plus
--- one.
+-- The first record of the rest doesn't end within the bytes, and
+-- its number is how many came before it, plus one.
 pub returns-in_default : goal.returns-in_default
 returns-in_default c =
     let i = c.loop-index.index in
@@ -14,8 +14,8 @@ returns-in_default c =
     c.loop-index.rest.now (omega arith) in
     rw c.from.ensures (sym c.loop-index.invariant.after ∙ (rw (← c.in_default.ensures) at first))
 
--- Skipping a record and then the others is skipping them all; if neither it nor the others report a change,
--- none of them does.
+-- Skipping a record and then the others is skipping them all; if
+-- neither it nor the others report a change, none of them does.
 pub loop-index-preserved : goal.loop-index-preserved
 loop-index-preserved c =
     let i = c.loop-index.index in

@@ -3,4 +3,5 @@ use Rattle.mc_igmp.proofs.PieceLemmas.{list_if-no_list}
 use Rattle.mc_igmp.proofs.list_reader.ListReader.new.Goals as goal
 
 pub returns-clause-reads : goal.returns-clause-reads
-returns-clause-reads c = λ text. rw (c.new.ensures.items, c.none.ensures) (list_if-no_list text)
+returns-clause-reads c = λ text.
+    rw (c.new.ensures.ended, c.new.ensures.begun, c.new.ensures.list) (list_if-no_list text)

@@ -1,5 +1,5 @@
--- The four are the first words of the line, and ascend from `next`, so that each comes behind those before
--- it.
+-- The four are the first words of the line, and ascend from
+-- `next`, so that each comes behind those before it.
 use Rattle.std.proofs.Common.{◌∷◌, [], arith}
 use Rattle.mc_tables.proofs.FourOifLemmas.{first_words-four_oifs}
 use Rattle.mc_tables.proofs.cache.four_oifs.add_four_oifs.Goals as goal

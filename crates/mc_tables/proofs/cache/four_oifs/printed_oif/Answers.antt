@@ -16,8 +16,8 @@ pub overflow_sub-threshold : goal.overflow_sub-threshold
 overflow_sub-threshold c =
     let at = printed_oif-has_digits c.args.line.now c.args.at c.requires.printed in omega (arith, at.2)
 
--- The bytes are a space, a vif with a space or a digit for its tens, a colon, a digit and two spaces: one
--- word.
+-- The bytes are a space, a vif with a space or a digit for its
+-- tens, a colon, a digit and two spaces: one word.
 pub returns : goal.returns
 returns c = record {
   word = λ top. first_word-printed_oif_at c.args.line.now c.args.at c.requires.long c.requires.printed top;

@@ -7,8 +7,8 @@ use Rattle.mc_tables.specs.CacheReading.{oifs_in}
 use Rattle.mc_tables.specs.OutgoingSteps.{oifs_after_words}
 use Rattle.mc_tables.proofs.cache.plain_row.read_ascending_oifs.Given as goal
 
--- reading the rest after the outgoing vifs so far is reading the line, and they are all below
--- the next
+-- reading the rest after the outgoing vifs so far is reading
+-- the line, and they are all below the next
 abbrev AreRead : List Oif → List ℕ → ℕ → List ℕ → Type 0
 AreRead oifs rest next line =
     (oifs_after_words oifs (words_of rest) ≡ oifs_in (words_of line))

@@ -30,8 +30,8 @@ returns-in_err-cache-clause-fault c =
     fault_of_table (cache_rows_in c.args.order c.args.text.now) _
     (sym (c.in_err-cache.ensures (λ is. there (err_injective is)))))
 
--- The summary has the sources and groups of all resolved rows, where none is listed: as a list, they keep
--- each row.
+-- The summary has the sources and groups of all resolved rows,
+-- where none is listed: as a list, they keep each row.
 pub returns-clause-kept : goal.returns-clause-kept
 returns-clause-kept c = λ rows read.
     let cache = c.in_ok-cache.cache in

@@ -1,5 +1,5 @@
--- The digits of the two words, decoded together, are the bytes of the first address and then those of the
--- second.
+-- The digits of the two words, decoded together, are the bytes
+-- of the first address and then those of the second.
 use Rattle.std.proofs.Common.{sym, ap, ◌∙◌, Some, arith}
 use Rattle.mc_tables.proofs.AddressWordLemmas.{has_addresses-from_words, address_in-both_words}
 use Rattle.mc_tables.proofs.lines.address_words.addresses_together.Goals as goal

@@ -5,8 +5,8 @@ use Rattle.mc_tables.specs.LinesSoFar.{LinesSoFar, with_begun, read_after, line_
 use Rattle.mc_tables.proofs.PieceLemmas.{read_after-taken, read_after-refused, judge-begun_line}
 use Rattle.mc_tables.proofs.lines.rows.read_whole_line.Goals as goal
 
--- The line is the one that the buffer would have. What is read after it is what the bytes behind its line
--- feed are.
+-- The line is the one that the buffer would have. What is read
+-- after it is what the bytes behind its line feed are.
 pub returns-clause-reads : goal.returns-clause-reads
 returns-clause-reads g c = λ more.
     let header = g.R.TableRows.header in

@@ -28,8 +28,8 @@ loop-i-preserved c =
       few = loop.invariant.few;
     }
 
--- A number repeats neither one in a slot, whose mark would equal its own, nor one of the others, which ascend
--- once sorted.
+-- A number repeats neither one in a slot, whose mark would equal its
+-- own, nor one of the others, which ascend once sorted.
 pub returns : goal.returns
 returns c = λ is.
     let loop = c.loop-i in

@@ -12,8 +12,8 @@ pub places-smaller : goal.places-smaller
 places-smaller c = let found = rw c.in-Ok-Some.field-0-is at c.in-Ok-Some.ensures in
     next_part_from-fewer_parts (place_text c.places.place) _ _ found
 
--- The parts read so far and those from this place are all parts: the new one goes from the second list to the
--- first.
+-- The parts read so far and those from this place are all parts:
+-- the new one goes from the second list to the first.
 pub places-preserved : goal.places-preserved
 places-preserved c =
     let found = rw c.in-Ok-Some.field-0-is at c.in-Ok-Some.ensures in

@@ -15,8 +15,8 @@ pub returns-in_err-write_all-clause-err : goal.returns-in_err-write_all-clause-e
 returns-in_err-write_all-clause-err g c = OnErr-from _ _ (appends_prefix-after_front _ _ _ []
     (codes "mcaudit bundle 1\n") _ _ (Appends-nil _) c.in_err-write_all.ensures.err refl)
 
--- The bundle is what was written, this part, and the rest: a proper prefix of the part leaves one of the
--- bundle.
+-- The bundle is what was written, this part, and the rest: a
+-- proper prefix of the part leaves one of the bundle.
 pub returns-in_err-write_part-clause-err : goal.returns-in_err-write_part-clause-err
 returns-in_err-write_part-clause-err g c =
     let at = bundle_spelling-split_at_part c.args.parts.now c.loop-part.part-index c.part-item.result

@@ -15,8 +15,8 @@ consumes_up_to-from_reads_onto remaining left rest old new more limit (read, fir
     let both = Consumes-trans remaining left rest read more first second in
     (read ++ more, simp length-append (omega arith), both)
 
--- In each of the three, the bytes of the last read and those before stay within the limit, as no more than
--- the room was asked for.
+-- In each of the three, the bytes of the last read and those before stay
+-- within the limit, as no more than the room was asked for.
 pub returns-in-Ok-eq0-clause-consumed : goal.returns-in-Ok-eq0-clause-consumed
 returns-in-Ok-eq0-clause-consumed g c =
     consumes_up_to-from_reads_onto _ _ _ _ _ _ _ c.reading.invariant.bytes c.in-Ok-eq0.ensures.bytes.0

@@ -1,5 +1,5 @@
--- Code and definition both answer just the number that the word writes, if it is in range, so that they
--- agree.
+-- Code and definition both answer just the number that the
+-- word writes, if it is in range, so that they agree.
 use Rattle.mc_text.proofs.StepLemmas.{answer_is_value}
 use Rattle.mc_text.proofs.NumberReading.{number_up_to-sound, number_up_to-complete}
 use Rattle.mc_text.proofs.text.number.decimal.Goals as goal

@@ -1,5 +1,5 @@
--- The clone lists the same pairs, and the keys for every source have the groups of those pairs, however often
--- each repeats.
+-- The clone lists the same pairs, and the keys for every source have
+-- the groups of those pairs, however often each repeats.
 use Rattle.std.proofs.Common.{◌≡◌, ◌∙◌}
 use Rattle.mc_tables.specs.Summary.{keys_for_every_source}
 use Rattle.mc_tables.proofs.ListedPairLemmas.{from_list-same_groups}

@@ -1,6 +1,6 @@
--- What was decoded of the rest are digits before its first line feed, and so of this line, or nothing was.
+-- Only digits were decoded ahead, and they end before a line feed: they belong to this line.
 use Rattle.mc_igmp.proofs.DecodeAheadLemmas.{decoded_ahead-up_to_line_end}
-use Rattle.mc_igmp.proofs.list_reader.LineReader.find_line_end.Goals as goal
+use Rattle.mc_igmp.proofs.line_reader.LineReader.find_line_end.Goals as goal
 
 pub returns-clause-ahead : goal.returns-clause-ahead
 returns-clause-ahead c =

@@ -5,7 +5,7 @@ use Rattle.mc_text.proofs.BundleWords.{HasNoByte-append}
 use Rattle.mc_text.proofs.LineLemmas.{HasNoByte-from_position}
 use Rattle.mc_text.proofs.PieceLemmas.{position-within_length}
 use Rattle.mc_igmp.proofs.PieceLemmas.{read_rest_of_lines_more, read_rest_of_lines-fault}
-use Rattle.mc_igmp.proofs.list_reader.LineReader.read_piece.Goals as goal
+use Rattle.mc_igmp.proofs.line_reader.LineReader.read_piece.Goals as goal
 
 -- The line is the next of the text, whatever follows it, so that its fault is the text's.
 pub returns-in_err-end_line-clause-fault : goal.returns-in_err-end_line-clause-fault

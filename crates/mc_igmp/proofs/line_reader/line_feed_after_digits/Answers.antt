@@ -3,7 +3,7 @@ use Rattle.std.specs.Prelude.{position}
 use Rattle.std.proofs.lemmas.Slice.{between_to_end}
 use Rattle.mc_igmp.proofs.DecodeAheadLemmas.{position-line_feed_after_digits}
 use Rattle.mc_igmp.proofs.DecodeAheadLemmas.{position-no_line_feed_after_digits}
-use Rattle.mc_igmp.proofs.list_reader.line_feed_after_digits.Goals as goal
+use Rattle.mc_igmp.proofs.line_reader.line_feed_after_digits.Goals as goal
 
 -- No digit is a line feed, and neither is a byte after the digits.
 pub returns-in_err-place : goal.returns-in_err-place

@@ -1,7 +1,7 @@
 use Rattle.std.proofs.Common.{◌≡◌, ◌+◌, ◌≤◌, ℕ, List, ◌++◌, length}
 use Rattle.mc_text.specs.Lines.{HasNoLineFeed}
 use Rattle.mc_igmp.specs.ListSoFar.{read_rest_of_lines}
-use Rattle.mc_igmp.proofs.list_reader.LineReader.read_piece.Given as goal
+use Rattle.mc_igmp.proofs.line_reader.LineReader.read_piece.Given as goal
 
 -- the rest of the piece, after what was read, reads as the whole piece
 abbrev pub invariant-lines : goal.invariant-lines

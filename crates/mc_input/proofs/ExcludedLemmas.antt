@@ -22,7 +22,7 @@ use Rattle.mc_files.specs.Layout.{Slot, cache_slot, file_name, part_name, report
 use Rattle.mc_files.specs.Layout.{vif_slot}
 use Rattle.mc_files.specs.Layout.{first_lan_number}
 use Rattle.mc_forward.specs.Domains.{TablesValue}
-use Rattle.mc_input.specs.FilesReading.{input_of_files, part_from_file}
+use Rattle.mc_input.specs.FilesReading.{input_of_files, files_as_source}
 use Rattle.mc_input.specs.ExcludedRouters.{AreRouterNames, cache_header}
 use Rattle.mc_input.specs.ExcludedRouters.{check_router_names, input_of_files_without}
 use Rattle.mc_input.specs.ExcludedRouters.{files_with_exclusions, vif_header}
@@ -149,7 +149,7 @@ module _ (files : List FileText) where
   pub router_tables-header_only : (n : ℕ) (name : List ℕ) (order : Order)
       → file_named files (file_name (vif_slot name)) ≡ Some vif_header
       → file_named files (file_name (cache_slot name)) ≡ Some cache_header
-      → router_tables Input (part_from_file files) n name order ≡ Ok empty_tables
+      → router_tables Input (files_as_source files) n name order ≡ Ok empty_tables
   unfolding router_tables
   router_tables-header_only n name order vif cache = rw (vif, cache) refl
 
@@ -166,8 +166,8 @@ module _ (files others : List FileText) where
   -- the tables of a router
   pub router_tables-same_files : (n : ℕ) (name : List ℕ) (order : Order)
       → IsSameFile files others (vif_slot name) → IsSameFile files others (cache_slot name)
-      → router_tables Input (part_from_file files) n name order
-      ≡ router_tables Input (part_from_file others) n name order
+      → router_tables Input (files_as_source files) n name order
+      ≡ router_tables Input (files_as_source others) n name order
   unfolding router_tables
   router_tables-same_files n name order vif cache =
       rw (file_part-same_file (vif_slot name) vif, file_part-same_file (cache_slot name) cache) refl
@@ -175,7 +175,7 @@ module _ (files others : List FileText) where
   -- the reports of all LANs
   pub all_reports-same_files : ((lan : List ℕ) → IsSameFile files others (reports_slot lan))
       → (n : ℕ) (lans : List (List ℕ))
-      → all_reports Input (part_from_file files) n lans ≡ all_reports Input (part_from_file others) n lans
+      → all_reports Input (files_as_source files) n lans ≡ all_reports Input (files_as_source others) n lans
   unfolding all_reports
   all_reports-same_files same n [] = refl
   all_reports-same_files same n (lan ∷ lans) =
@@ -183,14 +183,14 @@ module _ (files others : List FileText) where
 
   -- the topology
   pub read_part-same_topology_file : (n : ℕ) → IsSameFile files others topology_slot
-      → read_part Input (part_from_file files n topology_slot) topology_of
-      ≡ read_part Input (part_from_file others n topology_slot) topology_of
+      → read_part Input (files_as_source files n topology_slot) topology_of
+      ≡ read_part Input (files_as_source others n topology_slot) topology_of
   read_part-same_topology_file n same = rw (file_part-same_file topology_slot same) refl
 
 -- so the reports are the folder's also with routers excluded
 pub all_reports-with_exclusions : (names : List (List ℕ)) (files : List FileText) (t : TopologyValue)
-    → all_reports Input (part_from_file (files_with_exclusions names files)) (first_lan_number t) t.lans
-    ≡ all_reports Input (part_from_file files) (first_lan_number t) t.lans
+    → all_reports Input (files_as_source (files_with_exclusions names files)) (first_lan_number t) t.lans
+    ≡ all_reports Input (files_as_source files) (first_lan_number t) t.lans
 all_reports-with_exclusions names files t =
     all_reports-same_files (files_with_exclusions names files) files (IsSameFile-reports_slot names files)
     (first_lan_number t) t.lans
@@ -224,19 +224,19 @@ check_router_names-Ok t n (name ∷ names) are =
 module _ (names : List (List ℕ)) (files : List FileText) where
   -- the topology is refused first,
   pub input_of_files_without-topology_Err : (fault : SourceFault)
-      → read_part Input (part_from_file files 0 topology_slot) topology_of ≡ Err fault
+      → read_part Input (files_as_source files 0 topology_slot) topology_of ≡ Err fault
       → input_of_files_without names files ≡ Err (Source fault)
   input_of_files_without-topology_Err fault topology = rw topology refl
 
   -- then a name,
   pub input_of_files_without-name_Err : (t : TopologyValue) (fault : ExclusionFault)
-      → read_part Input (part_from_file files 0 topology_slot) topology_of ≡ Ok t
+      → read_part Input (files_as_source files 0 topology_slot) topology_of ≡ Ok t
       → check_router_names t 1 names ≡ Err fault → input_of_files_without names files ≡ Err fault
   input_of_files_without-name_Err t fault topology name = rw (topology, name) refl
 
   -- and then the rest is
   pub input_of_files_without-names_Ok : (t : TopologyValue) (x : Unit {0})
-      → read_part Input (part_from_file files 0 topology_slot) topology_of ≡ Ok t
+      → read_part Input (files_as_source files 0 topology_slot) topology_of ≡ Ok t
       → check_router_names t 1 names ≡ Ok x
       → input_of_files_without names files
       ≡ map_fault Source (input_of_files (files_with_exclusions names files))
@@ -244,11 +244,11 @@ module _ (names : List (List ℕ)) (files : List FileText) where
 
   -- the files with routers excluded have the folder's topology
   pub input_of_files-with_exclusions : (t : TopologyValue)
-      → read_part Input (part_from_file files 0 topology_slot) topology_of ≡ Ok t
+      → read_part Input (files_as_source files 0 topology_slot) topology_of ≡ Ok t
       → input_of_files (files_with_exclusions names files)
-      ≡ read_tables_and_reports Input (part_from_file (files_with_exclusions names files)) t
+      ≡ read_tables_and_reports Input (files_as_source (files_with_exclusions names files)) t
   input_of_files-with_exclusions t topology =
-      read_input-judged Input (part_from_file (files_with_exclusions names files)) (λ t. Ok tt) t tt
+      read_input-judged Input (files_as_source (files_with_exclusions names files)) (λ t. Ok tt) t tt
       (read_part-same_topology_file (files_with_exclusions names files) files 0
       (IsSameFile-topology_slot names files) ∙ topology) refl
 

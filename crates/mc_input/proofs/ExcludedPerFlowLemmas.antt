@@ -17,7 +17,7 @@ use Rattle.mc_theory.specs.Nets.{Row}
 use Rattle.mc_theory.specs.Nets.Row.{NoRow}
 use Rattle.mc_forward.specs.Domains.{DomainValue, TablesValue, VifsValue, lan_of_vif, net_of, row_of, vif_of}
 use Rattle.mc_forward.proofs.TableFactLemmas.{row_at, rows_by_tables-at_router, vif_of-vifs_by_tables}
-use Rattle.mc_input.specs.FilesReading.{part_from_file}
+use Rattle.mc_input.specs.FilesReading.{files_as_source}
 use Rattle.mc_input.specs.ExcludedRouters.{has_name_among, is_excluded, files_with_exclusions}
 use Rattle.mc_input.specs.Meaning.{FilesMeanDomain}
 use Rattle.mc_input.specs.PartsReading.{all_reports, all_tables}
@@ -38,16 +38,16 @@ use Rattle.mc_input.proofs.ReadLemmas.{Ok-injective}
 -- the tables of a router that isn't excluded are the same
 all_tables-with_exclusions : (names : List (List ℕ)) (files : List FileText) (n : ℕ) (rs : List RouterRow)
     (ts us : List TablesValue) (k : ℕ)
-    → all_tables Input (part_from_file (files_with_exclusions names files)) n rs ≡ Ok ts
-    → all_tables Input (part_from_file files) n rs ≡ Ok us
+    → all_tables Input (files_as_source (files_with_exclusions names files)) n rs ≡ Ok ts
+    → all_tables Input (files_as_source files) n rs ≡ Ok us
     → has_name_among names (slice_get rs k) ≡ false → slice_get ts k ≡ slice_get us k
 unfolding all_tables
 all_tables-with_exclusions names files n [] ts us k p q known =
     ap (λ (l : List TablesValue). slice_get l k)
     (sym (ok_injective {E = SourceFault} [] ts p) ∙ ok_injective {E = SourceFault} [] us q)
 all_tables-with_exclusions names files n (own ∷ rs) ts us zero p q known =
-    let a = all_tables-first (part_from_file (files_with_exclusions names files)) n own rs ts p in
-    let b = all_tables-first (part_from_file files) n own rs us q in
+    let a = all_tables-first (files_as_source (files_with_exclusions names files)) n own rs ts p in
+    let b = all_tables-first (files_as_source files) n own rs us q in
     let same : a.0 ≡ b.0 = ok_injective {E = SourceFault} a.0 b.0 (sym a.2
     ∙ router_tables-same_files (files_with_exclusions names files) files n own.name own.order
     (IsSameFile-other_vif names files own.name known) (IsSameFile-other_cache names files own.name known)
@@ -55,8 +55,8 @@ all_tables-with_exclusions names files n (own ∷ rs) ts us zero p q known =
     ap (λ (l : List TablesValue). slice_get l 0) a.4 ∙ ap Some same
     ∙ sym (ap (λ (l : List TablesValue). slice_get l 0) b.4)
 all_tables-with_exclusions names files n (own ∷ rs) ts us (suc k) p q known =
-    let a = all_tables-first (part_from_file (files_with_exclusions names files)) n own rs ts p in
-    let b = all_tables-first (part_from_file files) n own rs us q in
+    let a = all_tables-first (files_as_source (files_with_exclusions names files)) n own rs ts p in
+    let b = all_tables-first (files_as_source files) n own rs us q in
     ap (λ (l : List TablesValue). slice_get l (suc k)) a.4
     ∙ all_tables-with_exclusions names files (n + 2) rs a.1 b.1 k a.3 b.3 known
     ∙ sym (ap (λ (l : List TablesValue). slice_get l (suc k)) b.4)
@@ -71,11 +71,11 @@ module _ (names : List (List ℕ)) (files : List FileText) (part whole : DomainV
     (m : FilesMeanDomain (files_with_exclusions names files) part) (n : FilesMeanDomain files whole) where
   -- the topology's file is the same, and so is the topology that is read of it,
   topology_read : m.input.topology ≡ n.input.topology
-  topology_read = Ok-injective (sym (read_input-topology (part_from_file (files_with_exclusions names files))
+  topology_read = Ok-injective (sym (read_input-topology (files_as_source (files_with_exclusions names files))
       m.input (input_of_files-Ok (files_with_exclusions names files) m.input m.denotes))
       ∙ read_part-same_topology_file (files_with_exclusions names files) files 0
       (IsSameFile-topology_slot names files)
-      ∙ read_input-topology (part_from_file files) n.input (input_of_files-Ok files n.input n.denotes))
+      ∙ read_input-topology (files_as_source files) n.input (input_of_files-Ok files n.input n.denotes))
 
   -- and that of the two domains
   topology_same : part.topology ≡ whole.topology
@@ -85,11 +85,11 @@ module _ (names : List (List ℕ)) (files : List FileText) (part whole : DomainV
   reports_same : m.input.reports ≡ n.input.reports
   reports_same =
       let theirs = subst (λ (t : TopologyValue).
-      all_reports Input (part_from_file files) (first_lan_number t) t.lans ≡ Ok n.input.reports)
+      all_reports Input (files_as_source files) (first_lan_number t) t.lans ≡ Ok n.input.reports)
       (sym topology_read)
-      (read_input-reports (part_from_file files) n.input (input_of_files-Ok files n.input n.denotes)) in
+      (read_input-reports (files_as_source files) n.input (input_of_files-Ok files n.input n.denotes)) in
       ok_injective {E = SourceFault} m.input.reports n.input.reports
-      (sym (read_input-reports (part_from_file (files_with_exclusions names files)) m.input
+      (sym (read_input-reports (files_as_source (files_with_exclusions names files)) m.input
       (input_of_files-Ok (files_with_exclusions names files) m.input m.denotes))
       ∙ all_reports-with_exclusions names files m.input.topology ∙ theirs)
 
@@ -98,12 +98,12 @@ module _ (names : List (List ℕ)) (files : List FileText) (part whole : DomainV
       → slice_get m.input.tables router ≡ slice_get n.input.tables router
   tables_same router known =
       let theirs = subst (λ (t : TopologyValue).
-      all_tables Input (part_from_file files) 1 t.routers ≡ Ok n.input.tables) (sym topology_read)
-      (read_input-tables (part_from_file files) n.input (input_of_files-Ok files n.input n.denotes)) in
+      all_tables Input (files_as_source files) 1 t.routers ≡ Ok n.input.tables) (sym topology_read)
+      (read_input-tables (files_as_source files) n.input (input_of_files-Ok files n.input n.denotes)) in
       let here = subst (λ (t : TopologyValue). is_excluded t names router ≡ false)
       (n.assembled.topology ∙ sym topology_read) known in
       all_tables-with_exclusions names files 1 m.input.topology.routers m.input.tables n.input.tables router
-      (read_input-tables (part_from_file (files_with_exclusions names files)) m.input
+      (read_input-tables (files_as_source (files_with_exclusions names files)) m.input
       (input_of_files-Ok (files_with_exclusions names files) m.input m.denotes)) theirs here
 
   -- its vifs

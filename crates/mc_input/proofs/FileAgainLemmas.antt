@@ -10,7 +10,7 @@ use Rattle.mc_files.specs.Files.{FileText}
 use Rattle.mc_files.specs.Layout.{Slot, slots}
 use Rattle.mc_files.specs.declared.fault.FileFault.{FileFault}
 use Rattle.mc_files.proofs.PartLemmas.{Ok-from_refused_as}
-use Rattle.mc_input.specs.FilesReading.{part_from_file}
+use Rattle.mc_input.specs.FilesReading.{files_as_source}
 use Rattle.mc_input.specs.SourceFault.{IsReadOrMemory, from_file_fault}
 use Rattle.mc_input.specs.Stream.{IsFaultOfStream, KeepsOfFirst, NextParts, Stream, files_give, part_then}
 use Rattle.mc_input.specs.Stream.{parts_of_slots, read_first, read_stream}
@@ -29,10 +29,10 @@ module _ {Y : Type 0} (files : List FileText) (t : TopologyValue) (n : ℕ) (slo
     (at : slice_get (slots false t) n ≡ Some slot) (read : PartText → Result Y InputFault) where
   -- the parts of the slots after this one
   abbrev others : NextParts
-  others = parts_of_slots (part_from_file files) (n + 1) (drop (n + 1) (slots false t))
+  others = parts_of_slots (files_as_source files) (n + 1) (drop (n + 1) (slots false t))
 
   -- the file's part comes first
-  given : files_give t n files ≡ (let s : Stream = Ok (part_from_file files n slot ∷ others) in s)
+  given : files_give t n files ≡ (let s : Stream = Ok (files_as_source files n slot ∷ others) in s)
   given = rw (drop-slice_get (slots false t) n slot at) refl
 
   -- so what is left after the first part is that of the file
@@ -43,8 +43,8 @@ module _ {Y : Type 0} (files : List FileText) (t : TopologyValue) (n : ℕ) (slo
       (by later (sym given ∙ e))
     where
       by : (later : Stream)
-          → (let s : Stream = Ok (part_from_file files n slot ∷ others) in s) ≡ part_then part later
-          → part_from_file files n slot ≡ Ok part
+          → (let s : Stream = Ok (files_as_source files n slot ∷ others) in s) ≡ part_then part later
+          → files_as_source files n slot ≡ Ok part
       by (Ok more) e = cc
       by (Err fault) e = absurd cc
 

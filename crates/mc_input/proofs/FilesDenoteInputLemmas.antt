@@ -12,20 +12,20 @@ use Rattle.mc_files.proofs.PartLemmas.{IsPartOfFile-from_file_part, file_part-Ok
 use Rattle.mc_input.specs.Input.{InputValue}
 use Rattle.mc_input.specs.SourceFault.{from_file_fault}
 use Rattle.mc_input.specs.FilesInput.{FilesDenoteInput}
-use Rattle.mc_input.specs.FilesReading.{part_from_file, input_of_files}
+use Rattle.mc_input.specs.FilesReading.{files_as_source, input_of_files}
 use Rattle.mc_input.specs.declared.source_fault.SourceFault.TheVariants.{Input}
 use Rattle.mc_input.proofs.SourceOfPartsLemmas.{Serves, GivesSlotNames}
 use Rattle.mc_input.proofs.SourceOfPartsLemmas.{HasInputParts-from_read_input, read_input-denoted}
 
 -- the part that a file makes has the name of its slot
-GivesSlotNames-part_from_file : (files : List FileText) → GivesSlotNames (part_from_file files)
-GivesSlotNames-part_from_file files n slot part e =
+GivesSlotNames-files_as_source : (files : List FileText) → GivesSlotNames (files_as_source files)
+GivesSlotNames-files_as_source files n slot part e =
     (IsPartOfFile-from_file_part files slot part
     (Ok-from_refused_as from_file_fault (file_part files slot) part e)).0
 
 -- the parts that are made of the files are packed of them
 ArePacked-from_Serves : (files : List FileText) (n : ℕ) (slots : List Slot) (parts : List PartText)
-    → Serves (part_from_file files) n slots parts []
+    → Serves (files_as_source files) n slots parts []
     → ArePacked files slots parts × AllByRecursion IsWithinMaxPart parts
 ArePacked-from_Serves files n [] [] h = (tt, tt)
 ArePacked-from_Serves files n [] (part ∷ parts) h = absurd (cc)
@@ -39,7 +39,7 @@ ArePacked-from_Serves files n (slot ∷ slots) (part ∷ parts) h =
 -- and parts that are packed of the files are given by them
 Serves-from_ArePacked : (files : List FileText) (n : ℕ) (slots : List Slot) (parts : List PartText)
     → ArePacked files slots parts → AllByRecursion IsWithinMaxPart parts
-    → Serves (part_from_file files) n slots parts []
+    → Serves (files_as_source files) n slots parts []
 Serves-from_ArePacked files n [] [] packed small = refl
 Serves-from_ArePacked files n [] (part ∷ parts) packed small = absurd packed
 Serves-from_ArePacked files n (slot ∷ slots) [] packed small = absurd packed
@@ -52,7 +52,7 @@ Serves-from_ArePacked files n (slot ∷ slots) (part ∷ parts) packed small = (
 pub FilesDenoteInput-from_input_of_files : (files : List FileText) (v : InputValue)
     → input_of_files files ≡ Ok v → FilesDenoteInput files v
 FilesDenoteInput-from_input_of_files files v e =
-    let all = HasInputParts-from_read_input Input (part_from_file files) (GivesSlotNames-part_from_file files)
+    let all = HasInputParts-from_read_input Input (files_as_source files) (GivesSlotNames-files_as_source files)
     (λ t. Ok tt) v [] None e refl in
     let packed = ArePacked-from_Serves files 0 (slots false v.topology) all.parts all.served in
     record { parts = all.parts; packed = packed.0; sizes = packed.1; parts_denote = all.parts_denote }
@@ -61,5 +61,5 @@ FilesDenoteInput-from_input_of_files files v e =
 pub input_of_files-Ok : (files : List FileText) (v : InputValue) → FilesDenoteInput files v
     → input_of_files files ≡ Ok v
 input_of_files-Ok files v h =
-    (read_input-denoted Input (part_from_file files) (λ t. Ok tt) h.parts v None h.parts_denote []
+    (read_input-denoted Input (files_as_source files) (λ t. Ok tt) h.parts v None h.parts_denote []
     (Serves-from_ArePacked files 0 (slots false v.topology) h.parts h.packed h.sizes) refl).0

@@ -8,7 +8,7 @@ use Rattle.mc_files.specs.Layout.{Slot}
 use Rattle.mc_files.specs.declared.fault.FileFault.{FileFault}
 use Rattle.mc_files.specs.declared.fault.FileFault.TheVariants as file
 use Rattle.mc_input.specs.SourceFault.{IsReadOrMemory, from_file_fault}
-use Rattle.mc_input.specs.FilesReading.{part_from_file}
+use Rattle.mc_input.specs.FilesReading.{files_as_source}
 use Rattle.mc_input.specs.PartsReading.{read_part}
 use Rattle.mc_input.specs.declared.fault.InputFault.{InputFault}
 use Rattle.mc_input.specs.declared.fault.InputFault.TheVariants.{Memory}
@@ -27,7 +27,7 @@ module _ {X : Type 0} (files : List FileText) (n : ℕ) (slot given : Slot)
   pub read_part-file_Err : (fault : FileFault) → given ≡ slot
       → ((¬ IsFailedOrMemory fault) → file_part files given ≡ Err fault)
       → (¬ IsReadOrMemory (from_file_fault fault))
-      → read_part Input (part_from_file files n slot) read ≡ Err (from_file_fault fault)
+      → read_part Input (files_as_source files n slot) read ≡ Err (from_file_fault fault)
   read_part-file_Err fault is refused says =
       let made = subst (λ (s : Slot). file_part files s ≡ Err fault) is
       (refused (λ silent. says (IsReadOrMemory-from_file_fault fault silent))) in
@@ -37,7 +37,7 @@ module _ {X : Type 0} (files : List FileText) (n : ℕ) (slot given : Slot)
   pub read_part-content_Err : (part text : PartText) (fault : InputFault) → given ≡ slot
       → file_part files given ≡ Ok part → text ≡ part
       → ((¬ (fault ≡ Memory)) → read text ≡ Err fault) → (¬ IsReadOrMemory (Input fault))
-      → read_part Input (part_from_file files n slot) read ≡ Err (Input fault)
+      → read_part Input (files_as_source files n slot) read ≡ Err (Input fault)
   read_part-content_Err part text fault is made same refused says =
       let here = subst (λ (s : Slot). file_part files s ≡ Ok part) is made in
       let reads = subst (λ (p : PartText). read p ≡ Err fault) same
@@ -47,7 +47,7 @@ module _ {X : Type 0} (files : List FileText) (n : ℕ) (slot given : Slot)
   -- or it is read
   pub read_part-Ok : (part text : PartText) (x : X) → given ≡ slot
       → file_part files given ≡ Ok part → text ≡ part → read text ≡ Ok x
-      → read_part Input (part_from_file files n slot) read ≡ Ok x
+      → read_part Input (files_as_source files n slot) read ≡ Ok x
   read_part-Ok part text x is made same found =
       let here = subst (λ (s : Slot). file_part files s ≡ Ok part) is made in
       let reads = subst (λ (p : PartText). read p ≡ Ok x) same found in

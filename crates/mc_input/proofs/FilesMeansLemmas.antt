@@ -8,7 +8,7 @@ use Rattle.mc_files.specs.Files.{FileText}
 use Rattle.mc_files.specs.Layout.{topology_slot}
 use Rattle.mc_forward.specs.Domains.{DomainValue, IsDomain}
 use Rattle.mc_input.specs.FilesInput.{FilesDenoteInput}
-use Rattle.mc_input.specs.FilesReading.{input_of_files, part_from_file}
+use Rattle.mc_input.specs.FilesReading.{input_of_files, files_as_source}
 use Rattle.mc_input.specs.Input.{InputValue}
 use Rattle.mc_input.specs.Kept.{IsDomainOf}
 use Rattle.mc_input.specs.ExcludedRouters.{AreRouterNames, IsReadOrMemoryWithout, files_with_exclusions}
@@ -44,7 +44,7 @@ IfSome-at_known P o files holds known = subst (λ (o : Option (List FileText)). 
 -- the domain that consists of what was kept of a folder's files with routers excluded is the one that they
 -- mean
 pub FilesMeanDomain-from_other_files : (names : List (List ℕ)) (files : List FileText) (t : TopologyValue)
-    (d : DomainValue) → read_part Input (part_from_file files 0 topology_slot) topology_of ≡ Ok t
+    (d : DomainValue) → read_part Input (files_as_source files 0 topology_slot) topology_of ≡ Ok t
     → (v : InputValue) × (input_of_other_files t names files ≡ Ok v) × IsDomainOf d v → IsDomain d
     → FilesMeanDomain (files_with_exclusions names files) d
 FilesMeanDomain-from_other_files names files t d topology read rules =
@@ -62,7 +62,7 @@ input_of_files_without-Ok names files d means are =
     let whole = files_with_exclusions names files in
     let read : input_of_files whole ≡ Ok v = input_of_files-Ok whole v means.denotes in
     let topology = sym (read_part-same_topology_file whole files 0 (IsSameFile-topology_slot names files))
-    ∙ read_input-topology (part_from_file whole) v read in
+    ∙ read_input-topology (files_as_source whole) v read in
     let named = check_router_names-Ok v.topology 1 names
     (subst (λ (t : TopologyValue). AreRouterNames t names) means.assembled.topology are) in
     (v, input_of_files_without-names_Ok names files v.topology tt topology named ∙ ap (map_fault Source) read)

@@ -1,11 +1,10 @@
 -- How many slots a domain has, and how many answers.
-use Rattle.std.specs.Prelude.{◌≡◌, ℕ, zero, suc, ◌+◌, ◌*◌, ◌<◌, Bool, List, [], ◌∷◌, ◌++◌, length, slice_get}
+use Rattle.std.specs.Prelude.{◌≡◌, ℕ, zero, suc, ◌+◌, Bool, List, [], ◌∷◌, ◌++◌, length, slice_get}
 use Rattle.std.specs.Prelude.{Some}
 use Rattle.std.proofs.Common.{arith, subst}
 use Rattle.mc_topology.specs.Topology.{TopologyValue}
 use Rattle.mc_files.specs.Layout.{slots, certificate_slots}
 use Rattle.mc_files.proofs.SlotLemmas.{length-slots_after_topology}
-use Rattle.mc_files.specs.Layout.{first_lan_number}
 use Rattle.mc_input.specs.PartsOneByOne.{certificate_number}
 
 -- the slots before the certificate's, and that one, if there is one, are all

@@ -16,7 +16,7 @@ use Rattle.mc_files.specs.Layout.{slots_after_topology, vif_slot}
 use Rattle.mc_files.proofs.PartLemmas.{Ok-from_refused_as}
 use Rattle.mc_forward.specs.ListedTables.{Pairwise, flow_pairs}
 use Rattle.mc_forward.proofs.ListedTableLemmas.{pairwise-count, pairwise-each}
-use Rattle.mc_input.specs.FilesReading.{part_from_file}
+use Rattle.mc_input.specs.FilesReading.{files_as_source}
 use Rattle.mc_input.specs.Input.{InputValue}
 use Rattle.mc_input.specs.PartsOneByOne.{certificate_number}
 use Rattle.mc_input.specs.PartsReading.{cache_of, read_tables_and_reports, vifs_of}
@@ -44,23 +44,23 @@ module _ (files : List FileText) where
   module _ (t : TopologyValue) where
     -- the parts of the folder after the topology's
     abbrev parts : NextParts
-    parts = parts_of_slots (part_from_file files) 1 (slots_after_topology false t)
+    parts = parts_of_slots (files_as_source files) 1 (slots_after_topology false t)
 
     -- the input is what is read,
     pub read_tables_and_reports-from_contents : (read : ContentsRead) (rest : NextParts)
         → read_contents t parts ≡ Ok (read, rest)
-        → read_tables_and_reports Input (part_from_file files) t ≡ Ok (input_of_contents t read)
+        → read_tables_and_reports Input (files_as_source files) t ≡ Ok (input_of_contents t read)
     read_tables_and_reports-from_contents read rest e =
-        by (read_tables_and_reports Input (part_from_file files) t)
+        by (read_tables_and_reports Input (files_as_source files) t)
         (sym (ap (λ (r : Result (ContentsRead × NextParts) SourceFault). r
         >>= λ x. (let q : Result (InputValue × NextParts) SourceFault =
         Ok (input_of_contents t x.0, x.1) in q)) e)
-        ∙ read_contents-source (part_from_file files) false t)
+        ∙ read_contents-source (files_as_source files) false t)
       where
         by : (r : Result InputValue SourceFault)
             → (let q : Result (InputValue × NextParts) SourceFault = Ok (input_of_contents t read, rest) in q)
             ≡ (r >>= λ input. Ok
-            (input, parts_of_slots (part_from_file files) (certificate_number t) (certificate_slots false)))
+            (input, parts_of_slots (files_as_source files) (certificate_number t) (certificate_slots false)))
             → r ≡ Ok (input_of_contents t read)
         by (Ok own) e =
             ap Ok (sym (ap (λ (p : InputValue × NextParts). p.0) (ok_injective {E = SourceFault} _ _ e)))
@@ -68,18 +68,18 @@ module _ (files : List FileText) where
 
     -- or is refused for the same
     pub read_tables_and_reports-contents_Err : (fault : SourceFault) → read_contents t parts ≡ Err fault
-        → read_tables_and_reports Input (part_from_file files) t ≡ Err fault
+        → read_tables_and_reports Input (files_as_source files) t ≡ Err fault
     read_tables_and_reports-contents_Err fault e =
-        by (read_tables_and_reports Input (part_from_file files) t)
+        by (read_tables_and_reports Input (files_as_source files) t)
         (sym (ap (λ (r : Result (ContentsRead × NextParts) SourceFault). r
         >>= λ x. (let q : Result (InputValue × NextParts) SourceFault =
         Ok (input_of_contents t x.0, x.1) in q)) e)
-        ∙ read_contents-source (part_from_file files) false t)
+        ∙ read_contents-source (files_as_source files) false t)
       where
         by : (r : Result InputValue SourceFault)
             → (let q : Result (InputValue × NextParts) SourceFault = Err fault in q)
             ≡ (r >>= λ input. Ok
-            (input, parts_of_slots (part_from_file files) (certificate_number t) (certificate_slots false)))
+            (input, parts_of_slots (files_as_source files) (certificate_number t) (certificate_slots false)))
             → r ≡ Err fault
         by (Ok own) e = absurd cc
         by (Err other) e = cc
@@ -94,12 +94,12 @@ module _ (files : List FileText) where
     -- of one router
     IsSummaryOf-from_read : (r : RouterRow) (n : ℕ) (more : NextParts) (own : RouterRead × NextParts)
         (summary : SummaryValue)
-        → read_router r.order (part_from_file files n (vif_slot r.name)
-        ∷ part_from_file files (n + 1) (cache_slot r.name) ∷ more) ≡ Ok own
+        → read_router r.order (files_as_source files n (vif_slot r.name)
+        ∷ files_as_source files (n + 1) (cache_slot r.name) ∷ more) ≡ Ok own
         → (own.1 ≡ more) × (IsOwn own.0 summary → IsSummaryOf all files t.flows r summary)
     IsSummaryOf-from_read r n more own summary e =
-        let parts = part_from_file files n (vif_slot r.name)
-        ∷ part_from_file files (n + 1) (cache_slot r.name) ∷ more in
+        let parts = files_as_source files n (vif_slot r.name)
+        ∷ files_as_source files (n + 1) (cache_slot r.name) ∷ more in
         let vifs = bind_ok (read_first vifs_of parts) (λ vifs.
         read_first (cache_and_text r.order) (drop 1 parts)
         >>= λ cache. (let q : Result (RouterRead × NextParts) SourceFault =
@@ -108,7 +108,7 @@ module _ (files : List FileText) where
         (λ cache. (let q : Result (RouterRead × NextParts) SourceFault =
         Ok (router_read vifs.0 cache.0 r.order cache.1, more) in q)) own vifs.2 in
         let whole = ok_injective {E = SourceFault} _ own cache.2 in
-        let part = bind_ok (part_from_file files (n + 1) (cache_slot r.name))
+        let part = bind_ok (files_as_source files (n + 1) (cache_slot r.name))
         (λ part. map_fault Input (cache_and_text r.order part)) cache.0 cache.1 in
         let entries = bind_ok (cache_of r.order part.0) (λ entries. Ok (entries, part.0.bytes)) cache.0
         (Ok-from_refused_as Input (cache_and_text r.order part.0) cache.0 part.2) in
@@ -128,7 +128,7 @@ module _ (files : List FileText) where
     -- of these routers
     summaries-of_routers : (rs : List RouterRow) (n : ℕ) (more : List Slot) (reads : List RouterRead)
         (rest : NextParts) (summary : List SummaryValue)
-        → read_routers rs (parts_of_slots (part_from_file files) n (flat_map router_slots rs ++ more))
+        → read_routers rs (parts_of_slots (files_as_source files) n (flat_map router_slots rs ++ more))
         ≡ Ok (reads, rest)
         → Pairwise IsOwn reads summary → Pairwise (IsSummaryOf all files t.flows) rs summary
     unfolding read_each
@@ -141,9 +141,9 @@ module _ (files : List FileText) where
         by [] each = tt
         by (s ∷ ss) each = absurd each
     summaries-of_routers (r ∷ rs) n more reads rest summary e each =
-        let later = parts_of_slots (part_from_file files) (n + 1 + 1) (flat_map router_slots rs ++ more) in
-        let own = bind_ok (read_router r.order (part_from_file files n (vif_slot r.name)
-        ∷ part_from_file files (n + 1) (cache_slot r.name) ∷ later))
+        let later = parts_of_slots (files_as_source files) (n + 1 + 1) (flat_map router_slots rs ++ more) in
+        let own = bind_ok (read_router r.order (files_as_source files n (vif_slot r.name)
+        ∷ files_as_source files (n + 1) (cache_slot r.name) ∷ later))
         (λ own. read_routers rs own.1 >>= λ others.
         (let q : Result (List RouterRead × NextParts) SourceFault = Ok (own.0 ∷ others.0, others.1) in q))
         (reads, rest) e in
@@ -157,14 +157,14 @@ module _ (files : List FileText) where
         (subst (λ (xs : List RouterRead). Pairwise IsOwn xs summary) (sym same) each)
       where
         later : NextParts
-        later = parts_of_slots (part_from_file files) (n + 1 + 1) (flat_map router_slots rs ++ more)
+        later = parts_of_slots (files_as_source files) (n + 1 + 1) (flat_map router_slots rs ++ more)
 
         by : ((found : List RouterRead) (left : NextParts) (ss : List SummaryValue)
             → read_routers rs later ≡ Ok (found, left) → Pairwise IsOwn found ss
             → Pairwise (IsSummaryOf all files t.flows) rs ss)
             → (own : RouterRead × NextParts) (others : List RouterRead × NextParts)
-            → read_router r.order (part_from_file files n (vif_slot r.name)
-            ∷ part_from_file files (n + 1) (cache_slot r.name) ∷ later) ≡ Ok own
+            → read_router r.order (files_as_source files n (vif_slot r.name)
+            ∷ files_as_source files (n + 1) (cache_slot r.name) ∷ later) ≡ Ok own
             → read_routers rs own.1 ≡ Ok others → (ss : List SummaryValue)
             → Pairwise IsOwn (own.0 ∷ others.0) ss → Pairwise (IsSummaryOf all files t.flows) (r ∷ rs) ss
         by those own others first next [] each = absurd each

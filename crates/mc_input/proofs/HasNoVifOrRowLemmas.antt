@@ -21,7 +21,7 @@ use Rattle.mc_theory.specs.Nets.{Row}
 use Rattle.mc_theory.specs.Nets.Row.{NoRow}
 use Rattle.mc_forward.specs.Domains.{DomainValue, TablesValue, VifsValue, lan_of_vif, vif_of}
 use Rattle.mc_forward.proofs.TableFactLemmas.{row_at, rows_by_tables-at_router, vif_of-vifs_by_tables}
-use Rattle.mc_input.specs.FilesReading.{part_from_file}
+use Rattle.mc_input.specs.FilesReading.{files_as_source}
 use Rattle.mc_input.specs.Input.{InputValue}
 use Rattle.mc_input.specs.ExcludedRouters.{HasNoVifOrRow, files_with_exclusions}
 use Rattle.mc_input.specs.Meaning.{FilesMeanDomain}
@@ -161,7 +161,7 @@ module _ (names : List (List ℕ)) (files : List FileText) (d : DomainValue) (ro
   empty_tables-excluded t there =
       let input = means.input in
       let all = files_with_exclusions names files in
-      let source = part_from_file all in
+      let source = files_as_source all in
       let at = ap (λ (t : TopologyValue). slice_get t.routers router) (sym means.assembled.topology) ∙ here in
       let own = all_tables-slice_get source 1 input.topology.routers input.tables router row t
       (read_input-tables source input (input_of_files-Ok all input means.denotes)) at there in

@@ -23,6 +23,8 @@ mod UniqueInput
 pub mod ExcludedPerFlowLemmas
 mod ReadLemmas
 mod ReadingLemmas
+mod FileFaultLemmas
+mod JudgedFilesLemmas
 mod RefusedLemmas
 mod SourceOfPartsLemmas
 mod CollectedPartLemmas

@@ -16,7 +16,7 @@ use Rattle.mc_files.proofs.PartLemmas.{Ok-from_refused_as}
 use Rattle.mc_forward.specs.Domains.{TablesValue}
 use Rattle.mc_forward.specs.ListedTables.{Pairwise}
 use Rattle.mc_forward.proofs.ListedTableLemmas.{pairwise-count, pairwise-each}
-use Rattle.mc_input.specs.FilesReading.{part_from_file}
+use Rattle.mc_input.specs.FilesReading.{files_as_source}
 use Rattle.mc_input.specs.ListsOfFiles.{AreListsOf, IsListOf}
 use Rattle.mc_input.specs.PartsReading.{all_tables, reports_of}
 use Rattle.mc_input.specs.SourceFault.{from_file_fault}
@@ -29,7 +29,7 @@ use Rattle.mc_input.proofs.ContentsLemmas.{read_routers-all_tables, tables_alone
 
 module _ (files : List FileText) where
   abbrev source : ℕ → Slot → Result PartText SourceFault
-  source = part_from_file files
+  source = files_as_source files
 
   -- after the routers' parts come those of the other slots
   rest-of_routers : (rs : List RouterRow) (n : ℕ) (more : List Slot) (reads : List RouterRead)

@@ -1,325 +1,32 @@
--- How a folder's files are checked, and which of them are listed.
-use Rattle.std.specs.Prelude.{◌≡◌, ◌≢◌, ℕ, zero, suc, ◌+◌, ◌≤◌, Bool, true, false, List, [], ◌∷◌, ◌++◌}
-use Rattle.std.specs.Prelude.{flat_map, is_some, map, Option, Some, None, Result, Ok, Err, refl}
-use Rattle.std.specs.Prelude.{length, slice_get, take, IfErr, IfOk, OnOk, if◌then◌else◌}
-use Rattle.std.proofs.Common.{ap, add-one, append_assoc, arith, inl, inr, sym, subst, ◌∙◌}
-use Rattle.std.proofs.lemmas.List.{append-nil, take_all}
-use Rattle.std.proofs.lemmas.List.Elements.{filter-append}
+-- The files that are listed are the refused ones of the folder.
+use Rattle.std.specs.Prelude.{◌≡◌, ◌≢◌, ℕ, ◌+◌, Bool, true, false, List, [], ◌∷◌, ◌++◌}
+use Rattle.std.specs.Prelude.{flat_map, map, Option, Some, None, Result, Ok, Err, refl}
+use Rattle.std.specs.Prelude.{if◌then◌else◌}
+use Rattle.std.proofs.Common.{ap, arith, inl, inr, sym, subst, ◌∙◌}
 use Rattle.std.specs.List.{AllByRecursion, list_any}
 use Rattle.std.specs.Result.{result_err}
 use Rattle.std.specs.Str.{bytes_eq}
 use Rattle.mc_text.specs.Bundle.{PartText}
-use Rattle.mc_text.specs.Steps.{map_fault}
-use Rattle.mc_text.specs.declared.text.addr.Order.{Order}
-use Rattle.mc_tables.specs.CacheTable.{CacheValue}
-use Rattle.mc_tables.specs.ListedRows.{listed_in}
-use Rattle.mc_tables.specs.declared.fault.TableFault.{TableFault}
-use Rattle.mc_tables.proofs.ListedPartLemmas.{listed_in-is_part, listed_in-same_fault}
 use Rattle.mc_topology.specs.SectionRows.{RouterRow}
 use Rattle.mc_topology.specs.Topology.{TopologyValue}
 use Rattle.mc_files.specs.Files.{FileText, file_named}
-use Rattle.mc_files.specs.Layout.{Slot, cache_slot, file_name, reports_slot, slots, topology_slot, vif_slot}
+use Rattle.mc_files.specs.Layout.{Slot, cache_slot, file_name, reports_slot, topology_slot, vif_slot}
 use Rattle.mc_forward.specs.ListedTables.{Pairwise}
-use Rattle.mc_input.specs.FilesReading.{part_from_file}
+use Rattle.mc_input.specs.FilesReading.{files_as_source}
 use Rattle.mc_input.specs.PartsReading.{cache_of, reports_of, read_part, topology_of, vifs_of}
 use Rattle.mc_input.specs.RefusedFiles.{AreSameFilesOrUnread, AreUnreadFilesMissing}
-use Rattle.mc_input.specs.RefusedFiles.{AreRefusedFiles, IsOwnFaultUnlessMemory, IsSameFileOrUnread}
+use Rattle.mc_input.specs.RefusedFiles.{AreRefusedFiles, IsSameFileOrUnread}
 use Rattle.mc_input.specs.RefusedFiles.{JudgedFile, JudgesFiles, saturating_failures, failure_count}
-use Rattle.mc_input.specs.RefusedFiles.{file_fault}
 use Rattle.mc_input.specs.RefusedFiles.{judged_file, judged_with_topology, judged_files}
 use Rattle.mc_input.specs.RefusedFiles.{judged_reports, judged_tables}
 use Rattle.mc_input.specs.RefusedFiles.{files_with_fault, refused_files_of, unread_count, unread_topology}
 use Rattle.mc_input.specs.SourceFault.{IsReadOrMemory}
-use Rattle.mc_input.specs.Stream.{IsFaultOfStream, KeepsOfFirst, Stream, files_give, part_then, read_first}
-use Rattle.mc_input.specs.Stream.{read_stream}
-use Rattle.mc_input.proofs.CacheLemmas.{listed_part}
-use Rattle.mc_input.proofs.ReadingLemmas.{drop-slice_get}
 use Rattle.mc_input.specs.declared.fault.InputFault.{InputFault}
-use Rattle.mc_input.specs.declared.fault.InputFault.TheVariants.{Cache, Memory}
+use Rattle.mc_input.specs.declared.fault.InputFault.TheVariants.{Memory}
 use Rattle.mc_input.specs.declared.source_fault.SourceFault.{SourceFault}
 use Rattle.mc_input.specs.declared.source_fault.SourceFault.TheVariants.{Input, Read}
-
--- ---- one file
-
--- a fault that isn't that of the source or of memory isn't silent
-not_IsReadOrMemory-from_fault : (fault : InputFault)
-    → (let own : Option SourceFault = Some (Input fault) in own) ≢ Some (Input Memory)
-    → ¬ IsReadOrMemory (Input fault)
-not_IsReadOrMemory-from_fault fault loud silent = elim silent [ inl e ↦ absurd cc | inr e ↦ loud (ap Some e) ]
-
--- what is read of a slot gives the fault of its file
-pub IsOwnFaultUnlessMemory-of_slot : {K Y : Type 0} (files : List FileText) (t : TopologyValue)
-    (n : ℕ) (slot : Slot)
-    (read : PartText → Result Y InputFault) (gives later : Option Stream) (Keeps : K → Y → Type 0)
-    (r : Result K SourceFault) → slice_get (slots false t) n ≡ Some slot → gives ≡ Some (files_give t n files)
-    → IfOk r (λ kept. KeepsOfFirst gives later read (Keeps kept))
-    → IfErr r (IsFaultOfStream gives (read_first read))
-    → IsOwnFaultUnlessMemory (result_err r) (file_fault files slot read)
-IsOwnFaultUnlessMemory-of_slot {K = K} {Y = Y} files t n slot read gives later Keeps r at
-    known keeps refused =
-    by r keeps refused
-  where
-    same : read_stream (read_first read) (files_give t n files)
-        ≡ read_part Input (part_from_file files 0 slot) read
-    same = rw (drop-slice_get (slots false t) n slot at) refl
-
-    kept : (y : Y) (part : PartText) (rest : Stream) → read part ≡ Ok y
-        → files_give t n files ≡ part_then part rest
-        → read_part Input (part_from_file files 0 slot) read ≡ Ok y
-    kept y part (Ok others) is e =
-        sym same ∙ ap (read_stream (read_first read)) e ∙ ap (map_fault Input) is
-    kept y part (Err fault) is e = absurd cc
-
-    by : (r : Result K SourceFault) → IfOk r (λ kept. KeepsOfFirst gives later read (Keeps kept))
-        → IfErr r (IsFaultOfStream gives (read_first read))
-        → IsOwnFaultUnlessMemory (result_err r) (file_fault files slot read)
-    by (Ok own) keeps refused = λ loud.
-        let x = keeps (files_give t n files) known in ap result_err (kept x.4.0 x.1 x.0 x.4.1 x.3)
-    by (Err Read) keeps refused = λ loud. tt
-    by (Err (Input fault)) keeps refused = λ loud. ap result_err (sym same
-        ∙ refused (files_give t n files) known (not_IsReadOrMemory-from_fault fault loud))
-
--- the rows of these sources and groups are refused as the whole cache is
-file_fault-listed_part : (files : List FileText) (slot : Slot) (order : Order) (pairs : List (ℕ × ℕ))
-    → file_fault files slot (listed_part order pairs) ≡ file_fault files slot (cache_of order)
-file_fault-listed_part files slot order pairs = by (part_from_file files 0 slot)
-  where
-    by_part : (part : PartText) (r : Result CacheValue TableFault)
-        → listed_in order (Some pairs) part.bytes ≡ r
-        → result_err (map_fault Input (map_fault (Cache part.name) r))
-        ≡ result_err (map_fault Input (cache_of order part))
-    by_part part (Ok listed) is =
-        let whole = listed_in-is_part order (Some pairs) part.bytes listed is in rw whole.1 refl
-    by_part part (Err own) is = rw ((listed_in-same_fault order (Some pairs) part.bytes own).0 is) refl
-
-    by : (given : Result PartText SourceFault)
-        → result_err (read_part Input given (listed_part order pairs))
-        ≡ result_err (read_part Input given (cache_of order))
-    by (Ok part) = by_part part (listed_in order (Some pairs) part.bytes) refl
-    by (Err fault) = refl
-
--- so the cache's file is judged the same
-pub judged_file-listed_part : (files : List FileText) (slot : Slot) (order : Order) (pairs : List (ℕ × ℕ))
-    → judged_file files slot (listed_part order pairs) ≡ judged_file files slot (cache_of order)
-judged_file-listed_part files slot order pairs =
-    λ i. record { name = file_name slot; fault = file_fault-listed_part files slot order pairs i }
-
--- ---- lists
-
--- what holds of two pairs of lists item by item holds of them put together
-Pairwise-append : {A B : Type 0} (R : A → B → Type 0) (xs ys : List A) (us vs : List B)
-    → Pairwise R xs us → Pairwise R ys vs → Pairwise R (xs ++ ys) (us ++ vs)
-Pairwise-append R [] ys [] vs a b = b
-Pairwise-append R [] ys (u ∷ us) vs a b = absurd a
-Pairwise-append R (x ∷ xs) ys [] vs a b = absurd a
-Pairwise-append R (x ∷ xs) ys (u ∷ us) vs a b = (a.0, Pairwise-append R xs ys us vs a.1 b)
-
--- what is unread of two lists is counted together
-unread_count-append : (xs ys : List JudgedFile) → unread_count (xs ++ ys) ≡ unread_count xs + unread_count ys
-unread_count-append [] ys = omega arith
-unread_count-append (x ∷ xs) ys = omega (arith, unread_count-append xs ys)
-
--- those without a fault can be read
-pub unread_count-files_with_fault : (files : List JudgedFile)
-    → unread_count (files_with_fault files) ≡ unread_count files
-unread_count-files_with_fault [] = refl
-unread_count-files_with_fault (file ∷ files) = by file.name file.fault (unread_count-files_with_fault files)
-  where
-    by : (name : List ℕ) (fault : Option SourceFault)
-        → unread_count (files_with_fault files) ≡ unread_count files
-        → unread_count (files_with_fault ((record { name = name; fault = fault }) ∷ files))
-        ≡ unread_count ((record { name = name; fault = fault }) ∷ files)
-    by name None rest = rest ∙ omega arith
-    by name (Some fault) rest = ap (λ n. failure_count (Some fault) + n) rest
-
--- what holds of the items of two lists holds of those of both
-AllByRecursion-append : {A : Type 0} (P : A → Type 0) (xs ys : List A)
-    → AllByRecursion P xs → AllByRecursion P ys → AllByRecursion P (xs ++ ys)
-AllByRecursion-append P [] ys a b = b
-AllByRecursion-append P (x ∷ xs) ys a b = (a.0, AllByRecursion-append P xs ys a.1 b)
-
--- the lists of the items so far, and then that of the next item
-flat_map-take_more : {A B : Type 0} (f : A → List B) (xs : List A) (i : ℕ) (x : A) → slice_get xs i ≡ Some x
-    → flat_map f (take (suc i) xs) ≡ flat_map f (take i xs) ++ f x
-flat_map-take_more f [] i x at = absurd cc
-flat_map-take_more f (y ∷ ys) zero x at = let same : y ≡ x = cc in append-nil (f y) ∙ ap f same
-flat_map-take_more f (y ∷ ys) (suc i) x at =
-    ap (λ l. f y ++ l) (flat_map-take_more f ys i x at)
-    ∙ sym (append_assoc (f y) (flat_map f (take i ys)) (f x))
-
--- the same of one value for each item
-map-take_more : {A B : Type 0} (f : A → B) (xs : List A) (i : ℕ) (x : A) → slice_get xs i ≡ Some x
-    → map f (take (suc i) xs) ≡ map f (take i xs) ++ f x ∷ []
-map-take_more f [] i x at = absurd cc
-map-take_more f (y ∷ ys) zero x at = let same : y ≡ x = cc in ap (λ z. f z ∷ []) same
-map-take_more f (y ∷ ys) (suc i) x at = ap (λ l. f y ∷ l) (map-take_more f ys i x at)
-
--- ---- files that are checked
-
-module _ (contents : Option (List FileText)) where
-  -- of no file
-  pub JudgesFiles-none : (list : List JudgedFile) (n : ℕ) → JudgesFiles contents (λ known. []) list list n n
-  JudgesFiles-none list n = record {
-    given = [];
-    listed = sym (append-nil list);
-    failures = omega arith;
-    each = λ known is. tt;
-  }
-
-  -- of one file
-  pub JudgesFiles-one : (file : List FileText → JudgedFile) (name : List ℕ) (fault : Option SourceFault)
-      (old new : List JudgedFile) (before after : ℕ)
-      → new ≡ old ++ files_with_fault ((record { name = name; fault = fault }) ∷ [])
-      → after ≡ saturating_failures (failure_count fault) before
-      → ((known : List FileText) → contents ≡ Some known
-      → IsSameFileOrUnread (file known) (record { name = name; fault = fault }))
-      → JudgesFiles contents (λ known. file known ∷ []) old new before after
-  JudgesFiles-one file name fault old new before after listed failures given = record {
-    given = (record { name = name; fault = fault }) ∷ [];
-    listed = listed;
-    failures = omega (arith, failures);
-    each = λ known is. (given known is, tt);
-  }
-
-  module _ (files more : List FileText → List JudgedFile) (old between new : List JudgedFile)
-      (before middle after : ℕ) where
-    -- of some files and then of more
-    pub JudgesFiles-append : JudgesFiles contents files old between before middle
-        → JudgesFiles contents more between new middle after
-        → JudgesFiles contents (λ known. files known ++ more known) old new before after
-    JudgesFiles-append one other = record {
-      given = one.given ++ other.given;
-      listed = other.listed ∙ ap (λ l. l ++ files_with_fault other.given) one.listed
-          ∙ append_assoc old (files_with_fault one.given) (files_with_fault other.given)
-          ∙ ap (λ l. old ++ l) (sym (filter-append (λ file. is_some file.fault) one.given other.given));
-      failures = omega (arith, one.failures, other.failures, unread_count-append one.given other.given);
-      each = λ known is. Pairwise-append IsSameFileOrUnread (files known) (more known) one.given other.given
-          (one.each known is) (other.each known is);
-    }
-
-  -- of files that are the same
-  pub JudgesFiles-same_files : (files same : List FileText → List JudgedFile) (old new : List JudgedFile)
-      (before after : ℕ) → ((known : List FileText) → files known ≡ same known)
-      → JudgesFiles contents files old new before after → JudgesFiles contents same old new before after
-  JudgesFiles-same_files files same old new before after is judges = record {
-    given = judges.given;
-    listed = judges.listed;
-    failures = judges.failures;
-    each = λ known is_contents. subst (λ fs. Pairwise IsSameFileOrUnread fs judges.given) (is known)
-        (judges.each known is_contents);
-  }
-
--- with a source of the same contents
-pub JudgesFiles-same_source : (contents other : Option (List FileText))
-    (files : List FileText → List JudgedFile)
-    (old new : List JudgedFile) (before after : ℕ) → other ≡ contents
-    → JudgesFiles other files old new before after → JudgesFiles contents files old new before after
-JudgesFiles-same_source contents other files old new before after same judges =
-    subst (λ (t : Option (List FileText)). JudgesFiles t files old new before after) same judges
-
--- a file that is appended if it has a fault
-pub JudgesFiles-one_of_slot : {X : Type 0} (contents : Option (List FileText)) (slot : Slot)
-    (read : PartText → Result X InputFault) (fault : Option SourceFault) (old new : List JudgedFile)
-    (before after : ℕ) (pushed : Slot) → pushed ≡ slot
-    → new ≡ old ++ files_with_fault ((record { name = file_name pushed; fault = fault }) ∷ [])
-    → fault ≢ Some (Input Memory) → after ≡ saturating_failures (failure_count fault) before
-    → ((known : List FileText) → contents ≡ Some known
-    → IsOwnFaultUnlessMemory fault (file_fault known slot read))
-    → JudgesFiles contents (λ known. judged_file known slot read ∷ []) old new before after
-JudgesFiles-one_of_slot contents slot read fault old new before after pushed of_slot listed loud
-    failures given =
-    JudgesFiles-one contents (λ known. judged_file known slot read)
-    (file_name pushed) fault old new before after listed
-    failures (λ known is. record { name = ap file_name of_slot; fault = given known is loud })
-
--- two clauses of one call together
-pub OnOk-both : {E P Q R : Type 0} (r : Result (Unit {0}) E) → OnOk r P → OnOk r Q → (P → Q → R) → OnOk r R
-OnOk-both (Ok u) p q f = f p q
-OnOk-both (Err fault) p q f = tt
-
-module _ (contents : Option (List FileText)) (names : List (List ℕ)) (r : RouterRow) where
-  -- no table of an excluded router
-  pub JudgesFiles-excluded_router : list_any (λ name. bytes_eq name r.name) names ≡ true
-      → (list : List JudgedFile) (n : ℕ)
-      → JudgesFiles contents (λ known. judged_tables names known r) list list n n
-  JudgesFiles-excluded_router out list n =
-      JudgesFiles-same_files contents (λ known. []) (λ known. judged_tables names known r) list list n n
-      (λ known. rw (out) refl) (JudgesFiles-none contents list n)
-
-  -- both of another
-  pub JudgesFiles-router : list_any (λ name. bytes_eq name r.name) names ≡ false
-      → (old between new : List JudgedFile) (before middle after : ℕ)
-      → JudgesFiles contents (λ known. judged_file known (vif_slot r.name) vifs_of ∷ [])
-      old between before middle
-      → JudgesFiles contents (λ known. judged_file known (cache_slot r.name) (cache_of r.order) ∷ [])
-      between new middle after
-      → JudgesFiles contents (λ known. judged_tables names known r) old new before after
-  JudgesFiles-router own old between new before middle after vifs cache =
-      JudgesFiles-same_files contents
-      (λ known. judged_file known (vif_slot r.name) vifs_of
-      ∷ judged_file known (cache_slot r.name) (cache_of r.order) ∷ [])
-      (λ known. judged_tables names known r) old new before after (λ known. rw (own) refl)
-      (JudgesFiles-append contents (λ known. judged_file known (vif_slot r.name) vifs_of ∷ [])
-      (λ known. judged_file known (cache_slot r.name) (cache_of r.order) ∷ [])
-      old between new before middle after vifs cache)
-
--- ---- the files of routers and of LANs
-
-module _ (contents : Option (List FileText)) (names : List (List ℕ)) (rs : List RouterRow) (i : ℕ)
-    (old between new : List JudgedFile) (before middle after : ℕ) where
-  -- of those of some routers and of the next one
-  pub JudgesFiles-routers_more : (r : RouterRow) → slice_get rs i ≡ Some r
-      → JudgesFiles contents (λ known. flat_map (judged_tables names known) (take i rs))
-      old between before middle
-      → JudgesFiles contents (λ known. judged_tables names known r) between new middle after
-      → JudgesFiles contents (λ known. flat_map (judged_tables names known) (take (i + 1) rs))
-      old new before after
-  JudgesFiles-routers_more r at one other =
-      JudgesFiles-same_files contents
-      (λ known. flat_map (judged_tables names known) (take i rs) ++ judged_tables names known r)
-      (λ known. flat_map (judged_tables names known) (take (i + 1) rs)) old new before after
-      (λ known. sym (flat_map-take_more (judged_tables names known) rs i r at)
-      ∙ ap (λ n. flat_map (judged_tables names known) (take n rs)) (sym (add-one i)))
-      (JudgesFiles-append contents (λ known. flat_map (judged_tables names known) (take i rs))
-      (λ known. judged_tables names known r) old between new before middle after one other)
-
--- of all
-pub JudgesFiles-routers_all : (contents : Option (List FileText)) (names : List (List ℕ))
-    (rs : List RouterRow) (i : ℕ) (old new : List JudgedFile) (before after : ℕ) → length rs ≤ i
-    → JudgesFiles contents (λ known. flat_map (judged_tables names known) (take i rs)) old new before after
-    → JudgesFiles contents (λ known. flat_map (judged_tables names known) rs) old new before after
-JudgesFiles-routers_all contents names rs i old new before after all judges =
-    JudgesFiles-same_files contents (λ known. flat_map (judged_tables names known) (take i rs))
-    (λ known. flat_map (judged_tables names known) rs) old new before after
-    (λ known. ap (flat_map (judged_tables names known)) (take_all i rs all)) judges
-
-module _ (contents : Option (List FileText)) (lans : List (List ℕ)) (i : ℕ)
-    (old between new : List JudgedFile) (before middle after : ℕ) where
-  -- of those of some LANs and of the next one
-  pub JudgesFiles-lans_more : (lan : List ℕ) → slice_get lans i ≡ Some lan
-      → JudgesFiles contents (λ known. map (judged_reports known) (take i lans)) old between before middle
-      → JudgesFiles contents (λ known. judged_reports known lan ∷ []) between new middle after
-      → JudgesFiles contents (λ known. map (judged_reports known) (take (i + 1) lans)) old new before after
-  JudgesFiles-lans_more lan at one other =
-      JudgesFiles-same_files contents
-      (λ known. map (judged_reports known) (take i lans) ++ judged_reports known lan ∷ [])
-      (λ known. map (judged_reports known) (take (i + 1) lans)) old new before after
-      (λ known. sym (map-take_more (judged_reports known) lans i lan at)
-      ∙ ap (λ n. map (judged_reports known) (take n lans)) (sym (add-one i)))
-      (JudgesFiles-append contents (λ known. map (judged_reports known) (take i lans))
-      (λ known. judged_reports known lan ∷ []) old between new before middle after one other)
-
--- and the files of all LANs
-pub JudgesFiles-lans_all : (contents : Option (List FileText)) (lans : List (List ℕ)) (i : ℕ)
-    (old new : List JudgedFile) (before after : ℕ) → length lans ≤ i
-    → JudgesFiles contents (λ known. map (judged_reports known) (take i lans)) old new before after
-    → JudgesFiles contents (λ known. map (judged_reports known) lans) old new before after
-JudgesFiles-lans_all contents lans i old new before after all judges =
-    JudgesFiles-same_files contents (λ known. map (judged_reports known) (take i lans))
-    (λ known. map (judged_reports known) lans) old new before after
-    (λ known. ap (map (judged_reports known)) (take_all i lans all)) judges
-
--- ---- the whole
+use Rattle.mc_input.proofs.FileFaultLemmas.{not_IsReadOrMemory-from_fault}
+use Rattle.mc_input.proofs.JudgedFilesLemmas.{AllByRecursion-append, JudgesFiles-same_source, unread_count-files_with_fault}
 
 -- a file that doesn't exist is unread
 abbrev IsReadOnlyIfMissing : List FileText → JudgedFile → Type 0
@@ -417,10 +124,10 @@ refused_files_of-exact names files listed (given, are, is) missing =
         unread : file_named files (file_name topology_slot) ≡ None
             → unread_topology ∷ [] ≡ judged_files names files
         unread none = rw (none) refl
-    by (inr each) = honest_by (read_part Input (part_from_file files 0 topology_slot) topology_of) refl each
+    by (inr each) = honest_by (read_part Input (files_as_source files 0 topology_slot) topology_of) refl each
       where
         honest_by : (t : Result TopologyValue SourceFault)
-            → read_part Input (part_from_file files 0 topology_slot) topology_of ≡ t
+            → read_part Input (files_as_source files 0 topology_slot) topology_of ≡ t
             → Pairwise IsSameFileOrUnread (judged_with_topology names files t) given
             → given ≡ judged_with_topology names files t
         honest_by (Ok t) is each =
@@ -440,7 +147,7 @@ module _ (names : List (List ℕ)) (files : List FileText) (contents : Option (L
     (is : contents ≡ Some files) where
   -- for all files that a topology names
   pub AreRefusedFiles-with_topology : (t : TopologyValue) (new : List JudgedFile) (before after : ℕ)
-      → read_part Input (part_from_file files 0 topology_slot) topology_of ≡ Ok t
+      → read_part Input (files_as_source files 0 topology_slot) topology_of ≡ Ok t
       → JudgesFiles contents (λ known. judged_with_topology names known (Ok t)) [] new before after
       → AreRefusedFiles names files new
   AreRefusedFiles-with_topology t new before after read judges = (
@@ -454,7 +161,7 @@ module _ (names : List (List ℕ)) (files : List FileText) (contents : Option (L
   -- for a refused topology
   pub AreRefusedFiles-topology_alone : (fault : SourceFault) (new : List JudgedFile)
       → ((¬ IsReadOrMemory fault)
-      → read_part Input (part_from_file files 0 topology_slot) topology_of ≡ Err fault)
+      → read_part Input (files_as_source files 0 topology_slot) topology_of ≡ Err fault)
       → (let own : Option SourceFault = Some fault in own) ≢ Some (Input Memory)
       → new ≡ files_with_fault ((record { name = file_name topology_slot; fault = Some fault }) ∷ [])
       → AreRefusedFiles names files new
@@ -475,7 +182,7 @@ pub AreRefusedFiles-with_topology_of_source : (names : List (List ℕ)) (files :
     (contents other : Option (List FileText))
     (t : TopologyValue) (old new : List JudgedFile) (before after : ℕ)
     → contents ≡ Some files → other ≡ contents → old ≡ []
-    → read_part Input (part_from_file files 0 topology_slot) topology_of ≡ Ok t
+    → read_part Input (files_as_source files 0 topology_slot) topology_of ≡ Ok t
     → JudgesFiles other (λ known. judged_with_topology names known (Ok t)) old new before after
     → AreRefusedFiles names files new
 AreRefusedFiles-with_topology_of_source names files contents other t old new before after is same
@@ -491,7 +198,7 @@ pub AreRefusedFiles-topology_alone_of_source : (names : List (List ℕ)) (files 
     (contents : Option (List FileText)) (fault : SourceFault) (pushed : Slot) (old new : List JudgedFile)
     → contents ≡ Some files → pushed ≡ topology_slot → old ≡ []
     → ((¬ IsReadOrMemory fault)
-    → read_part Input (part_from_file files 0 topology_slot) topology_of ≡ Err fault)
+    → read_part Input (files_as_source files 0 topology_slot) topology_of ≡ Err fault)
     → new ≡ old ++ files_with_fault ((record { name = file_name pushed; fault = Some fault }) ∷ [])
     → (let own : Option SourceFault = Some fault in own) ≢ Some (Input Memory)
     → AreRefusedFiles names files new

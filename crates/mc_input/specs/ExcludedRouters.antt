@@ -15,7 +15,7 @@ use Rattle.mc_files.specs.Layout.{cache_slot, file_name, vif_slot}
 use Rattle.mc_theory.specs.Nets.Row.{NoRow}
 use Rattle.mc_theory.specs.ExcludedRouters.{ExcludesRouters}
 use Rattle.mc_forward.specs.Domains.{DomainValue, net_of, placed_of, row_of, vif_of}
-use Rattle.mc_input.specs.FilesReading.{input_of_files, part_from_file, topology_of_files}
+use Rattle.mc_input.specs.FilesReading.{input_of_files, files_as_source, topology_of_files}
 use Rattle.mc_input.specs.Input.{InputValue}
 use Rattle.mc_input.specs.PartsReading.{read_tables_and_reports}
 use Rattle.mc_input.specs.SourceFault.{IsReadOrMemory, is_possible_for_files, is_read}
@@ -97,7 +97,7 @@ HasExcludedName names topology router =
 abbrev pub input_of_other_files : TopologyValue → (names : List (List ℕ)) → List FileText
     → Result InputValue SourceFault
 input_of_other_files topology names files =
-    read_tables_and_reports Input (part_from_file (files_with_exclusions names files)) topology
+    read_tables_and_reports Input (files_as_source (files_with_exclusions names files)) topology
 
 -- The input of a folder's files with the routers of these names excluded, or the first fault: that of the
 -- topology, that of the names, and then that of the other files.

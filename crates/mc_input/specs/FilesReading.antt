@@ -14,19 +14,23 @@ use Rattle.mc_input.specs.declared.fault.InputFault.{InputFault}
 use Rattle.mc_input.specs.declared.source_fault.SourceFault.{SourceFault}
 use Rattle.mc_input.specs.declared.source_fault.SourceFault.TheVariants.{Input}
 
--- the part that a slot's file makes, whatever the slot's number
-abbrev pub part_from_file : List FileText → ℕ → Slot → Result PartText SourceFault
-part_from_file files n slot = map_fault from_file_fault (file_part files slot)
+-- the part that a slot's file makes, or the fault for which there is none
+abbrev pub part_of_slot : List FileText → Slot → Result PartText SourceFault
+part_of_slot files slot = map_fault from_file_fault (file_part files slot)
 
 -- the result of reading a slot's file
 abbrev pub read_file : {X : Type 0} → Slot → (PartText → Result X InputFault) → List FileText
     → Result X SourceFault
-read_file slot read files = read_part Input (part_from_file files 0 slot) read
+read_file slot read files = read_part Input (part_of_slot files slot) read
 
 -- the topology of the files
 abbrev pub topology_of_files : List FileText → Result TopologyValue SourceFault
 topology_of_files = read_file topology_slot topology_of
 
--- the input of the files
+-- the files as what gives the part of a slot, by the slot and its number: a file is found by the slot alone
+abbrev pub files_as_source : List FileText → (number : ℕ) → Slot → Result PartText SourceFault
+files_as_source files number slot = part_of_slot files slot
+
+-- the input of the files; which files there are beside those of the slots makes no difference
 abbrev pub input_of_files : List FileText → Result InputValue SourceFault
-input_of_files files = read_input Input (part_from_file files) (λ t. Ok tt)
+input_of_files files = read_input Input (files_as_source files) (λ t. Ok tt)

@@ -19,7 +19,7 @@ use Rattle.mc_topology.specs.Topology.{TopologyValue}
 use Rattle.mc_files.specs.Files.{FileText}
 use Rattle.mc_files.specs.Layout.{Slot, certificate_slot, part_name, slots}
 use Rattle.mc_forward.specs.Domains.{TablesValue}
-use Rattle.mc_input.specs.FilesReading.{part_from_file}
+use Rattle.mc_input.specs.FilesReading.{files_as_source}
 use Rattle.mc_input.specs.Input.{InputValue}
 use Rattle.mc_input.specs.InputView.{input_with}
 use Rattle.mc_input.specs.PartsOneByOne.{InputAndCertificate, check_names_then, read_rest}
@@ -74,7 +74,7 @@ bundle_gives s certified topology number text =
 
 -- what a folder gives from the slot with this number on: each file is judged by itself
 abbrev pub files_give : TopologyValue → ℕ → List FileText → Stream
-files_give topology number files = Ok (parts_of_slots (part_from_file files) number
+files_give topology number files = Ok (parts_of_slots (files_as_source files) number
     (drop number (slots false topology)))
 
 -- ---- the contents of several parts

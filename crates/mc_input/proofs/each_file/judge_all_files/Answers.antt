@@ -2,7 +2,8 @@ use Rattle.std.proofs.Common.{List, ℕ, Ok, ap, map}
 use denote.Ref.{Bor}
 use Rattle.mc_text.proofs.StepLemmas.{on_ok_map}
 use Rattle.mc_input.specs.RefusedFiles.{judged_with_topology, as_judged_file}
-use Rattle.mc_input.proofs.RefusedLemmas.{OnOk-both, saturating_failures-topology_alone}
+use Rattle.mc_input.proofs.JudgedFilesLemmas.{OnOk-both}
+use Rattle.mc_input.proofs.RefusedLemmas.{saturating_failures-topology_alone}
 use Rattle.mc_input.proofs.RefusedLemmas.{saturating_failures-with_topology}
 use Rattle.mc_input.proofs.RefusedLemmas.{AreRefusedFiles-topology_alone_of_source}
 use Rattle.mc_input.proofs.RefusedLemmas.{AreRefusedFiles-with_topology_of_source}

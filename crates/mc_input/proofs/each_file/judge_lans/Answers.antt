@@ -1,12 +1,12 @@
-use Rattle.std.proofs.Common.{◌+◌, ◌∙◌, ◌∷◌, [], ap, arith, false, map, refl, rules}
+use Rattle.std.proofs.Common.{◌∙◌, ◌∷◌, [], ap, arith, map, refl, rules}
 use Rattle.mc_text.specs.Steps.{map_fault}
 use Rattle.mc_files.specs.Layout.{reports_slot}
 use Rattle.mc_forward.proofs.IndexLemmas.{slice_get-exists}
 use Rattle.mc_input.specs.PartsReading.{reports_of}
 use Rattle.mc_input.specs.RefusedFiles.{as_judged_file, judged_reports}
 use Rattle.mc_input.specs.declared.fault.InputFault.TheVariants.{Reports}
-use Rattle.mc_input.proofs.RefusedLemmas.{JudgesFiles-lans_all, JudgesFiles-lans_more, JudgesFiles-none}
-use Rattle.mc_input.proofs.RefusedLemmas.{JudgesFiles-same_source}
+use Rattle.mc_input.proofs.JudgedFilesLemmas.{JudgesFiles-lans_all, JudgesFiles-lans_more, JudgesFiles-none}
+use Rattle.mc_input.proofs.JudgedFilesLemmas.{JudgesFiles-same_source}
 use Rattle.mc_input.proofs.each_file.judge_lans.Goals as goal
 
 -- The list grows by the next LAN's file, if that has a fault.

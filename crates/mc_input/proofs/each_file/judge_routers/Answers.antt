@@ -2,8 +2,8 @@ use Rattle.std.proofs.Common.{List, ℕ, arith, map, refl, rules, ◌∙◌}
 use denote.Ref.{Bor}
 use Rattle.mc_forward.proofs.IndexLemmas.{slice_get-exists}
 use Rattle.mc_input.specs.RefusedFiles.{as_judged_file, judged_tables}
-use Rattle.mc_input.proofs.RefusedLemmas.{JudgesFiles-none, JudgesFiles-routers_all}
-use Rattle.mc_input.proofs.RefusedLemmas.{JudgesFiles-routers_more, JudgesFiles-same_source}
+use Rattle.mc_input.proofs.JudgedFilesLemmas.{JudgesFiles-none, JudgesFiles-routers_all}
+use Rattle.mc_input.proofs.JudgedFilesLemmas.{JudgesFiles-routers_more, JudgesFiles-same_source}
 use Rattle.mc_input.proofs.each_file.judge_routers.Goals as goal
 
 -- Before the first router no file was judged.

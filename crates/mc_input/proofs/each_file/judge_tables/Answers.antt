@@ -1,6 +1,5 @@
-use Rattle.std.proofs.Common.{ℕ, ◌+◌, ◌*◌, ◌∙◌, [], ◌∷◌, List, ap, arith, false, map, refl, sym}
+use Rattle.std.proofs.Common.{ℕ, ◌∙◌, [], ◌∷◌, List, ap, map, sym}
 use Rattle.std.specs.List.{list_any}
-use Rattle.std.specs.Prelude.{option_map}
 use Rattle.std.specs.Str.{bytes_eq}
 use denote.Ref.{Bor}
 use Rattle.mc_text.specs.Steps.{map_fault}
@@ -10,9 +9,10 @@ use Rattle.mc_input.specs.PartsReading.{cache_of, vifs_of}
 use Rattle.mc_input.specs.RefusedFiles.{JudgedFile, as_judged_file, judged_file}
 use Rattle.mc_input.specs.declared.fault.InputFault.TheVariants.{Cache, Vif}
 use Rattle.mc_input.proofs.CacheLemmas.{listed_part}
-use Rattle.mc_input.proofs.RefusedLemmas.{JudgesFiles-excluded_router, JudgesFiles-router}
-use Rattle.mc_input.proofs.RefusedLemmas.{JudgesFiles-same_files}
-use Rattle.mc_input.proofs.RefusedLemmas.{JudgesFiles-same_source, judged_file-listed_part}
+use Rattle.mc_input.proofs.JudgedFilesLemmas.{JudgesFiles-excluded_router, JudgesFiles-router}
+use Rattle.mc_input.proofs.JudgedFilesLemmas.{JudgesFiles-same_files}
+use Rattle.mc_input.proofs.FileFaultLemmas.{judged_file-listed_part}
+use Rattle.mc_input.proofs.JudgedFilesLemmas.{JudgesFiles-same_source}
 use Rattle.mc_input.proofs.WalkLemmas.{name-at, order-at}
 use Rattle.mc_text.proofs.StepLemmas.{on_ok_map}
 use Rattle.mc_input.proofs.each_file.judge_tables.Goals as goal

@@ -3,7 +3,7 @@ use Rattle.std.specs.Prelude.{flat_map}
 use denote.Ref.{Bor}
 use Rattle.mc_text.proofs.StepLemmas.{on_ok_map}
 use Rattle.mc_input.specs.RefusedFiles.{judged_reports, judged_tables, as_judged_file}
-use Rattle.mc_input.proofs.RefusedLemmas.{JudgesFiles-append, JudgesFiles-same_source}
+use Rattle.mc_input.proofs.JudgedFilesLemmas.{JudgesFiles-append, JudgesFiles-same_source}
 use Rattle.mc_input.proofs.each_file.judge_topologys_files.Goals as goal
 
 -- The files of the routers are judged, and then those of the LANs, which are all that a topology

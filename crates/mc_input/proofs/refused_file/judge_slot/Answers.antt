@@ -1,7 +1,7 @@
 use Rattle.std.proofs.Common.{◌≡◌, ◌∙◌, Some, map, sym}
 use Rattle.mc_files.specs.Layout.{Slot}
 use Rattle.mc_input.specs.RefusedFiles.{as_judged_file}
-use Rattle.mc_input.proofs.RefusedLemmas.{JudgesFiles-one_of_slot, OnOk-both}
+use Rattle.mc_input.proofs.JudgedFilesLemmas.{JudgesFiles-one_of_slot, OnOk-both}
 use Rattle.mc_input.proofs.refused_file.judge_slot.Goals as goal
 
 one_slot : {x y : Slot} → Some x ≡ Some y → x ≡ y

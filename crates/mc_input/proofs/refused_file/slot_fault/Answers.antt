@@ -3,7 +3,7 @@ use Rattle.mc_files.specs.Files.{FileText}
 use Rattle.mc_input.specs.RefusedFiles.{IsOwnFaultUnlessMemory, file_fault}
 use Rattle.mc_input.specs.Stream.{files_give}
 use Rattle.mc_input.specs.declared.source_fault.SourceFault.{SourceFault}
-use Rattle.mc_input.proofs.RefusedLemmas.{IsOwnFaultUnlessMemory-of_slot}
+use Rattle.mc_input.proofs.FileFaultLemmas.{IsOwnFaultUnlessMemory-of_slot}
 use Rattle.mc_input.proofs.refused_file.slot_fault.Goals as goal
 
 -- The slot's own file is the first of what the folder gives from its number on, so that the fault of

@@ -1,6 +1,6 @@
 use Rattle.std.proofs.lemmas.Result.{err_from_is_err_and}
 use Rattle.mc_forward.proofs.IndexLemmas.{slice_get-exists}
-use Rattle.std.proofs.Common.{ℕ, ◌≡◌, ◌<◌, ◌+◌, ◌*◌, ◌∙◌, Ok, Some, ap, arith, false, length, option_map}
+use Rattle.std.proofs.Common.{ℕ, ◌≡◌, ◌∙◌, Ok, Some, ap, length, option_map}
 use Rattle.std.proofs.Common.{refl, subst, sym, slice_get}
 use Rattle.mc_text.specs.Steps.{map_fault}
 use Rattle.mc_text.specs.declared.text.addr.Order.{Order}

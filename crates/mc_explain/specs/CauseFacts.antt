@@ -124,8 +124,8 @@ pub record StopsOnPath (n : Net) (hop : Hop) (left lan : ℕ) : Type 0 where
   pub is_hop : IsHop n hop
   pub stopped : IsStopped n.ttl path hop left
 
--- The causes name the least TTL that reaches some LAN, and `stop` names the hop on a path to that LAN at which
--- a packet with the flow's TTL is stopped, and the TTL with which it comes there.
+-- The causes name the least TTL that reaches some LAN, and `stop` names the hop on a path to that LAN at
+-- which a packet with the flow's TTL is stopped, and the TTL with which it comes there.
 pub record StopsShortOfLan (n : Net) (causes : List Cause) (stop : Cause) : Type 0 where
   pub lan : ℕ
   pub least : ℕ

@@ -38,86 +38,93 @@ pub use unlisted_line_laws::unlisted_lines_have_prefix;
 /// The row of a reported sender is of the flow's source and group, and has the vif among its outgoing
 /// ones, which is placed on the LAN.
 pub fn reported_sender_sends_onto_lan()
-    ensures { (d : DomainValue) (flow lan router vif : ℕ) → IsReported d flow (SentOnto lan router vif) →
-        SendsOnto (net_of d flow) router vif lan }
+    ensures { (domain : DomainValue) (flow lan router vif : ℕ) →
+        IsReported domain flow (SentOnto lan router vif) → SendsOnto (net_of domain flow) router vif lan }
 {}
 
 /// The rows that are reported for a loop lead from the LAN around to it.
 pub fn circle_of_loop_is_closed()
-    ensures closed { (d : DomainValue) (flow lan : ℕ) (flights : ExaminedFlights) (causes : List Cause) →
-        AreCausesOf d flow flights causes → final_finding flights ≡ Loop lan →
-        IsClosedCircle (net_of d flow) lan causes }
+    ensures closed { (domain : DomainValue) (flow lan : ℕ) (flights : ExaminedFlights) (causes : List Cause) →
+        AreCausesOf domain flow flights causes → final_finding flights ≡ Loop lan →
+        IsClosedCircle (net_of domain flow) lan causes }
     // Each cause is a row's hop: it takes from the one LAN and sends onto the other.
-    ensures hops { (d : DomainValue) (flow from onto router vif : ℕ) →
-        IsReported d flow (Circle from onto router vif) →
-        (h : Hop) × IsHop (net_of d flow) h × (circle_cause h ≡ Circle from onto router vif) }
+    ensures hops { (domain : DomainValue) (flow from onto router vif : ℕ) →
+        IsReported domain flow (Circle from onto router vif) →
+        (hop : Hop) × IsHop (net_of domain flow) hop × (circle_cause hop ≡ Circle from onto router vif) }
 {}
 
 /// An interface that is reported as a remedy can be taken out of its router's row.
 pub fn remedy_keeps_reached_lans()
     // It sends onto the LAN.
-    ensures sends { (d : DomainValue) (flow lan router vif least : ℕ) →
-        IsReported d flow (TakeOut lan router vif least) → SendsOnto (net_of d flow) router vif lan }
+    ensures sends { (domain : DomainValue) (flow lan router vif least : ℕ) →
+        IsReported domain flow (TakeOut lan router vif least) →
+        SendsOnto (net_of domain flow) router vif lan }
     // Without it the LAN is reached with the reported TTL.
-    ensures stays { (d : DomainValue) (flow lan router vif least : ℕ) →
-        IsReported d flow (TakeOut lan router vif least) →
-        StaysReached (net_of d flow) (router, vif) lan least }
+    ensures stays { (domain : DomainValue) (flow lan router vif least : ℕ) →
+        IsReported domain flow (TakeOut lan router vif least) →
+        StaysReached (net_of domain flow) (router, vif) lan least }
     // Each LAN that was reached before is reached.
-    ensures reached { (d : DomainValue) (flow lan router vif least m : ℕ) →
-        IsReported d flow (TakeOut lan router vif least) → IsReached (net_of d flow) m →
-        IsReached (take_out (router, vif) (net_of d flow)) m }
+    ensures reached { (domain : DomainValue) (flow lan router vif least other : ℕ) →
+        IsReported domain flow (TakeOut lan router vif least) → IsReached (net_of domain flow) other →
+        IsReached (take_out (router, vif) (net_of domain flow)) other }
     // It is reached by packets with the same TTL, if that is at least the reported one.
-    ensures reached_with { (d : DomainValue) (flow router vif t : ℕ) → IsRemedyForTtl d flow router vif t →
-        ReachesAsMuch (take_out (router, vif) (net_of d flow)) (net_of d flow) t }
+    ensures reached_with { (domain : DomainValue) (flow router vif ttl : ℕ) →
+        IsRemedyForTtl domain flow router vif ttl →
+        ReachesAsMuch (take_out (router, vif) (net_of domain flow)) (net_of domain flow) ttl }
     // A complete run of a packet with such a TTL brings a copy to each LAN to which any run brought one
     // before.
-    ensures carried { (d : DomainValue) (flow router vif t : ℕ) (qs ps : List Pick) →
-        IsRemedyForTtl d flow router vif t →
-        CarriesAsMuch (take_out (router, vif) (net_of d flow)) (net_of d flow) t qs ps }
+    ensures carried { (domain : DomainValue) (flow router vif ttl : ℕ) (picks_without picks : List Pick) →
+        IsRemedyForTtl domain flow router vif ttl →
+        CarriesAsMuch (take_out (router, vif) (net_of domain flow)) (net_of domain flow) ttl
+        picks_without picks }
     // No run sends a copy by the interface.
-    ensures unsent { (n : Net) (i : Interface) (t : ℕ) (ps : List Pick) (c : Copy) →
-        In c (run (take_out i n) ps (start (take_out i n) t)).carried → c.sender ≢ Some i }
+    ensures unsent { (net : Net) (interface : Interface) (ttl : ℕ) (picks : List Pick) (copy : Copy) →
+        In copy (run (take_out interface net) picks (start (take_out interface net) ttl)).carried →
+        copy.sender ≢ Some interface }
 {}
 
 /// A vif that is reported as unplaced is an outgoing one of its router's row of the flow's source and
 /// group, and is placed on no LAN.
 pub fn unplaced_vif_leads_out()
-    ensures { (d : DomainValue) (flow router vif : ℕ) → IsReported d flow (Unplaced router vif) →
-        LeadsOut (net_of d flow) router vif }
+    ensures { (domain : DomainValue) (flow router vif : ℕ) → IsReported domain flow (Unplaced router vif) →
+        LeadsOut (net_of domain flow) router vif }
 {}
 
 /// A router whose row for every source is reported has no row of the flow's source and group, and the vif
 /// is placed on a LAN that the flow's packets reach.
 pub fn every_source_row_is_reached()
-    ensures { (d : DomainValue) (flow router vif : ℕ) → IsReported d flow (OnlyEverySource router vif) →
-        ReachesEverySourceRow (net_of d flow) router vif }
+    ensures { (domain : DomainValue) (flow router vif : ℕ) →
+        IsReported domain flow (OnlyEverySource router vif) →
+        ReachesEverySourceRow (net_of domain flow) router vif }
 {}
 
 /// Packets with the reported least TTL or more reach the LAN, and none with less. The flow's TTL is less.
 pub fn reported_ttl_is_least()
-    ensures least { (d : DomainValue) (flow lan least t : ℕ) → IsReported d flow (LeastTtl lan least) →
-        1 ≤ t → t ≤ 255 → IsReachedWithTtl (net_of d flow) t lan ↔ (least ≤ t) }
-    ensures range { (d : DomainValue) (flow lan least : ℕ) → IsReported d flow (LeastTtl lan least) →
-        ((net_of d flow).ttl < least) × (least ≤ 255) }
+    ensures least { (domain : DomainValue) (flow lan least ttl : ℕ) →
+        IsReported domain flow (LeastTtl lan least) → 1 ≤ ttl → ttl ≤ 255 →
+        IsReachedWithTtl (net_of domain flow) ttl lan ↔ (least ≤ ttl) }
+    ensures range { (domain : DomainValue) (flow lan least : ℕ) →
+        IsReported domain flow (LeastTtl lan least) → ((net_of domain flow).ttl < least) × (least ≤ 255) }
 {}
 
 /// A packet with the flow's TTL is stopped at the reported vif, on a path to the LAN whose least TTL is
 /// reported.
 pub fn reported_stop_stops_packet()
-    ensures { (d : DomainValue) (flow router vif threshold left : ℕ) →
-        (r : IsReported d flow (StoppedAt router vif threshold left)) →
-        StopsShortOfLan (net_of d flow) r.causes (StoppedAt router vif threshold left) }
+    ensures { (domain : DomainValue) (flow router vif threshold left : ℕ) →
+        (reported : IsReported domain flow (StoppedAt router vif threshold left)) →
+        StopsShortOfLan (net_of domain flow) reported.causes (StoppedAt router vif threshold left) }
 {}
 
 /// The domain and the flights determine the causes: no others explain the flow.
 pub fn causes_are_unique()
-    ensures { (d : DomainValue) (flow : ℕ) (flights : ExaminedFlights) (causes others : List Cause) →
-        IsDomain d → IsExplained d flow flights causes → IsExplained d flow flights others → causes ≡ others }
+    ensures { (domain : DomainValue) (flow : ℕ) (flights : ExaminedFlights) (causes others : List Cause) →
+        IsDomain domain → IsExplained domain flow flights causes →
+        IsExplained domain flow flights others → causes ≡ others }
 {}
 
 /// If a packet with TTL 255 has no finding, then one with the flow's TTL has none, or misses a LAN.
 pub fn low_ttl_finding_is_missed_or_clean()
-    ensures { (d : DomainValue) (flow : ℕ) (greatest least : FinishedTravel) →
-        IsExaminedFlow d flow (FoundAtFlowTtl greatest least) →
+    ensures { (domain : DomainValue) (flow : ℕ) (greatest least : FinishedTravel) →
+        IsExaminedFlow domain flow (FoundAtFlowTtl greatest least) →
         IsMissedOrClean (finding_value least.travel.finding) }
 {}

@@ -8,8 +8,8 @@ ghost use Rattle.mc_explain.specs.ExcludedText.{AreExcludedLines, excluded_text,
 /// The lines that name excluded routers begin with `excluded `, and the line that says why the verdict is
 /// no begins with two spaces, whatever the routers' names are.
 pub fn excluded_lines_have_prefix()
-    ensures routers { (t : TopologyValue) (marks : List Bool) → IsValidTopology t →
-        AreExcludedLines (excluded_lines t marks) }
-    ensures reason { (t : TopologyValue) (marks : List Bool) → IsValidTopology t →
-        AreIndented (excluded_text t marks) }
+    ensures routers { (topology : TopologyValue) (marks : List Bool) → IsValidTopology topology →
+        AreExcludedLines (excluded_lines topology marks) }
+    ensures reason { (topology : TopologyValue) (marks : List Bool) → IsValidTopology topology →
+        AreIndented (excluded_text topology marks) }
 {}

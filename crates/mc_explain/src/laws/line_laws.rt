@@ -9,8 +9,8 @@ ghost use Rattle.mc_explain.specs.WantedText.{also_missed_text, wanted_text};
 /// The lines of the LANs that want a flow, and of those that its packet also missed, begin with two spaces,
 /// whatever the LANs' names are.
 pub fn wanted_lines_begin_with_two_spaces()
-    ensures wanted { (t : TopologyValue) (lans : List ℕ) → IsValidTopology t →
-        AreIndented (wanted_text t lans) }
-    ensures missed { (t : TopologyValue) (lans : List ℕ) → IsValidTopology t →
-        AreIndented (also_missed_text t lans) }
+    ensures wanted { (topology : TopologyValue) (lans : List ℕ) → IsValidTopology topology →
+        AreIndented (wanted_text topology lans) }
+    ensures missed { (topology : TopologyValue) (lans : List ℕ) → IsValidTopology topology →
+        AreIndented (also_missed_text topology lans) }
 {}

@@ -12,21 +12,25 @@ ghost use Rattle.mc_explain.specs.SearchLine.{search_lines};
 /// The LANs of a search are the missed one and those that are reached from there, each once.
 pub fn a_search_ends()
     // The missed LAN is among them.
-    ensures missed { (s : Search) (missed : ℕ) → In missed (lans_of_search s missed) }
+    ensures missed { (searched : Search) (missed : ℕ) → In missed (lans_of_search searched missed) }
     // Each is searched once, and is a LAN of the domain.
-    ensures distinct { (s : Search) (missed : ℕ) → Distinct (lans_of_search s missed) }
-    ensures listed { (d : DomainValue) (s : Search) (missed lan : ℕ) → IsSearchIn d s →
-        missed < length d.topology.lans → In lan (lans_of_search s missed) → lan < length d.topology.lans }
+    ensures distinct { (searched : Search) (missed : ℕ) → Distinct (lans_of_search searched missed) }
+    ensures listed { (domain : DomainValue) (searched : Search) (missed lan : ℕ) →
+        IsSearchIn domain searched → missed < length domain.topology.lans →
+        In lan (lans_of_search searched missed) →
+        lan < length domain.topology.lans }
     // No more are reached, however long the search goes on.
-    ensures ends { (d : DomainValue) (s : Search) (missed steps : ℕ) → IsSearchIn d s →
-        missed < length d.topology.lans → length d.topology.lans ≤ steps →
-        visited_lans s missed steps ≡ lans_of_search s missed }
+    ensures ends { (domain : DomainValue) (searched : Search) (missed steps : ℕ) →
+        IsSearchIn domain searched → missed < length domain.topology.lans →
+        length domain.topology.lans ≤ steps →
+        visited_lans searched missed steps ≡ lans_of_search searched missed }
 {}
 
 /// Each router that has an interface on a LAN of the search, in the topology, is named by a line about
 /// that LAN.
 pub fn a_search_names_each_router()
-    ensures { (d : DomainValue) (s : Search) (missed : ℕ) (i : InterfaceRow) → IsSearchIn d s →
-        IsIn d.topology.interfaces i → In i.lan (lans_of_search s missed) →
-        NamesRouter i.lan i.router (search_lines s missed) }
+    ensures { (domain : DomainValue) (searched : Search) (missed : ℕ) (interface : InterfaceRow) →
+        IsSearchIn domain searched → IsIn domain.topology.interfaces interface →
+        In interface.lan (lans_of_search searched missed) →
+        NamesRouter interface.lan interface.router (search_lines searched missed) }
 {}

@@ -14,6 +14,6 @@ pub fn the_lowest_unlisted_pairs_are_shown()
     ensures pairs { (all : Bool) (listed : List (ℕ × ℕ)) (caches : List (List RowValue)) →
         shown_unlisted_pairs all (summaries_of all listed caches)
         ≡ shown_pairs all (in_order (flat_map (unlisted_pairs listed) caches)) }
-    ensures routers { (all : Bool) (t : TopologyValue) (listed : List (ℕ × ℕ))
-        (caches : List (List RowValue)) → ShownPairsHaveAllRouters all t listed caches }
+    ensures routers { (all : Bool) (topology : TopologyValue) (listed : List (ℕ × ℕ))
+        (caches : List (List RowValue)) → ShownPairsHaveAllRouters all topology listed caches }
 {}

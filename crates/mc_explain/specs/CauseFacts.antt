@@ -125,8 +125,8 @@ pub record StopsOnPath (net : Net) (hop : Hop) (left lan : ℕ) : Type 0 where
   pub is_hop : IsHop net hop
   pub stopped : IsStopped net.ttl path hop left
 
--- The causes name the least TTL that reaches some LAN, and `stop` names the hop on a path to that LAN at which
--- a packet with the flow's TTL is stopped, and the TTL with which it comes there.
+-- The causes name the least TTL that reaches some LAN, and `stop` names the hop on a path to that LAN at
+-- which a packet with the flow's TTL is stopped, and the TTL with which it comes there.
 pub record StopsShortOfLan (net : Net) (causes : List Cause) (stop : Cause) : Type 0 where
   pub lan : ℕ
   pub least : ℕ

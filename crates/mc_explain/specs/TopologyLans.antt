@@ -28,6 +28,10 @@ interfaces_by_router topology =
 
 -- ---- vifs
 
+-- the numbers that a vif can have: 0 to 31 (MAXVIFS in include/uapi/linux/mroute.h)
+abbrev pub vif_numbers : List ℕ
+vif_numbers = below 32
+
 -- whether there is a vif and it has this device
 abbrev pub vif_has_device : List ℕ → Option VifValue → Bool
 vif_has_device device None = false
@@ -35,7 +39,8 @@ vif_has_device device (Some vif) = bytes_eq vif.device device
 
 -- a router's vif of a device, if it has one
 abbrev pub vif_of_device : DomainFacts → (router : ℕ) → List ℕ → Option ℕ
-vif_of_device domain router device = find (λ vif. vif_has_device device (domain.vifs router vif)) (below 32)
+vif_of_device domain router device =
+    find (λ vif. vif_has_device device (domain.vifs router vif)) vif_numbers
 
 -- an interface by its router, its number, and the router's vif of its device
 abbrev pub listed_interface_of : DomainFacts → ℕ → InterfaceRow → ListedInterface

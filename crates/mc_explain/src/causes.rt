@@ -7,6 +7,7 @@ mod explanation;
 pub(crate) mod first_copies;
 mod hop;
 mod path;
+mod second_copy;
 mod shown_need;
 
 pub use behind::{Behind, behind_stray};

@@ -1,6 +1,7 @@
 //! The search back from a LAN that a packet misses, router by router.
 
 mod interfaces_of_lans;
+mod lan_lines;
 mod lan_probe;
 mod listed_interface;
 mod reach;

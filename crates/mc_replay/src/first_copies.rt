@@ -9,7 +9,7 @@ use mc_topology::{LanNo, RouterNo};
 
 /// Stores the first copy of each LAN, and returns the first copy whose LAN carried an earlier one. The
 /// first `seen` copies are stored already, and no two of them are on the same LAN.
-pub(crate) fn record_first_copies(
+pub fn record_first_copies(
     firsts: &mut PerLan<CarriedCopy>,
     copies: &[CarriedCopy],
     seen: usize,

@@ -11,7 +11,7 @@ mod shown;
 mod travel;
 
 pub use finding::Finding;
-pub use first_copies::sender_on;
+pub use first_copies::{record_first_copies, sender_on};
 pub use past_strays::{FlightPastStrays, run_past_strays};
 pub use picker::{First, Last, Numbers, Picker};
 pub use shown::{ShownEvent, ShownFinding, shown_event};

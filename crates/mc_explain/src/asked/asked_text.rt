@@ -16,7 +16,7 @@ use mc_text::{Addr, Memory};
 use mc_topology::{LanNo, RouterNo, Topology};
 use std::fmt;
 
-/// A want that no flow answers, and what is said of it.
+/// A want that no flow answers, and what its line has.
 #[derive(Clone, Copy, Drop)]
 pub struct AskedLine<'t> {
     /// The group, and the source or 0.0.0.0 for any.
@@ -134,7 +134,7 @@ impl<'t> fmt::Display for ShownSsm<'t> {
     }
 }
 
-/// What is said of a want behind its LANs.
+/// What a line has of a want after its LANs.
 #[derive(Clone, Copy, Drop)]
 struct ShownWhat<'t> {
     topology: &'t Topology,

@@ -1,28 +1,25 @@
 //! What is behind a stray: what the run comes to that goes on past it.
 
-ghost use Rattle.std.specs.Prelude.{◌≡◌, ◌<◌, ◌≤◌, ◌==◌, ◌++◌, [], Bool, List, IfOk, OnOk, None, Some};
-ghost use Rattle.std.specs.Prelude.{filter, if◌then◌else◌, length};
+ghost use Rattle.std.specs.Prelude.{◌≡◌, ◌<◌, ◌≤◌, ◌==◌, [], Bool, List, IfOk, OnOk, None, Some};
+ghost use Rattle.std.specs.Prelude.{filter, length};
 ghost use Rattle.mc_theory.specs.Nets.{Interface};
 ghost use Rattle.mc_theory.specs.Flights.{Copy};
-ghost use Rattle.mc_theory.specs.Findings.{first_double, sender_on as sender_of_first};
+ghost use Rattle.mc_theory.specs.Findings.{first_double};
 ghost use Rattle.mc_forward.specs.FlightsInDomain.{net_in};
 ghost use Rattle.mc_forward.specs.PerLan.{HoldsFirstOfEachKey};
-ghost use Rattle.mc_replay.specs.FindingValues.{finding_value, optional_finding_value};
+ghost use Rattle.mc_replay.specs.FindingValues.{optional_finding_value};
 ghost use Rattle.mc_replay.specs.PastStrays.{finding_of_double};
 ghost use Rattle.std.specs.List.{list_any};
-ghost use Rattle.mc_explain.specs.Behind.{IsBehind, IsBehindIn, double_causes, is_missed, is_open};
+ghost use Rattle.mc_explain.specs.Behind.{IsBehind, IsBehindIn, is_missed, is_open};
 ghost use Rattle.mc_explain.specs.Behind.{is_other_leak, missed_lans, missed_unless_open, open_routers};
-ghost use Rattle.mc_explain.specs.Behind.{second_causes, with_open_router, with_router_once};
-ghost use Rattle.mc_explain.specs.Explained.{sender_causes};
+ghost use Rattle.mc_explain.specs.Behind.{with_open_router, with_router_once};
 ghost use Rattle.mc_explain.specs.ShownNeed.{need_of_two_copies as least_of_two_copies};
 
 use crate::causes::Cause;
-use crate::causes::explained::{add_sender, circle_causes};
 use crate::causes::first_copies::FirstCopies;
-use crate::causes::path::hops_around;
-use crate::causes::shown_need::need_of_two_copies;
+use crate::causes::second_copy::{second_causes, second_shown_from};
 use mc_forward::{CarriedCopy, Domain, Flight, FlowView, RowFor, Stray};
-use mc_replay::{Finding, run_past_strays, sender_on};
+use mc_replay::{Finding, run_past_strays};
 use mc_text::Memory;
 use mc_topology::{LanNo, RouterNo};
 use std::alloc::Global;
@@ -35,7 +32,7 @@ pub struct Behind {
     pub finding: Option<Finding>,
     /// Its causes, without a remedy.
     pub causes: Vec<Cause>,
-    /// The TTL from which on each packet shows it, if that is said.
+    /// The TTL from which on each packet shows it, if one is given.
     pub shown_from: Option<u8>,
     /// By which interfaces copies leave the known domain besides.
     pub strays: Vec<Stray>,
@@ -160,92 +157,6 @@ fn lans_without_copy(
     Ok(lans)
 }
 
-// ---- a second copy
-
-/// The senders of the first copy on a LAN and of its second.
-fn senders_of_two(
-    alloc: Global,
-    copies: &[CarriedCopy],
-    first_copies: &FirstCopies,
-    second: &CarriedCopy,
-) -> Result<Vec<Cause>, Memory>
-    requires first_copies { HoldsFirstOfEachKey (λ copy. copy.lan) first_copies.now.by_lan copies.now }
-    ensures { IfOk result (λ causes. causes.items
-        ≡ sender_causes second.now.lan (sender_of_first copies.now second.now.lan)
-        ++ sender_causes second.now.lan second.now.sender) }
-{
-    let lan = second.lan;
-    let mut causes = Vec::new(alloc);
-    add_sender(&mut causes, lan, sender_on(&first_copies.by_lan, lan))?;
-    add_sender(&mut causes, lan, second.sender)?;
-    Ok(causes)
-}
-
-/// Why a LAN carries a second copy, without a remedy, by what that shows.
-fn double_causes(
-    alloc: Global,
-    view: &FlowView<'_>,
-    copies: &[CarriedCopy],
-    first_copies: &FirstCopies,
-    second: &CarriedCopy,
-    finding: Finding,
-) -> Result<Vec<Cause>, Memory>
-    requires first_copies { HoldsFirstOfEachKey (λ copy. copy.lan) first_copies.now.by_lan copies.now }
-    ensures { IfOk result (λ causes. causes.items
-        ≡ double_causes (net_in view.now) copies.now second.now (finding_value finding)) }
-{
-    match finding {
-        Finding::Duplicate(_) => senders_of_two(alloc, copies, first_copies, second),
-        Finding::Loop(_) => {
-            let circle = hops_around(alloc, view, copies, first_copies, second)?;
-            circle_causes(alloc, &circle)
-        }
-        Finding::Clean | Finding::Stray(_, _) | Finding::Missed(_) => Ok(Vec::new(alloc)),
-    }
-}
-
-/// Why a LAN carries a second copy, by what that shows, which is known.
-fn second_causes(
-    alloc: Global,
-    view: &FlowView<'_>,
-    copies: &[CarriedCopy],
-    first_copies: &FirstCopies,
-    second: &CarriedCopy,
-    finding: &Option<Finding>,
-) -> Result<Vec<Cause>, Memory>
-    requires first_copies { HoldsFirstOfEachKey (λ copy. copy.lan) first_copies.now.by_lan copies.now }
-    requires finding { optional_finding_value finding.now
-        ≡ Some (finding_of_double (net_in view.now) copies.now second.now) }
-    ensures { IfOk result (λ causes. causes.items ≡ second_causes (net_in view.now) copies.now
-        (Some second.now)) }
-{
-    match finding {
-        Some(finding) => double_causes(alloc, view, copies, first_copies, second, *finding),
-        None => Ok(Vec::new(alloc)),
-    }
-}
-
-/// The TTL from which on packets show a LAN's second copy. None is said where the flow's own TTL is 255.
-fn second_shown_from(
-    alloc: Global,
-    view: &FlowView<'_>,
-    copies: &[CarriedCopy],
-    first_copies: &FirstCopies,
-    lan: LanNo,
-) -> Result<Option<u8>, Memory>
-    requires first_copies { HoldsFirstOfEachKey (λ copy. copy.lan) first_copies.now.by_lan copies.now }
-    requires second { first_copies.now.second ≡ first_double [] copies.now }
-    requires bounded { least_of_two_copies (net_in view.now) copies.now lan ≤ 255 }
-    ensures { IfOk result (λ shown. shown ≡ (if (net_in view.now).ttl == 255 then None
-        else Some (least_of_two_copies (net_in view.now) copies.now lan))) }
-{
-    if view.ttl() == 255 {
-        return Ok(None);
-    }
-    let least = need_of_two_copies(alloc, view, copies, first_copies, lan)?;
-    Ok(Some(least))
-}
-
 /// What is behind a stray where a LAN carries a second copy: the same for each stray, and whether or not
 /// a router is excluded.
 fn behind_with_second(
@@ -278,8 +189,6 @@ fn behind_with_second(
         missed: Vec::new(alloc),
     })
 }
-
-// ---- none
 
 /// The LANs that want the flow and have no first copy, if no router's row isn't followed and none is
 /// excluded.

@@ -9,9 +9,9 @@ use mc_topology::LanNo;
 /// Which packets show a finding of a packet with TTL 255.
 #[derive(Clone, Copy, Debug)]
 pub struct ShownBy {
-    /// The TTL from which on each packet shows it, if that is said.
+    /// The TTL from which on each packet shows it, if one is given.
     pub from: Option<u8>,
-    /// What a packet with the flow's own TTL meets, if that is said.
+    /// What a packet with the flow's own TTL meets, if that is known.
     pub at_flow_ttl: Option<Finding>,
 }
 

@@ -5,6 +5,7 @@ ghost use Rattle.mc_theory.specs.Findings.{first_double};
 ghost use Rattle.mc_forward.specs.PerLan.{HoldsFirstOfEachKey, item_on_lan};
 
 use mc_forward::{CarriedCopy, FlowView, PerLan};
+use mc_replay::record_first_copies;
 use mc_text::Memory;
 use mc_topology::LanNo;
 use std::alloc::Global;
@@ -29,12 +30,7 @@ impl FirstCopies {
         ensures second { IfOk result (λ first_copies. first_copies.second ≡ first_double [] copies.now) }
     {
         let mut by_lan = PerLan::new(alloc, view.lans())?;
-        let mut second = None;
-        for copy in copies {
-            if !by_lan.put_first(copy.lan, *copy) && second.is_none() {
-                second = Some(*copy);
-            }
-        }
+        let second = record_first_copies(&mut by_lan, copies, 0);
         Ok(FirstCopies { by_lan, second })
     }
 

@@ -1,6 +1,7 @@
 //! The path by which a copy came, hop by hop back, and which packets get through it.
 
-ghost use Rattle.std.specs.Prelude.{◌≡◌, ◌≤◌, IfOk, length};
+ghost use Rattle.std.specs.Prelude.{◌≡◌, ◌≤◌, ◌==◌, IfOk, length};
+ghost use Rattle.std.specs.List.{position};
 ghost use Rattle.mc_theory.specs.Paths.{need};
 ghost use Rattle.mc_theory.specs.Hops.{hops_back, hops_until, stopping_hop};
 ghost use Rattle.mc_forward.specs.FlightsInDomain.{net_in};
@@ -11,6 +12,7 @@ use crate::causes::hop::{Hop, hop_sent};
 use mc_forward::{CarriedCopy, FlowView};
 use mc_replay::sender_on;
 use mc_text::Memory;
+use mc_topology::LanNo;
 use std::alloc::Global;
 
 /// The hops by which a copy came from the source's LAN, the last one first. A travel's flight has fewer of
@@ -40,7 +42,15 @@ pub(crate) fn hops_back(
     Ok(hops)
 }
 
-/// The hops by which a copy came from its own LAN, the last one first.
+/// The place of the first hop that takes from a LAN.
+fn place_of_hop_from(hops: &[Hop], lan: LanNo) -> Option<usize>
+    ensures { result ≡ position (λ hop. hop.from == lan) hops.now }
+{
+    hops.iter().position(|hop| hop.from == lan)
+}
+
+/// The hops by which a copy came from its own LAN, the last one first: of those back to the source's LAN,
+/// the ones up to the first that takes from the copy's.
 pub(crate) fn hops_around(
     alloc: Global,
     view: &FlowView<'_>,
@@ -52,20 +62,11 @@ pub(crate) fn hops_around(
     ensures ok { IfOk result (λ hops. hops.items ≡ hops_until (net_in view.now) copies.now
         copy.now.lan (length copies.now) copy.now.lan copy.now.sender) }
 {
-    let mut hops = Vec::new(alloc);
-    let mut sender = copy.sender;
-    let mut onto = copy.lan;
-    for _step in copies {
-        let Some(hop) = hop_sent(view, sender, onto) else {
-            return Ok(hops);
-        };
-        hops.push(hop)?;
-        if hop.from == copy.lan {
-            return Ok(hops);
-        }
-        sender = sender_on(&first_copies.by_lan, hop.from);
-        onto = hop.from;
-    }
+    let mut hops = hops_back(alloc, view, copies, first_copies, copy)?;
+    let Some(place) = place_of_hop_from(&hops, copy.lan) else {
+        return Ok(hops);
+    };
+    hops.truncate(place + 1);
     Ok(hops)
 }
 

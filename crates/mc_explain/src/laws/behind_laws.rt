@@ -1,4 +1,4 @@
-//! What is said to be behind a stray is true.
+//! Theorem: what is reported behind a stray is true.
 
 ghost use Rattle.std.specs.Prelude.{◌≡◌, ◌++◌, ℕ, Bool, List, [], false};
 ghost use Rattle.mc_theory.specs.Nets.{Interface, Net};
@@ -10,17 +10,15 @@ ghost use Rattle.mc_explain.specs.Behind.{IsBehind};
 ghost use Rattle.mc_explain.specs.BehindFacts.{IsTrueBehind};
 ghost use Rattle.mc_explain.specs.declared.causes.behind.Behind.{Behind};
 
-/// What is said to be behind a stray is true of one run of the flow: the loop or the duplicate with its
-/// causes, which each packet shows that is sent with at least the TTL that is said, the strays, and the
-/// LANs that are missed.
+/// What is reported behind a stray is true of one run of the flow: the loop or the duplicate with its
+/// causes, which each packet shows that is sent with at least the reported TTL, the strays, and the LANs
+/// that are missed.
 pub fn what_is_behind_a_stray_is_of_a_run()
     ensures of_run { (whole : Bool) (domain : DomainValue) (flow : ℕ) (own : Interface)
-        (behind : Behind) → IsDomain domain →
-        IsBehind whole domain flow own behind → IsTrueBehind domain flow behind }
+        (behind : Behind) → IsDomain domain → IsBehind whole domain flow own behind →
+        IsTrueBehind domain flow behind }
     // The run begins as the travel that finds the stray.
-    ensures begins { (net : Net) (count : ℕ) (picks longer : List ℕ) (flight : Flight)
-        (finding : Finding) →
-        IsTravel net count [] false picks flight finding → IsRunPastStrays net longer flight
-        → (more : List ℕ)
-        × (longer ≡ picks ++ more) }
+    ensures begins { (net : Net) (count : ℕ) (travel_picks run_picks : List ℕ) (flight : Flight)
+        (found : Finding) → IsTravel net count [] false travel_picks flight found →
+        IsRunPastStrays net run_picks flight → (more : List ℕ) × (run_picks ≡ travel_picks ++ more) }
 {}

@@ -9,7 +9,6 @@ ghost use Rattle.mc_explain.specs.UnlistedText.{unlisted_text};
 /// Each line of unlisted rows begins with `unlisted ` or with two spaces, whatever the names of the routers
 /// of a valid topology are.
 pub fn unlisted_lines_have_prefix()
-    ensures { (all : Bool) (topology : TopologyValue) (summary : List SummaryValue)
-        → IsValidTopology topology →
-        AreUnlistedLines (unlisted_text all topology summary) }
+    ensures { (all : Bool) (topology : TopologyValue) (summary : List SummaryValue) →
+        IsValidTopology topology → AreUnlistedLines (unlisted_text all topology summary) }
 {}

@@ -10,6 +10,7 @@ ghost use Rattle.mc_explain.specs.BucketsAndMarks.{AreInterfacesByLan};
 
 use crate::searches::listed_interface::ListedInterface;
 use mc_forward::Domain;
+use mc_tables::MAX_VIFS;
 use mc_text::Memory;
 use mc_topology::{Interface, LanNo, RouterNo, Topology};
 use std::alloc::Global;
@@ -90,7 +91,7 @@ fn vif_has_device(domain: &Domain, router: RouterNo, vif: u8, device: &[u8]) -> 
 pub fn vif_of_device(domain: &Domain, router: RouterNo, device: &[u8]) -> Option<u8>
     ensures { result ≡ vif_of_device (facts domain.now) router device.now }
 {
-    for vif in 0..32u8 {
+    for vif in 0..MAX_VIFS {
         if vif_has_device(domain, router, vif, device) {
             return Some(vif);
         }

@@ -4,6 +4,7 @@ use Rattle.mc_explain.specs.SearchLine.{device_lines}
 use Rattle.mc_explain.specs.declared.searches.listed_interface.ListedInterface.{ListedInterface}
 use Rattle.mc_explain.proofs.searches.lan_probe.LanProbe.add_device_lines.Given as goal
 
+-- the lines of the interfaces so far were added
 abbrev pub invariant-loop-listed : goal.invariant-loop-listed
 invariant-loop-listed l = l.lines.items ≡ l.fn.lines.items
     ++ flat_map (λ (i : ListedInterface). device_lines (search_in l.fn.self) l.fn.lan i i.vif)

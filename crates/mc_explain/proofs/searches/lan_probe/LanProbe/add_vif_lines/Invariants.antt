@@ -5,6 +5,7 @@ use Rattle.mc_explain.specs.SearchLine.{vif_lines}
 use Rattle.mc_explain.specs.declared.searches.listed_interface.ListedInterface.{ListedInterface}
 use Rattle.mc_explain.proofs.searches.lan_probe.LanProbe.add_vif_lines.Given as goal
 
+-- the lines of the vifs of the interfaces so far were added
 abbrev pub invariant-loop-interface : goal.invariant-loop-interface
 invariant-loop-interface l = l.lines.items ≡ l.fn.lines.items
     ++ flat_map (λ (i : ListedInterface). vif_lines (search_in l.fn.self) l.fn.lan l.fn.router l.fn.from

@@ -5,7 +5,7 @@ use Rattle.mc_theory.specs.Flights.{Copy}
 use Rattle.mc_theory.specs.Findings.{sender_on}
 use Rattle.mc_explain.proofs.BackLemmas.{sender_on-held}
 use Rattle.mc_explain.proofs.FoundCopyLemmas.{causes-two_senders_alone}
-use Rattle.mc_explain.proofs.causes.behind.senders_of_two.Goals as goal
+use Rattle.mc_explain.proofs.causes.second_copy.senders_of_two.Goals as goal
 
 pub returns : goal.returns
 returns c =

@@ -22,7 +22,8 @@ use Rattle.mc_theory.proofs.ListLemmas.{in-filter, in-filter_cases, in-flat_map,
 use Rattle.mc_asked.specs.Answers.{AnswersValue, class_of}
 use Rattle.mc_asked.specs.AskedLines.{asked_from, asked_lines, count_others, count_shown, count_wants}
 use Rattle.mc_asked.specs.AskedLines.{further_wants, lan_wants_from, wants_of_lans}
-use Rattle.mc_asked.specs.LanWants.{LanWantsValue, asked_wants, is_asked_class, is_service_class}
+use Rattle.mc_asked.specs.LanWants.{LanWantsValue, asked_wants}
+use Rattle.mc_asked.specs.ClassifiedWants.{is_asked_class, is_service_class}
 use Rattle.mc_asked.specs.LanWants.{lan_wants}
 use Rattle.mc_asked.specs.declared.want_class.WantClass.TheVariants.{Service}
 use Rattle.mc_asked.specs.ListWants.{Want, asked_by, is_of_merged_filter, wants_in}

@@ -1,4 +1,4 @@
--- The pairs of one group, which stand together among ascending pairs.
+-- The pairs of one group, which are next to each other among ascending pairs.
 use Rattle.std.proofs.Common.{◌≡◌, ℕ, zero, suc, ◌+◌, ◌-◌, ◌<◌, ◌≤◌, ◌==◌, Bool, true, false, cond}
 use Rattle.std.proofs.Common.{List, [], ◌∷◌, ◌++◌, drop, filter, get_or, length, map, set, take, arith}
 use Rattle.std.proofs.Common.{refl, sym, ap, ap₂, subst, ◌∙◌, leb, ltb, inl, inr}

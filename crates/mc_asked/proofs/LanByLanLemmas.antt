@@ -25,13 +25,16 @@ use Rattle.mc_theory.proofs.ListLemmas.{in-flat_map_cases, in-map, in-map_cases,
 use Rattle.mc_asked.specs.Answers.{AnswersValue, class_of}
 use Rattle.mc_asked.specs.AskedLines.{asked_lines, lan_wants_from, wants_of_lans}
 use Rattle.mc_asked.specs.GroupRun.{seconds_of}
-use Rattle.mc_asked.specs.LanWants.{LanWantsValue, asked_wants, is_asked_class, lan_wants}
+use Rattle.mc_asked.specs.LanWants.{LanWantsValue, asked_wants, lan_wants}
+use Rattle.mc_asked.specs.ClassifiedWants.{is_asked_class}
 use Rattle.mc_asked.specs.ListWants.{Want, wants_in}
 use Rattle.mc_asked.specs.PairParts.{parts_with, shown_of_parts, with_parts}
 use Rattle.mc_asked.specs.Unadmitted.{is_admitted, list_of, unadmitted_by, unadmitted_in, with_unadmitted}
-use Rattle.mc_asked.specs.UnadmittedSoFar.{AreSourcesBelow, WantSourcesValue, as_asked, groups_from_any}
-use Rattle.mc_asked.specs.UnadmittedSoFar.{is_empty, is_shared_any, sources_so_far, wants_below}
-use Rattle.mc_asked.specs.UnadmittedSoFar.{with_lan, with_lan_at, with_unadmitted_of, without_sources}
+use Rattle.mc_asked.specs.UnadmittedSoFar.{AreSourcesBelow}
+use Rattle.mc_asked.specs.WantSources.{WantSourcesValue, as_asked, groups_from_any}
+use Rattle.mc_asked.specs.UnadmittedSoFar.{is_empty, sources_so_far, wants_below}
+use Rattle.mc_asked.specs.WantSources.{is_shared_any}
+use Rattle.mc_asked.specs.WantSources.{with_lan, with_lan_at, with_unadmitted_of, without_sources}
 use Rattle.mc_asked.specs.WantStates.{is_key}
 use Rattle.mc_asked.proofs.LawLemmas.{any-from_in, has-from_in, has_exclude-from_any, in-from_has}
 use Rattle.mc_asked.proofs.NoFilterLemmas.{firsts-sorted, or-false}

@@ -1,15 +1,12 @@
--- What indexes hold in which wants are looked up, and wants by their classes. Only contracts of private
--- functions use these definitions, but for `AreFlowsWanted`, which a public one uses.
+-- What indexes hold in which wants are looked up. Only contracts of private functions use these definitions,
+-- but for `AreFlowsWanted`, which a public one uses.
 use Rattle.std.specs.Prelude.{◌≡◌, ◌↔◌, ℕ, ◌==◌, ◌&&◌, Bool, not, IsTrue, List, Contains, Some}
-use Rattle.std.specs.Prelude.{slice_get, map, filter}
+use Rattle.std.specs.Prelude.{slice_get}
 use Rattle.std.specs.List.{list_any}
 use Rattle.mc_igmp.specs.declared.record.Record.{Record}
 use Rattle.mc_text.specs.Pair.{pair_number, pair_of}
 use Rattle.mc_text.specs.Addr.{is_forwarded_group}
 use Rattle.mc_filter.specs.SourceFilter.{has}
-use Rattle.mc_asked.specs.declared.lan_wants.ClassifiedWants.{ClassifiedWants}
-use Rattle.mc_asked.specs.Answers.{AnswersValue, class_of}
-use Rattle.mc_asked.specs.LanWants.{is_asked_class, is_service_class}
 use Rattle.mc_asked.specs.ListWants.{Want, any_source}
 use Rattle.mc_filter.specs.ChannelPlaces.{IsWantedAnswer}
 use Rattle.mc_filter.specs.ChannelWants.{is_wanted_group}
@@ -47,11 +44,3 @@ IsIndexOfPairs pairs index = (pair : ℕ × ℕ) → pair_of (pair_number pair) 
 abbrev pub IsIndexOfGroups : List (ℕ × ℕ) → List ℕ → Type 0
 IsIndexOfGroups pairs index = (group : ℕ) →
     Contains index group ↔ IsTrue (list_any (λ other. other.1 == group) pairs)
-
--- Of these wants, those of the class `Asked`, and the groups of those of the class `Service`.
-pub record IsClassified (answers : AnswersValue) (lan : ℕ) (records : List Record) (wants : List Want)
-    (classified : ClassifiedWants) : Type 0 where
-  pub asked : classified.asked.items ≡ filter (λ want. is_asked_class (class_of answers lan records want))
-      wants
-  pub services : classified.services.items
-      ≡ map (λ want. want.0) (filter (λ want. is_service_class (class_of answers lan records want)) wants)

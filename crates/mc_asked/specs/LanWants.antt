@@ -1,30 +1,13 @@
 -- What an audit keeps of the wants of a LAN's list: those of the lines `asked`, and the groups of services
 -- (docs/FORMATS.md, "What hosts ask for and no flow answers").
-use Rattle.std.specs.Prelude.{ℕ, Bool, true, false, List, map, filter, length}
+use Rattle.std.specs.Prelude.{ℕ, Bool, List, map, filter, length}
 use Rattle.std.specs.List.{dedup}
 use Rattle.std.specs.Prelude.{nat_eq}
 use Rattle.mc_igmp.specs.declared.record.Record.{Record}
 use Rattle.mc_tables.specs.Summary.{shown_pairs}
-use Rattle.mc_asked.specs.declared.want_class.WantClass.{WantClass}
-use Rattle.mc_asked.specs.declared.want_class.WantClass.TheVariants.{Answered, OnLan, Ignored, Service, Asked}
 use Rattle.mc_asked.specs.Answers.{AnswersValue, class_of}
 use Rattle.mc_asked.specs.ListWants.{Want, wants_in}
-
--- whether wants of this class come into the lines `asked`
-abbrev pub is_asked_class : WantClass → Bool
-is_asked_class Answered = false
-is_asked_class OnLan = false
-is_asked_class Ignored = false
-is_asked_class Service = false
-is_asked_class Asked = true
-
--- whether wants of this class are a service's
-abbrev pub is_service_class : WantClass → Bool
-is_service_class Answered = false
-is_service_class OnLan = false
-is_service_class Ignored = false
-is_service_class Service = true
-is_service_class Asked = false
+use Rattle.mc_asked.specs.ClassifiedWants.{is_asked_class, is_service_class}
 
 -- the wants of a list that no flow answers, nor the LAN itself, and that are neither ignored nor a service's
 abbrev pub asked_wants : AnswersValue → (lan : ℕ) → List Record → List Want

@@ -1,9 +1,11 @@
 pub mod ListWants
 pub mod Unadmitted
+pub mod WantSources
 pub mod UnadmittedSoFar
 pub mod Services
 pub mod Answers
 pub mod LanWants
+pub mod ClassifiedWants
 pub mod Indexes
 pub mod AskedLines
 pub mod PairParts

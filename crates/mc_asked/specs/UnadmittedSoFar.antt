@@ -1,64 +1,16 @@
--- The sources that the filter of none of a want's LANs admits (Unadmitted), worked out LAN by LAN: what is
--- kept after the lists of some LANs.
-use Rattle.std.specs.Prelude.{◌≡◌, ℕ, ◌+◌, ◌==◌, ◌&&◌, Bool, false, true, not, List, [], ◌∷◌, filter}
-use Rattle.std.specs.Prelude.{length, map, slice_get, take, Some, if◌then◌else◌}
+-- The sources that the filter of none of a want's LANs admits (Unadmitted), worked out LAN by LAN. What is
+-- kept after some LANs is AreSourcesBelow; AreBeforeFirstLan, AddsLan and AreAskedAfterLast say of the three
+-- steps that they begin it, keep it with one LAN more, and end it.
+use Rattle.std.specs.Prelude.{◌≡◌, ℕ, ◌+◌, ◌==◌, ◌&&◌, Bool, false, true, not, List, [], ◌∷◌}
+use Rattle.std.specs.Prelude.{length, map, slice_get, take, Some}
 use Rattle.mc_igmp.specs.declared.record.Record.{Record}
-use Rattle.mc_filter.specs.SourceFilter.{has}
-use Rattle.mc_tables.specs.ListedRows.{is_listed}
 use Rattle.mc_asked.specs.Answers.{AnswersValue}
 use Rattle.mc_asked.specs.AskedLines.{asked_lines, lan_wants_from, wants_of_lans}
-use Rattle.mc_asked.specs.GroupRun.{seconds_of}
 use Rattle.mc_asked.specs.LanWants.{LanWantsValue}
 use Rattle.mc_asked.specs.ListWants.{Want, any_source}
 use Rattle.mc_asked.specs.PairParts.{with_parts}
 use Rattle.mc_asked.specs.Unadmitted.{with_unadmitted}
-use Rattle.mc_asked.specs.WantStates.{is_key}
-
--- A want, whether one of its LANs has been seen, and the sources that the filter of none of the LANs that
--- have been seen admits.
-pub record WantSourcesValue : Type 0 where
-  pub want : Want
-  pub is_begun : Bool
-  pub unadmitted : List ℕ
-
--- a want before the first LAN
-abbrev pub without_sources : Want → WantSourcesValue
-without_sources want = record { want = want; is_begun = false; unadmitted = [] }
-
--- the want with these sources
-abbrev pub as_asked : WantSourcesValue → Want × List ℕ
-as_asked sources = (sources.want, sources.unadmitted)
-
--- ---- one LAN more
-
--- a want with one LAN more, which doesn't admit these sources of the group
-abbrev pub with_lan : (own : List ℕ) → WantSourcesValue → WantSourcesValue
-with_lan own sources = record {
-  want = sources.want;
-  is_begun = true;
-  unadmitted = if sources.is_begun then filter (has sources.unadmitted) own else own;
-}
-
--- a want with that LAN, if the want is of any source of this group; otherwise as it is
-abbrev pub with_lan_at : (group : ℕ) → (own : List ℕ) → WantSourcesValue → WantSourcesValue
-with_lan_at group own sources = if is_key (group, any_source) sources.want then with_lan own sources
-    else sources
-
--- a want with one LAN more, if it is of any source of one of these groups. The pairs are what the LAN doesn't
--- admit, each a group and a source.
-abbrev pub with_unadmitted_of : (groups : List ℕ) → (unadmitted : List (ℕ × ℕ)) → WantSourcesValue
-    → WantSourcesValue
-with_unadmitted_of groups unadmitted sources =
-    if (sources.want.1 == any_source) && has groups sources.want.0
-    then with_lan (seconds_of sources.want.0 unadmitted) sources else sources
-
--- whether a want of a LAN is of any source, and one of these wants
-abbrev pub is_shared_any : (wants : List Want) → Want → Bool
-is_shared_any wants want = (want.1 == any_source) && is_listed (Some wants) want
-
--- the groups of the LAN's wants of which that is so
-abbrev pub groups_from_any : (wants own : List Want) → List ℕ
-groups_from_any wants own = map (λ want. want.0) (filter (is_shared_any wants) own)
+use Rattle.mc_asked.specs.WantSources.{WantSourcesValue}
 
 -- ---- by the lists of all LANs
 

@@ -1,4 +1,4 @@
-//! What answers wants: the flows of a topology, its sources, and the ranges that are left aside.
+//! What answers wants: the flows of a topology, its sources, and the ignored ranges.
 
 ghost use Rattle.std.specs.Prelude.{◌≡◌, ℕ, ◌<◌, List, IfOk, IsTrue, length, slice_get, Some, Bool};
 ghost use Rattle.mc_igmp.specs.declared.record.Record.{Record};
@@ -16,7 +16,7 @@ use std::alloc::Global;
 use std::marker::Model;
 
 /// What answers wants. Its value in contracts is the source and the group of each flow, the address and
-/// the LAN of each source, and the ranges that are left aside.
+/// the LAN of each source, and the ignored ranges.
 #[derive(Debug, Drop)]
 pub struct WantAnswers {
     flows: Vec<(Addr, Addr)>,
@@ -93,8 +93,8 @@ fn sources_of(alloc: Global, topology: &Topology) -> Result<Vec<(Addr, LanNo)>, 
 }
 
 impl WantAnswers {
-    /// The answers of these flows, each a source and a group, of a topology's sources and of ranges that
-    /// are left aside.
+    /// The answers of these flows, each a source and a group, of a topology's sources and of ignored
+    /// ranges.
     ///
     /// # Errors
     ///
@@ -152,7 +152,7 @@ impl WantAnswers {
         has_number(&self.places, source_number(want.1, lan))
     }
 
-    /// Whether the want's group is in a range that is left aside.
+    /// Whether the want's group is in an ignored range.
     fn is_ignored(&self, want: &(Addr, Addr)) -> bool
         ensures { result ≡ is_ignored self.now want.now }
     {

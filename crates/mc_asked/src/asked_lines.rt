@@ -91,7 +91,7 @@ pub fn count_wants(lans: &[LanWants]) -> u128
 }
 
 impl AskedLines {
-    /// What is said of the wants of these LANs, in their order: of all wants, or of the 20 lowest. The
+    /// What is shown of the wants of these LANs, in their order: all wants, or the 20 lowest. The
     /// time is in proportion to n log n for n wants that are kept of all LANs.
     ///
     /// # Errors

@@ -51,7 +51,7 @@ fn is_counted_source(unadmitted: &[Addr], want: &(Addr, Addr), origin: Addr) -> 
     }
 }
 
-/// The one of two states of which more is said.
+/// The greater one of two states.
 fn greater(state: RouterState, other: RouterState) -> RouterState
     ensures { result ≡ greater state other }
 {

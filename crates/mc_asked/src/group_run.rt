@@ -1,4 +1,4 @@
-//! The pairs of one group, which stand together among ascending pairs.
+//! The pairs of one group, which are next to each other among ascending pairs.
 
 ghost use Rattle.std.specs.Prelude.{◌≡◌, ◌==◌, IfOk, filter, map};
 ghost use Rattle.std.specs.List.Sorted.{IsStrictlySortedBy};

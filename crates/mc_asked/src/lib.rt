@@ -1,10 +1,11 @@
 //! What hosts ask for and no flow answers: the wants of each LAN's list of reports, which of them a listed
-//! flow or the LAN itself answers, which are left aside or a service's, and what a router has for the
+//! flow or the LAN itself answers, which are ignored or a service's, and what a router has for the
 //! others. Nothing here decides a verdict.
 #![tactic(auto)]
 
 mod answers;
 mod asked_lines;
+mod classified_wants;
 mod forwarding;
 mod group_run;
 mod lan_wants;
@@ -13,7 +14,9 @@ mod services;
 mod shared_pairs;
 mod unadmitted;
 mod unadmitted_sources;
+mod unanswered;
 mod want_class;
+mod want_sources;
 mod want_states;
 mod wants;
 

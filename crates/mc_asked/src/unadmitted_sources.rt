@@ -1,104 +1,25 @@
 //! The sources that the filter of none of a want's LANs admits, found LAN by LAN.
 
-ghost use Rattle.std.specs.Prelude.{◌≡◌, ℕ, List, Some, IfOk, OnOk, false, filter, map, slice_get};
+ghost use Rattle.std.specs.Prelude.{◌≡◌, ℕ, List, Some, IfOk, OnOk, false, map, slice_get};
 ghost use Rattle.std.specs.List.{list_any};
 ghost use Rattle.std.specs.List.Sorted.{IsStrictlyIncreasing, IsStrictlySortedBy};
 ghost use Rattle.mc_igmp.specs.declared.record.Record.{Record};
-ghost use Rattle.mc_filter.specs.SourceFilter.{has};
 ghost use Rattle.mc_tables.specs.CacheTable.{key_cmp};
 ghost use Rattle.mc_asked.specs.GroupRun.{seconds_of};
-ghost use Rattle.mc_asked.specs.UnadmittedSoFar.{AddsLan, AreAskedAfterLast, AreBeforeFirstLan, as_asked};
-ghost use Rattle.mc_asked.specs.UnadmittedSoFar.{groups_from_any, is_shared_any, with_lan, with_lan_at};
-ghost use Rattle.mc_asked.specs.UnadmittedSoFar.{with_unadmitted_of, without_sources};
+ghost use Rattle.mc_asked.specs.UnadmittedSoFar.{AddsLan, AreAskedAfterLast, AreBeforeFirstLan};
+ghost use Rattle.mc_asked.specs.WantSources.{groups_from_any, is_shared_any, with_lan_at, with_unadmitted_of};
+ghost use Rattle.mc_asked.specs.WantSources.{without_sources};
 
 use crate::group_run::seconds_of;
 use crate::lan_wants::LanWants;
 use crate::shared_pairs::SharedPair;
-use crate::unadmitted::{has_address, unadmitted_in};
+use crate::unadmitted::unadmitted_in;
+use crate::want_sources::WantSources;
 use crate::want_states::AskedWant;
 use mc_igmp::ReportList;
 use mc_text::{Addr, Memory};
 use std::alloc::{AllocError, Global};
 use std::marker::Model;
-
-/// A want, and the sources that the filter of none of its LANs so far admits.
-#[derive(Debug, Drop)]
-pub struct WantSources {
-    want: (Addr, Addr),
-    // whether one of its LANs is among those so far
-    is_begun: bool,
-    // ascending
-    unadmitted: Vec<Addr>,
-}
-
-impl Model for WantSources {
-    ghost use Rattle.std.specs.List.Sorted.{IsStrictlyIncreasing};
-    ghost use Rattle.mc_asked.specs.UnadmittedSoFar.{WantSourcesValue};
-
-    ghost Value = { WantSourcesValue };
-
-    ghost view = { λ s. record {
-      want = s.want;
-      is_begun = s.is_begun;
-      unadmitted = s.unadmitted.items;
-    } };
-
-    ghost invariant = { λ s. IsStrictlyIncreasing s.unadmitted.items };
-}
-
-/// Of these addresses those that are among some ascending ones.
-fn common(alloc: Global, ascending: &[Addr], addresses: &[Addr]) -> Result<Vec<Addr>, AllocError>
-    requires ascending { IsStrictlyIncreasing ascending.now }
-    ensures { IfOk result (λ kept. kept.items ≡ filter (has ascending.now) addresses.now) }
-{
-    let mut kept = Vec::new(alloc);
-    for address in addresses {
-        if has_address(ascending, *address) {
-            kept.push(*address)?;
-        }
-    }
-    Ok(kept)
-}
-
-impl WantSources {
-    /// Before the first LAN.
-    fn new(alloc: Global, want: (Addr, Addr)) -> WantSources
-        ensures { result ≡ without_sources want }
-    {
-        WantSources {
-            want,
-            is_begun: false,
-            unadmitted: Vec::new(alloc),
-        }
-    }
-
-    /// Takes the ascending sources that one more LAN doesn't admit.
-    fn add_lan(&mut self, alloc: Global, own: Vec<Addr>) -> Result<(), AllocError>
-        requires ascending { IsStrictlyIncreasing own.items }
-        ensures same { self.new.want ≡ self.old.want }
-        ensures added { OnOk result (self.new ≡ with_lan own.items self.old) }
-    {
-        if self.is_begun {
-            self.unadmitted = common(alloc, &self.unadmitted, &own)?;
-        } else {
-            self.is_begun = true;
-            self.unadmitted = own;
-        }
-        Ok(())
-    }
-
-    /// The want with the sources.
-    fn into_asked(self) -> AskedWant
-        ensures { result ≡ as_asked self }
-    {
-        let WantSources {
-            want,
-            unadmitted,
-            ..
-        } = self;
-        AskedWant::new(want, unadmitted)
-    }
-}
 
 /// Wants, ascending and each once, and of each that is of any source the sources that the filter of none of
 /// its LANs so far admits. Its value in contracts is the list of these.
@@ -113,7 +34,7 @@ impl Model for UnadmittedSources {
     ghost use Rattle.std.specs.Prelude.{◌≡◌, List, map};
     ghost use Rattle.std.specs.List.Sorted.{IsStrictlySortedBy};
     ghost use Rattle.mc_tables.specs.CacheTable.{key_cmp};
-    ghost use Rattle.mc_asked.specs.UnadmittedSoFar.{WantSourcesValue};
+    ghost use Rattle.mc_asked.specs.WantSources.{WantSourcesValue};
 
     ghost Value = { List WantSourcesValue };
 

@@ -7,7 +7,7 @@ pub enum WantClass {
     Answered,
     /// Its source is on the LAN itself.
     OnLan,
-    /// Its group is in a range that is left aside.
+    /// Its group is in an ignored range.
     Ignored,
     /// Its group is that of a service, and of no flow.
     Service,

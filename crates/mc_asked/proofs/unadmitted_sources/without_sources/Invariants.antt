@@ -1,5 +1,5 @@
 use Rattle.std.proofs.Common.{◌≡◌, map, take}
-use Rattle.mc_asked.specs.UnadmittedSoFar.{without_sources}
+use Rattle.mc_asked.specs.WantSources.{without_sources}
 use Rattle.mc_asked.proofs.unadmitted_sources.without_sources.Given as goal
 
 -- There is an entry without sources for each want so far.

@@ -1,7 +1,7 @@
 use Rattle.std.proofs.Common.{ℕ, List, filter, flat_map, map, refl, ap, subst, ◌∙◌}
 use Rattle.mc_asked.specs.Answers.{class_of}
 use Rattle.mc_asked.specs.Indexes.{AreFlowsWanted, IsIndexOfWantedGroups}
-use Rattle.mc_asked.specs.LanWants.{is_asked_class, is_service_class}
+use Rattle.mc_asked.specs.ClassifiedWants.{is_asked_class, is_service_class}
 use Rattle.mc_asked.specs.ListWants.{asked_by, is_of_merged_filter}
 use Rattle.mc_asked.proofs.UnansweredLemmas.{filter-unanswered}
 use Rattle.mc_asked.proofs.answers.WantAnswers.classified_wants.Goals as goal

@@ -1,7 +1,8 @@
 use Rattle.std.proofs.Common.{ℕ, arith, map, ap, ap₂, subst, sym, ◌∙◌, refl}
 use Rattle.std.specs.List.Sorted.{IsStrictlySortedBy}
 use Rattle.mc_tables.specs.CacheTable.{key_cmp}
-use Rattle.mc_asked.specs.LanWants.{is_asked_class, is_service_class, kept_wants}
+use Rattle.mc_asked.specs.LanWants.{kept_wants}
+use Rattle.mc_asked.specs.ClassifiedWants.{is_asked_class, is_service_class}
 use Rattle.mc_asked.proofs.AskedLawLemmas.{asked_wants-ascend}
 use Rattle.mc_asked.proofs.UnansweredLemmas.{none-of_class}
 use Rattle.mc_asked.proofs.answers.WantAnswers.lan_wants.Goals as goal

@@ -2,7 +2,7 @@ use Rattle.std.proofs.Common.{◌≡◌, ℕ, ◌∙◌, List, cond, get_or, map
 use Rattle.std.specs.List.Sorted.{IsStrictlySortedBy}
 use Rattle.mc_tables.specs.CacheTable.{key_cmp}
 use Rattle.mc_asked.specs.ListWants.{Want}
-use Rattle.mc_asked.specs.UnadmittedSoFar.{WantSourcesValue, with_lan, with_lan_at}
+use Rattle.mc_asked.specs.WantSources.{WantSourcesValue, with_lan, with_lan_at}
 use Rattle.mc_asked.specs.WantStates.{is_key}
 use Rattle.mc_asked.proofs.OneKeyLemmas.{absent-key, found-key, found-within, map-no_key, map-set_same}
 use Rattle.mc_asked.proofs.OneKeyLemmas.{set-one_key}

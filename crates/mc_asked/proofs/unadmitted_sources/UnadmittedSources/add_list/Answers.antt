@@ -2,7 +2,7 @@ use Rattle.std.proofs.Common.{◌≡◌, ℕ, ◌∙◌, List, [], ap, ap₂, ma
 use Rattle.mc_igmp.specs.declared.record.Record.{Record}
 use Rattle.mc_asked.specs.ListWants.{Want}
 use Rattle.mc_asked.specs.Unadmitted.{list_of, unadmitted_in}
-use Rattle.mc_asked.specs.UnadmittedSoFar.{groups_from_any, with_unadmitted_of}
+use Rattle.mc_asked.specs.WantSources.{groups_from_any, with_unadmitted_of}
 use Rattle.mc_asked.proofs.LanByLanLemmas.{sources-with_list, wants-of_sources}
 use Rattle.mc_asked.proofs.unadmitted_sources.UnadmittedSources.add_list.Goals as goal
 

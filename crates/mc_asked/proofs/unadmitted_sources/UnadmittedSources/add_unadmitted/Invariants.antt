@@ -1,5 +1,5 @@
 use Rattle.std.proofs.Common.{◌≡◌, map, take}
-use Rattle.mc_asked.specs.UnadmittedSoFar.{with_unadmitted_of}
+use Rattle.mc_asked.specs.WantSources.{with_unadmitted_of}
 use Rattle.mc_asked.proofs.unadmitted_sources.UnadmittedSources.add_unadmitted.Given as goal
 
 -- The sources of the groups so far have been taken.

@@ -2,7 +2,7 @@ use Rattle.std.proofs.Common.{ℕ, ◌∙◌, List, Vec, Global, ap, append-nil,
 use Rattle.std.specs.List.Sorted.{IsStrictlyIncreasing}
 use Rattle.std.proofs.lemmas.List.{take_all}
 use Rattle.mc_asked.specs.ListWants.{Want}
-use Rattle.mc_asked.specs.UnadmittedSoFar.{WantSourcesValue, groups_from_any, is_shared_any}
+use Rattle.mc_asked.specs.WantSources.{WantSourcesValue, groups_from_any, is_shared_any}
 use Rattle.mc_asked.proofs.LanByLanLemmas.{groups_from_any-ascend}
 use Rattle.mc_asked.proofs.WantLemmas.{map_filter-take_more}
 use Rattle.mc_asked.proofs.unadmitted_sources.UnadmittedSources.groups_from_any.Goals as goal

@@ -1,5 +1,5 @@
 use Rattle.std.proofs.Common.{◌≡◌, map, take}
-use Rattle.mc_asked.specs.UnadmittedSoFar.{WantSourcesValue, groups_from_any}
+use Rattle.mc_asked.specs.WantSources.{WantSourcesValue, groups_from_any}
 use Rattle.mc_asked.proofs.unadmitted_sources.UnadmittedSources.groups_from_any.Given as goal
 
 -- The groups are those of the shared wants of any source so far.

@@ -5,7 +5,7 @@ use Rattle.std.specs.Vec.Iter.{into_iter_items}
 use Rattle.std.proofs.lemmas.Simd.{map-map}
 use Rattle.mc_tables.specs.CacheTable.{key_cmp}
 use Rattle.mc_asked.specs.ListWants.{Want}
-use Rattle.mc_asked.specs.UnadmittedSoFar.{WantSourcesValue, as_asked}
+use Rattle.mc_asked.specs.WantSources.{WantSourcesValue, as_asked}
 use Rattle.mc_asked.proofs.LanByLanLemmas.{asked-after_last}
 use Rattle.mc_asked.proofs.unadmitted_sources.UnadmittedSources.into_wants.Goals as goal
 use Rattle.mc_asked.proofs.unadmitted_sources.UnadmittedSources.into_wants.Goals.{After-drop-self-inside-2}

@@ -1,6 +1,6 @@
 use Rattle.std.proofs.Common.{◌≡◌, ◌++◌, length, map}
 use Rattle.std.specs.Vec.Iter.{into_iter_items, into_iter_len}
-use Rattle.mc_asked.specs.UnadmittedSoFar.{as_asked}
+use Rattle.mc_asked.specs.WantSources.{as_asked}
 use Rattle.mc_asked.proofs.unadmitted_sources.UnadmittedSources.into_wants.Given as goal
 
 -- The entries that were yielded are those before the ones to come, and have become wants.

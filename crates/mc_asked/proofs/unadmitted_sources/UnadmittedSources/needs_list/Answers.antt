@@ -2,7 +2,7 @@ use Rattle.std.proofs.Common.{◌≡◌, ◌∙◌, List, ap, false, sym}
 use Rattle.std.specs.List.{list_any}
 use Rattle.std.proofs.lemmas.List.{take_all}
 use Rattle.mc_asked.specs.ListWants.{Want}
-use Rattle.mc_asked.specs.UnadmittedSoFar.{is_shared_any}
+use Rattle.mc_asked.specs.WantSources.{is_shared_any}
 use Rattle.mc_asked.proofs.LanByLanLemmas.{sources-without_list, wants-of_sources}
 use Rattle.mc_asked.proofs.unadmitted_sources.UnadmittedSources.needs_list.Goals as goal
 

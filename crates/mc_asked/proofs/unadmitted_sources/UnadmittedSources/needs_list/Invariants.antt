@@ -1,6 +1,6 @@
 use Rattle.std.proofs.Common.{◌≡◌, false, map, take}
 use Rattle.std.specs.List.{list_any}
-use Rattle.mc_asked.specs.UnadmittedSoFar.{WantSourcesValue, is_shared_any}
+use Rattle.mc_asked.specs.WantSources.{WantSourcesValue, is_shared_any}
 use Rattle.mc_asked.proofs.unadmitted_sources.UnadmittedSources.needs_list.Given as goal
 
 -- None of the wants so far is shared.

@@ -1,7 +1,7 @@
 use Rattle.std.proofs.Common.{ℕ, ◌∙◌, List, ap, map, subst, sym}
 use Rattle.std.specs.List.Sorted.{IsStrictlySortedBy}
 use Rattle.mc_tables.specs.CacheTable.{key_cmp}
-use Rattle.mc_asked.specs.UnadmittedSoFar.{WantSourcesValue, without_sources}
+use Rattle.mc_asked.specs.WantSources.{WantSourcesValue, without_sources}
 use Rattle.mc_asked.proofs.LanByLanLemmas.{sources-before_first, wants-of_without_sources}
 use Rattle.mc_asked.proofs.unadmitted_sources.UnadmittedSources.of_lines.Goals as goal
 

@@ -4,7 +4,7 @@ use Rattle.std.proofs.lemmas.List.{take_all}
 use Rattle.mc_text.specs.Pair.{pair_of}
 use Rattle.mc_asked.specs.Answers.{is_answered}
 use Rattle.mc_asked.proofs.WantLemmas.{filter-take_more}
-use Rattle.mc_asked.proofs.lan_wants.push_unanswered.Goals as goal
+use Rattle.mc_asked.proofs.unanswered.push_unanswered.Goals as goal
 
 -- A want is appended exactly where the filter keeps it: where no flow answers it.
 pub loop-want-preserved : goal.loop-want-preserved

@@ -3,7 +3,7 @@ use Rattle.mc_text.specs.Pair.{pair_of}
 use Rattle.mc_igmp.specs.declared.record.Record.{Record}
 use Rattle.mc_asked.specs.Answers.{is_answered}
 use Rattle.mc_asked.specs.Indexes.{IsIndexOfWantedGroups}
-use Rattle.mc_asked.proofs.lan_wants.push_unanswered.Given as goal
+use Rattle.mc_asked.proofs.unanswered.push_unanswered.Given as goal
 
 -- Those of the wants so far that no flow answers have been appended, where the index is as required.
 abbrev pub invariant-loop-want : goal.invariant-loop-want

@@ -1,9 +1,9 @@
 use Rattle.std.proofs.Common.{ℕ, List, filter, map, ap, ◌∙◌}
 use Rattle.std.proofs.lemmas.List.{take_all}
 use Rattle.mc_asked.specs.Answers.{class_of}
-use Rattle.mc_asked.specs.LanWants.{is_asked_class, is_service_class}
+use Rattle.mc_asked.specs.ClassifiedWants.{is_asked_class, is_service_class}
 use Rattle.mc_asked.proofs.WantLemmas.{filter-take_more, map_filter-take_more}
-use Rattle.mc_asked.proofs.lan_wants.classify.Goals as goal
+use Rattle.mc_asked.proofs.classified_wants.classify.Goals as goal
 
 -- The class of a want decides whether it is added to either list, as it decides in the filters.
 pub loop-want-preserved : goal.loop-want-preserved

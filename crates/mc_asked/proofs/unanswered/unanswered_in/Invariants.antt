@@ -4,7 +4,7 @@ use Rattle.mc_tables.specs.Summary.{in_order}
 use Rattle.mc_asked.specs.Answers.{is_answered}
 use Rattle.mc_asked.specs.Indexes.{IsIndexOfWantedGroups}
 use Rattle.mc_asked.specs.ListWants.{asked_by}
-use Rattle.mc_asked.proofs.lan_wants.unanswered_in.Given as goal
+use Rattle.mc_asked.proofs.unanswered.unanswered_in.Given as goal
 
 -- The unanswered wants so far and those of the records to come, put in order together, are those of the
 -- whole list.

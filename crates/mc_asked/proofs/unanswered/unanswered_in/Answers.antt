@@ -6,7 +6,7 @@ use Rattle.mc_tables.specs.Summary.{in_order}
 use Rattle.mc_tables.proofs.PairOrderLemmas.{in_order-same_and_others}
 use Rattle.mc_asked.specs.Answers.{is_answered}
 use Rattle.mc_asked.specs.ListWants.{asked_by}
-use Rattle.mc_asked.proofs.lan_wants.unanswered_in.Goals as goal
+use Rattle.mc_asked.proofs.unanswered.unanswered_in.Goals as goal
 
 -- The record's unanswered wants are appended, and they were the first of those to come. Which numbers are
 -- there then isn't changed by dropping repeats, and the order of pairs depends on that alone.
@@ -21,8 +21,8 @@ loop-group_record-preserved c = λ index.
     c.deref.ensures.value ∙ c.in_ok-add_asked.ensures
     ∙ ap (λ (l : List (ℕ × ℕ)). l ++ asked_by r) c.clear.ensures.items in
     let more = filter test (flat_map asked_by rest) in
-    in_order-same_and_others pair_of c.drop_repeats_of_many-most.new.numbers.items
-    c.push_unanswered.new.unanswered.items more c.drop_repeats_of_many-most.ensures
+    in_order-same_and_others pair_of c.drop_repeats_above-limit.new.numbers.items
+    c.push_unanswered.new.unanswered.items more c.drop_repeats_above-limit.ensures.same
     ∙ ap (λ (l : List (ℕ × ℕ)). in_order (l ++ more))
     (c.in_ok-push_unanswered.ensures list index ∙ ap (λ (l : List (ℕ × ℕ)). old ++ filter test l) own)
     ∙ ap in_order (append_assoc old (filter test (asked_by r)) more

@@ -2,8 +2,8 @@ use Rattle.std.proofs.Common.{◌≡◌, ℕ, List, map, filter, take}
 use Rattle.mc_igmp.specs.declared.record.Record.{Record}
 use Rattle.mc_asked.specs.Answers.{class_of}
 use Rattle.mc_asked.specs.Indexes.{IsIndexOfWantedGroups}
-use Rattle.mc_asked.specs.LanWants.{is_asked_class, is_service_class}
-use Rattle.mc_asked.proofs.lan_wants.classify.Given as goal
+use Rattle.mc_asked.specs.ClassifiedWants.{is_asked_class, is_service_class}
+use Rattle.mc_asked.proofs.classified_wants.classify.Given as goal
 
 -- Each list has those of the wants so far that are of its class, where the index is as required.
 abbrev pub invariant-loop-want : goal.invariant-loop-want

@@ -1,7 +1,7 @@
 use Rattle.std.proofs.Common.{◌∙◌, ap, filter}
 use Rattle.mc_filter.specs.SourceFilter.{has}
 use Rattle.mc_filter.proofs.AscendingLemmas.{filter-ascending}
-use Rattle.mc_asked.proofs.unadmitted_sources.WantSources.add_lan.Goals as goal
+use Rattle.mc_asked.proofs.want_sources.WantSources.add_lan.Goals as goal
 
 -- The LAN's sources ascend, and so do those of them that are kept.
 pub invariant_of-self : goal.invariant_of-self

@@ -2,9 +2,9 @@ use Rattle.std.proofs.Common.{ℕ, ◌+◌, ◌++◌, Vec, Global, drop, ap, sym
 use Rattle.std.proofs.lemmas.Result.{IfOk-weaker}
 use Rattle.mc_asked.proofs.IndexLemmas.{groups_of_wanted, groups_of_wanted-all, groups_of_wanted-more}
 use Rattle.mc_asked.proofs.IndexLemmas.{groups_of_wanted-skip, is_index_of_wanted_groups}
-use Rattle.mc_asked.proofs.lan_wants.index_of_wanted_groups.Goals as goal
-use Rattle.mc_asked.proofs.lan_wants.index_of_wanted_groups.Goals.{then-wanted-flow+in_ok-push}
-use Rattle.mc_asked.proofs.lan_wants.index_of_wanted_groups.Goals.{else-wanted-flow}
+use Rattle.mc_asked.proofs.unanswered.index_of_wanted_groups.Goals as goal
+use Rattle.mc_asked.proofs.unanswered.index_of_wanted_groups.Goals.{then-wanted-flow+in_ok-push}
+use Rattle.mc_asked.proofs.unanswered.index_of_wanted_groups.Goals.{else-wanted-flow}
 
 -- A wanted flow's group is the first of those to come, and becomes the last number. A flow that isn't
 -- wanted is not among those to come.

@@ -1,11 +1,9 @@
 -- The lines of a domain's flows, one flow after the other.
-use Rattle.std.proofs.Common.{◌≡◌, ℕ, zero, suc, ◌+◌, ◌≤◌, ◌<◌, ◌⊎◌, inl, inr, Bool, true, false}
-use Rattle.std.proofs.Common.{List, [], ◌∷◌, ◌++◌}
-use Rattle.std.proofs.Common.{Global, Vec, length, Option, Some, None, Result, Ok, Err, refl, sym, ap}
-use Rattle.std.proofs.Common.{subst, ◌∙◌, arith}
-use Rattle.std.proofs.Common.{append_assoc, append-nil, length-append}
-use Rattle.std.specs.Prelude.{◌&&◌, ◌==◌, cond, filter, flat_map, fold, IfOk, OnOk, slice_get}
-use Rattle.std.specs.Prelude.{take, is_none}
+use Rattle.std.proofs.Common.{◌≡◌, ℕ, zero, suc, ◌+◌, ◌≤◌, ◌<◌, ◌⊎◌, inl, inr, Bool, true, false, List}
+use Rattle.std.proofs.Common.{[], ◌∷◌, ◌++◌, Global, Vec, length, Option, Some, None, Result, Ok, Err}
+use Rattle.std.proofs.Common.{refl, sym, ap, subst, ◌∙◌, arith, append_assoc, append-nil, length-append}
+use Rattle.std.specs.Prelude.{◌&&◌, ◌==◌, cond, filter, flat_map, fold, IfOk, OnOk, slice_get, take}
+use Rattle.std.specs.Prelude.{is_none}
 use Rattle.std.specs.Result.{IsOkAnd}
 use Rattle.std.proofs.lemmas.List.Sums.{fold-append}
 use Rattle.std.proofs.lemmas.Bool.{false≢true, ne_eqb}
@@ -24,8 +22,7 @@ use Rattle.mc_cert.proofs.DistinctLemmas.{length-with_tree}
 use Rattle.mc_maker.specs.Examined.{IfFound, IsFirstPickTravel, is_certified}
 use Rattle.mc_maker.specs.ExaminedFlights.{HasExaminedFlights, without_flights}
 use Rattle.mc_maker.specs.declared.examined_flights.ExaminedFlights.{ExaminedFlights}
-use Rattle.mc_maker.specs.declared.examined_flights.ExaminedFlights.TheVariants.{Certified}
-use Rattle.mc_maker.specs.declared.examined_flights.ExaminedFlights.TheVariants.{FoundAtTtl255}
+use Rattle.mc_maker.specs.declared.examined_flights.ExaminedFlights.TheVariants.{Certified, FoundAtTtl255}
 use Rattle.mc_maker.specs.declared.examined_flights.ExaminedFlights.TheVariants.{FoundAtFlowTtl}
 use Rattle.mc_maker.specs.declared.examination.Examined.{Examined}
 use Rattle.mc_maker.specs.declared.examination.Examined.TheVariants as examined
@@ -37,16 +34,17 @@ use Rattle.mc_explain.specs.declared.causes.Cause.{Cause}
 use Rattle.mc_explain.specs.declared.causes.behind.Behind.{Behind}
 use Rattle.mc_explain.specs.declared.causes.explanation.ShownBy.{ShownBy}
 use Rattle.mc_json.specs.TreeKey.{tree_key}
-use Rattle.mc_run.specs.AuditEnd.{FlowAnswer, are_right, count, is_right, is_unknown, is_unwanted, is_wrong}
-use Rattle.mc_run.specs.AuditEnd.{one_if_true, says_right, says_wrong, with_status}
+use Rattle.mc_run.specs.AuditEnd.{FlowAnswer, are_right, count, is_right, is_unknown, is_unwanted}
+use Rattle.mc_run.specs.AuditEnd.{is_wrong, one_if_true, says_right, says_wrong, with_status}
 use Rattle.mc_run.specs.AuditPieces.{AreFlowsPushed, IsFlowPushed, explanation_in}
 use Rattle.mc_run.specs.AuditExplanation.{IsExplanation, is_known_wrong, without_remedies}
-use Rattle.mc_run.specs.AuditRun.{IsFlowAnswer, AuditedValue, is_whole, excluded, trees_shown}
+use Rattle.mc_run.specs.AuditedFiles.{AuditedValue, excluded, is_whole}
+use Rattle.mc_run.specs.AuditRun.{IsFlowAnswer, trees_shown}
 use Rattle.mc_explain.specs.ExplanationValues.{ExplanationValue}
 use Rattle.mc_run.proofs.ExplanationLemmas.{unsaid}
-use Rattle.mc_run.specs.AuditFlowText.{is_hidden, known_right, right_flow_lines, status_of, status_of_right}
-use Rattle.mc_run.specs.AuditFlowText.{status_of_wrong}
-use Rattle.mc_run.specs.AuditFlowText.{shown_trees_with, with_shown_tree, wrong_flow_lines}
+use Rattle.mc_run.specs.AuditFlowText.{is_hidden, known_right, right_flow_lines, status_of}
+use Rattle.mc_run.specs.AuditFlowText.{status_of_right, status_of_wrong, shown_trees_with}
+use Rattle.mc_run.specs.AuditFlowText.{with_shown_tree, wrong_flow_lines}
 use Rattle.mc_run.specs.MakeRun.{IsExamined}
 use Rattle.mc_cli.specs.declared.audit_options.AuditOptions.{AuditOptions}
 use Rattle.mc_run.specs.declared.audit.flow_status.FlowStatus.{FlowStatus}

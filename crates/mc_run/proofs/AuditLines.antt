@@ -1,6 +1,6 @@
 -- The lines of an audit, in text and in JSON: none before the last one says yes.
-use Rattle.std.proofs.Common.{◌≡◌, ℕ, suc, eqb, Bool, true, false, List, [], ◌∷◌, ◌++◌, inl, inr}
-use Rattle.std.proofs.Common.{length, Option, Some, None, refl, sym, ap, subst, ◌∙◌, append_assoc, arith}
+use Rattle.std.proofs.Common.{◌≡◌, ℕ, suc, eqb, Bool, true, false, List, [], ◌∷◌, ◌++◌, inl, inr, length}
+use Rattle.std.proofs.Common.{Option, Some, None, refl, sym, ap, subst, ◌∙◌, append_assoc, arith}
 use Rattle.std.specs.Prelude.{◌==◌, ◌&&◌, not, codes, slice_index, slice_get, decimal, flat_map, is_some}
 use Rattle.std.specs.Prelude.{map, take}
 use Rattle.mc_text.proofs.BundleWords.{HasNoByte}
@@ -13,8 +13,7 @@ use Rattle.mc_cert.specs.Distinct.{find_tree}
 use Rattle.mc_check.specs.declared.verdict.Verdict.TheVariants.{Yes}
 use Rattle.mc_replay.specs.TravelText.{event_text, finding_text, outcome_text}
 use Rattle.mc_replay.specs.declared.finding.Finding.{Finding}
-use Rattle.mc_replay.specs.declared.finding.Finding.TheVariants.{Clean, Duplicate, Loop, Stray}
-use Rattle.mc_replay.specs.declared.finding.Finding.TheVariants.{Missed}
+use Rattle.mc_replay.specs.declared.finding.Finding.TheVariants.{Clean, Duplicate, Loop, Stray, Missed}
 use Rattle.mc_replay.specs.declared.travel.Travel.{Travel}
 use Rattle.mc_maker.specs.declared.examination.Examined.{Examined}
 use Rattle.mc_maker.specs.declared.examination.Examined.TheVariants.{Certified, Found}
@@ -39,8 +38,7 @@ use Rattle.mc_explain.specs.RoutersForWant.{routers_by_state}
 use Rattle.mc_explain.proofs.AskedLineLemmas.{are_asked_lines-asked_more, are_asked_lines-asked_text}
 use Rattle.mc_explain.proofs.AskedLineLemmas.{are_asked_lines-services}
 use Rattle.mc_explain.proofs.BehindTextLemmas.{are_indented-leaks_behind_text}
-use Rattle.mc_explain.proofs.NameListLemmas.{are_indented-also_missed_text}
-use Rattle.mc_explain.proofs.NameListLemmas.{are_indented-wanted_text}
+use Rattle.mc_explain.proofs.NameListLemmas.{are_indented-also_missed_text, are_indented-wanted_text}
 use Rattle.mc_lines.proofs.IndentedLemmas.{are_indented-causes_text, are_indented-deeper_causes_text}
 use Rattle.mc_explain.proofs.ExcludedLemmas.{are_indented-excluded_text, are_excluded_lines-excluded_lines}
 use Rattle.mc_explain.proofs.UnlistedLineLemmas.{are_unlisted_lines-unlisted_text}
@@ -51,28 +49,25 @@ use Rattle.mc_json.specs.DomainData.{domain_data}
 use Rattle.mc_json.specs.EndData.{summary_data, unlisted_lines, without_line}
 use Rattle.mc_json.specs.FlowData.{tree_data}
 use Rattle.mc_json.specs.ObjectLines.{AreObjectLines, BeginsObject, IsNotVerdict}
-use Rattle.mc_json.specs.RowData.{line_of}
-use Rattle.mc_json.specs.RowData.{lan_data}
+use Rattle.mc_json.specs.RowData.{line_of, lan_data}
 use Rattle.mc_json.proofs.EachLineLemmas.{are_object_lines-asked, are_object_lines-asked_more}
-use Rattle.mc_json.proofs.EachLineLemmas.{are_object_lines-asked_services}
-use Rattle.mc_json.proofs.EachLineLemmas.{are_object_lines-domain, are_object_lines-right}
-use Rattle.mc_json.proofs.EachLineLemmas.{are_object_lines-summary, are_object_lines-tree}
-use Rattle.mc_json.proofs.EachLineLemmas.{are_object_lines-all_unlisted, are_object_lines-without}
-use Rattle.mc_json.proofs.EachLineLemmas.{are_object_lines-wrong}
+use Rattle.mc_json.proofs.EachLineLemmas.{are_object_lines-asked_services, are_object_lines-domain}
+use Rattle.mc_json.proofs.EachLineLemmas.{are_object_lines-right, are_object_lines-summary}
+use Rattle.mc_json.proofs.EachLineLemmas.{are_object_lines-tree, are_object_lines-all_unlisted}
+use Rattle.mc_json.proofs.EachLineLemmas.{are_object_lines-without, are_object_lines-wrong}
 use Rattle.mc_run.specs.AuditAsked.{asked_end, asked_line_of, asked_lines, numbered_asked_line}
 use Rattle.mc_run.specs.AuditAsked.{states_of_line}
 use Rattle.mc_run.specs.AuditEnd.{FlowAnswer, begin_lines, count, end_text_or_objects, end_lines}
+use Rattle.mc_run.specs.AuditEnd.{option_words, strict_lines, strict_line, summary_line, summary_of_flows}
 use Rattle.mc_run.specs.AuditEnd.{end_objects, end_text, is_right, is_unknown, is_unwanted, is_wrong}
-use Rattle.mc_run.specs.AuditEnd.{option_words, strict_lines, strict_line, summary_line}
-use Rattle.mc_run.specs.AuditEnd.{summary_of_flows}
 use Rattle.mc_run.specs.AuditObjects.{found_travel, key_of_tree, tree_line, tree_number}
-use Rattle.mc_run.specs.AuditRun.{AreFlowAnswers, IsFlowAnswer, AuditedValue, is_whole, is_yes, excluded}
-use Rattle.mc_run.specs.AuditRun.{AreYesWords, trees_shown, yes_object}
+use Rattle.mc_run.specs.AuditedFiles.{AuditedValue, excluded, is_whole}
+use Rattle.mc_run.specs.AuditRun.{AreFlowAnswers, IsFlowAnswer, is_yes, trees_shown}
+use Rattle.mc_run.specs.AuditYes.{AreYesWords, yes_object}
 use Rattle.mc_explain.specs.ExplanationValues.{ExplanationValue}
-use Rattle.mc_run.specs.AuditText.{events_if_shown, explanation_lines, right_line}
-use Rattle.mc_run.specs.AuditText.{at_flow_ttl_text, behind_text, deeper_shown_from_text}
-use Rattle.mc_run.specs.AuditText.{found_flow_line, known_word, searched_lines, second_behind_text}
-use Rattle.mc_run.specs.AuditText.{shown_by_text, shown_from_text}
+use Rattle.mc_run.specs.AuditText.{events_if_shown, explanation_lines, right_line, at_flow_ttl_text}
+use Rattle.mc_run.specs.AuditText.{behind_text, deeper_shown_from_text, found_flow_line, known_word}
+use Rattle.mc_run.specs.AuditText.{searched_lines, second_behind_text, shown_by_text, shown_from_text}
 use Rattle.mc_run.specs.AuditFlowText.{answer_lines, is_hidden, right_lines_or_object, wrong_lines_or_object}
 use Rattle.mc_cli.specs.declared.audit_options.AuditOptions.{AuditOptions}
 use Rattle.mc_run.specs.ReplayRun.{event_line, event_lines}
@@ -80,10 +75,9 @@ use Rattle.mc_run.specs.VerdictText.{flow_words}
 use Rattle.mc_explain.proofs.LineFeedLemmas.{no_feed-dotted, number, no_feed-from_list_all}
 use Rattle.mc_explain.proofs.LineFeedLemmas.{no_feed-router_name, no_feed-append}
 use Rattle.mc_run.proofs.VerdictLines.{AreLinesWithoutYes, BeginsWithOtherByte, no_yes_line-append}
-use Rattle.mc_run.proofs.VerdictLines.{no_yes_line-if, no_yes_line-line}
-use Rattle.mc_run.proofs.VerdictLines.{lan_name-no_line_feed, router_and_vif-no_line_feed}
-use Rattle.mc_run.proofs.VerdictLines.{no_yes_line-no_lines, no_yes_line-text_line}
-use Rattle.mc_run.proofs.VerdictLines.{no_yes_line-verdict_line}
+use Rattle.mc_run.proofs.VerdictLines.{no_yes_line-if, no_yes_line-line, lan_name-no_line_feed}
+use Rattle.mc_run.proofs.VerdictLines.{router_and_vif-no_line_feed, no_yes_line-no_lines}
+use Rattle.mc_run.proofs.VerdictLines.{no_yes_line-text_line, no_yes_line-verdict_line}
 
 -- ---- lines of text
 

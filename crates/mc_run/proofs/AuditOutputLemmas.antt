@@ -3,11 +3,12 @@ use Rattle.std.proofs.Common.{◌≡◌, ℕ, Bool, false, List, Option, Result,
 use Rattle.std.specs.Prelude.{IfErr, IfOk, IfSome}
 use Rattle.std.specs.String.{string_bytes}
 use Rattle.mc_files.specs.Files.{FileText}
-use Rattle.mc_input.specs.Meaning.{MeansDomainWhere}
 use Rattle.mc_run.specs.AuditPieces.{output_of, yes_of}
-use Rattle.mc_run.specs.AuditRun.{LeftOutValue}
-use Rattle.mc_run.specs.AuditRun.{AreFoundInWhole, AuditSaysYes, HasCounts, FilesKeepHeadline, IsAuditText}
-use Rattle.mc_run.specs.AuditRun.{MeansAudited, SaysOfEach, SaysWhichAreRight}
+use Rattle.mc_run.specs.AuditedFiles.{LeftOutValue, MeansAuditedWhere}
+use Rattle.mc_run.specs.AuditRun.{HasCounts, IsAuditText}
+use Rattle.mc_run.specs.AuditClaims.{SaysOfEach, SaysWhichAreRight}
+use Rattle.mc_run.specs.AuditExclusions.{AreFoundInWhole}
+use Rattle.mc_run.specs.AuditYes.{AuditSaysYes, FilesKeepHeadline}
 use Rattle.mc_run.specs.Failures.{is_write}
 use Rattle.mc_run.specs.InputMeaning.{AreRefusedWithout}
 use Rattle.mc_run.specs.RunOutput.{Answers, IsOutputWritten, Writes, WritesPart}
@@ -18,9 +19,8 @@ use Rattle.mc_run.specs.declared.audit.audit_output.AuditOutput.{AuditOutput}
 use Rattle.mc_run.specs.declared.fault.RunFault.{RunFault}
 use Rattle.mc_run.specs.declared.fault.RunFault.TheVariants.{Write}
 use Rattle.mc_run.specs.declared.run_output.RunOutput.{RunOutput}
-use Rattle.mc_run.proofs.AuditTextLemmas.{audit_answer-gives, is_output_written-parts}
-use Rattle.mc_run.proofs.AuditTextLemmas.{audit_counts-gives, audit_write_fault-gives}
-use Rattle.mc_run.proofs.AuditTextLemmas.{audit_yes-gives}
+use Rattle.mc_run.proofs.AuditTextLemmas.{audit_answer-gives, is_output_written-parts, audit_counts-gives}
+use Rattle.mc_run.proofs.AuditTextLemmas.{audit_write_fault-gives, audit_yes-gives}
 use Rattle.mc_run.proofs.AuditLemmas.{is_output_of-each_flow, headline_of_files-audit_yes}
 use Rattle.mc_run.proofs.AuditLemmas.{is_write_fault-audit_output, is_output_of-which_are_right}
 use Rattle.mc_run.proofs.AuditLemmas.{is_output_of-audit}
@@ -148,15 +148,12 @@ headline_of_files-run contents o left a p s r old new text parts is same =
 pub has_counts-run : (contents : Option (List FileText)) (o : AuditOptions) (left : LeftOutValue)
     (a : Result AuditOutput RunFault) (p : Result RunOutput RunFault) (counts : AuditCounts)
     (s : Result Bool RunFault) (r : Result AuditAnswer RunFault) (old new : Option (List ℕ))
-    → IfOk a (λ audit. IfSome contents (MeansDomainWhere (MeansAudited o left) (λ v.
-    HasCounts v o audit.counts)))
+    → IfOk a (λ audit. IfSome contents (MeansAuditedWhere o left (λ v. HasCounts v o audit.counts)))
     → p ≡ output_of a → ((audit : AuditOutput) → a ≡ Ok audit → counts ≡ audit.counts)
     → IsOutputWritten p s old new → yes_of r ≡ s → IfOk r (λ answer. answer.counts ≡ counts)
-    → IfOk r (λ answer. IfSome contents (MeansDomainWhere (MeansAudited o left) (λ v.
-    HasCounts v o answer.counts)))
+    → IfOk r (λ answer. IfSome contents (MeansAuditedWhere o left (λ v. HasCounts v o answer.counts)))
 has_counts-run contents o left a p counts s r old new =
-    audit_counts-gives (λ n. IfSome contents (MeansDomainWhere (MeansAudited o left)
-    (λ v. HasCounts v o n))) a p counts s r old new
+    audit_counts-gives (λ n. IfSome contents (MeansAuditedWhere o left (λ v. HasCounts v o n))) a p counts s r old new
 
 -- ---- all of these
 

@@ -1,9 +1,8 @@
 -- The explanation of a finding, and its lines.
 use Rattle.std.proofs.Common.{◌≡◌, ℕ, ◌<◌, Bool, true, false, not, filter, List, ◌++◌, length, Option}
-use Rattle.std.proofs.Common.{None, Some, Result, Ok, arith}
-use Rattle.std.proofs.Common.{Err, refl, sym, ap, ap₂, subst, ◌∙◌, append_assoc}
+use Rattle.std.proofs.Common.{None, Some, Result, Ok, arith, Err, refl, sym, ap, ap₂, subst, ◌∙◌}
+use Rattle.std.proofs.Common.{append_assoc, eq-eqb}
 use Rattle.std.specs.Prelude.{◌≢◌, IfOk, OnOk, codes}
-use Rattle.std.proofs.Common.{eq-eqb}
 use Rattle.std.proofs.lemmas.Bool.{lt-ltb, ne_eqb}
 use Rattle.mc_topology.specs.declared.flow.Flow.{Flow}
 use Rattle.mc_topology.specs.Topology.{TopologyValue, flow_at}
@@ -36,16 +35,14 @@ use Rattle.mc_run.specs.AuditFlowText.{wrong_flow_lines}
 use Rattle.mc_cli.specs.declared.audit_options.AuditOptions.{AuditOptions}
 use Rattle.mc_run.specs.AuditPieces.{also_missed_of, explanation_in}
 use Rattle.mc_run.specs.AuditExplanation.{IsExplanation, IsSearchIfMissed, ArePrintedCauses, is_remedy}
+use Rattle.mc_run.specs.AuditExplanation.{IsShownFromAt255, IsShownFromUnless, certain_finding}
+use Rattle.mc_run.specs.AuditExplanation.{is_known_wrong, search_context, without_remedies}
 use Rattle.mc_run.specs.AuditExplanation.{IsBehindIfStray, IsFoundBelow, IsFoundAtFlowTtlIf, IsShownBy}
-use Rattle.mc_run.specs.AuditExplanation.{IsShownFromAt255}
-use Rattle.mc_run.specs.AuditExplanation.{IsShownFromUnless, certain_finding, is_known_wrong}
-use Rattle.mc_run.specs.AuditExplanation.{search_context}
-use Rattle.mc_run.specs.AuditExplanation.{without_remedies}
-use Rattle.mc_run.specs.AuditRun.{AuditedValue, is_whole, excluded}
+use Rattle.mc_run.specs.AuditedFiles.{AuditedValue, excluded, is_whole}
 use Rattle.mc_explain.specs.ExplanationValues.{ExplanationValue}
-use Rattle.mc_run.specs.AuditText.{behind_text, events_if_shown, explanation_lines}
-use Rattle.mc_run.specs.AuditText.{searched_lines, deeper_shown_from_text, found_flow_line}
-use Rattle.mc_run.specs.AuditText.{second_behind_text, shown_by_text, wrong_lines}
+use Rattle.mc_run.specs.AuditText.{behind_text, events_if_shown, explanation_lines, searched_lines}
+use Rattle.mc_run.specs.AuditText.{deeper_shown_from_text, found_flow_line, second_behind_text}
+use Rattle.mc_run.specs.AuditText.{shown_by_text, wrong_lines}
 use Rattle.mc_run.proofs.MissedLemmas.{missed_lan-below_count}
 
 -- ---- a search

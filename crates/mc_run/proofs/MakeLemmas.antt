@@ -1,9 +1,7 @@
 -- What the text of `mcaudit make` says of the bundle that was read.
 use Rattle.std.proofs.Common.{◌≡◌, ◌≢◌, ℕ, zero, suc, ◌+◌, ◌<◌, ◌≤◌, ◌⊎◌, inl, inr, All, Bool, true}
-use Rattle.std.proofs.Common.{false, List, [], ◌∷◌, ◌++◌}
-use Rattle.std.proofs.Common.{Global, Vec, length, map, Some, refl}
-use Rattle.std.proofs.Common.{sym, ap, subst, ◌∙◌, arith}
-use Rattle.std.proofs.Common.{append_assoc, append-nil, length-append}
+use Rattle.std.proofs.Common.{false, List, [], ◌∷◌, ◌++◌, Global, Vec, length, map, Some, refl, sym, ap}
+use Rattle.std.proofs.Common.{subst, ◌∙◌, arith, append_assoc, append-nil, length-append}
 use Rattle.std.specs.Prelude.{◌↔◌, ◌==◌, IsTrue, codes, slice_get}
 use Rattle.std.specs.List.Sorted.{IsStrictlyIncreasing}
 use Rattle.std.proofs.lemmas.Bool.{and_parts, eq-eqb, eqb-true, false≢true}
@@ -18,13 +16,12 @@ use Rattle.mc_cert.specs.Certificate.{Tree, BelongsTo, IsEntryOf, IsWritableTree
 use Rattle.mc_cert.specs.CertificateText.{certificate_json}
 use Rattle.mc_replay.specs.declared.travel.Travel.{Travel}
 use Rattle.mc_maker.specs.Examined.{FindsFault, IfCertified, IfFound, AreEntriesOfCleanTravel}
-use Rattle.mc_maker.specs.Examined.{IsFirstPickTravel}
-use Rattle.mc_maker.specs.Examined.{IsTtlOfFault, is_certified}
+use Rattle.mc_maker.specs.Examined.{IsFirstPickTravel, IsTtlOfFault, is_certified}
 use Rattle.mc_maker.specs.declared.examination.Examined.{Examined}
 use Rattle.mc_maker.specs.declared.examination.Examined.TheVariants.{Certified, Found}
 use Rattle.mc_run.specs.MakeRun.{AreExamined, AreMadeListsAndLines, AreRight, IsExamined, IsMadeText}
-use Rattle.mc_run.specs.MakeRun.{IsMakeOutput, SaysAllRight, are_certified, found_lines, found_lines_of_flows}
-use Rattle.mc_run.specs.MakeRun.{found_lines_if_any, certified_lists}
+use Rattle.mc_run.specs.MakeRun.{IsMakeOutput, SaysAllRight, are_certified, found_lines}
+use Rattle.mc_run.specs.MakeRun.{found_lines_of_flows, found_lines_if_any, certified_lists}
 
 -- ---- flow by flow
 

@@ -6,8 +6,8 @@ use Rattle.mc_theory.specs.Lists.{In, below}
 use Rattle.mc_theory.specs.Nets.{Net, Interface}
 use Rattle.mc_theory.specs.Flights.{Copy, Flight, Waiting, step}
 use Rattle.mc_theory.specs.Findings.{Finding, IsTravel, first_copy_on, first_double, double_finding}
-use Rattle.mc_theory.specs.Findings.{end_finding}
-use Rattle.mc_theory.specs.Findings.{walk_visits, missed, missed_finding, numbers_left, stray_finding}
+use Rattle.mc_theory.specs.Findings.{end_finding, walk_visits, missed, missed_finding, numbers_left}
+use Rattle.mc_theory.specs.Findings.{stray_finding}
 use Rattle.mc_theory.specs.Findings.Finding.{Duplicate, Loop, Missed}
 use Rattle.mc_theory.proofs.ListLemmas.{in-below_cases}
 

@@ -2,8 +2,8 @@
 use Rattle.std.proofs.Common.{◌≡◌, ℕ, Bool, List, Option, Some, None, Result, Ok, Err, refl, ap, ◌∙◌}
 use Rattle.std.specs.Prelude.{◌≢◌, IfErr, IfSome, IsErrAnd}
 use Rattle.mc_files.specs.Files.{FileText}
-use Rattle.mc_files.specs.PackRun.{IsPackAnswer, IsIoOrMemory}
-use Rattle.mc_files.specs.PackRun.{is_read as is_file_read, is_write as is_bundle_write}
+use Rattle.mc_files.specs.PackRun.{IsPackAnswer, IsIoOrMemory, is_read as is_file_read}
+use Rattle.mc_files.specs.PackRun.{is_write as is_bundle_write}
 use Rattle.mc_files.specs.declared.fault.PackFault.{PackFault}
 use Rattle.mc_files.specs.declared.fault.PackFault.TheVariants as packing
 use Rattle.mc_run.specs.declared.fault.RunFault.{RunFault}

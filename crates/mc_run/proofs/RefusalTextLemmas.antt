@@ -1,6 +1,7 @@
 -- Texts that are appended one after the other, while some of a source's calls fail.
-use Rattle.std.proofs.Common.{◌≡◌, ℕ, ◌+◌, ◌<◌, List, [], ◌∷◌, ◌++◌, Option, ap, ◌∙◌, refl, sym, subst, arith}
-use Rattle.std.proofs.Common.{◌-◌, Some, Result, IfSome, OnOk, append_assoc, get_or, length, map, min, take}
+use Rattle.std.proofs.Common.{◌≡◌, ℕ, ◌+◌, ◌<◌, List, [], ◌∷◌, ◌++◌, Option, ap, ◌∙◌, refl, sym, subst}
+use Rattle.std.proofs.Common.{arith, ◌-◌, Some, Result, IfSome, OnOk, append_assoc, get_or, length, map}
+use Rattle.std.proofs.Common.{min, take}
 use Rattle.std.proofs.lemmas.List.{append-nil, take_min, take_more}
 use Rattle.mc_text.proofs.StepLemmas.{on_ok_map}
 use Rattle.mc_files.specs.Files.{FileText}

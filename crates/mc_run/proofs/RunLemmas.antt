@@ -1,7 +1,7 @@
 -- What holds of a run: of its input, of its devices, and of its output.
-use Rattle.std.proofs.Common.{◌≡◌, ℕ, Bool, true, false, List, [], ◌∷◌, ◌++◌, length, take, drop}
-use Rattle.std.proofs.Common.{inl, inr, Option, Some, None, Result, Ok, Err}
-use Rattle.std.proofs.Common.{refl, sym, ap, subst, ◌∙◌, arith, append_assoc}
+use Rattle.std.proofs.Common.{◌≡◌, ℕ, Bool, true, false, List, [], ◌∷◌, ◌++◌, length, take, drop, inl}
+use Rattle.std.proofs.Common.{inr, Option, Some, None, Result, Ok, Err, refl, sym, ap, subst, ◌∙◌, arith}
+use Rattle.std.proofs.Common.{append_assoc}
 use Rattle.std.specs.Prelude.{◌+◌, ◌<◌, cond, IfErr, IfOk, IfSome, IsTrue, Vec, codes, is_some}
 use Rattle.std.specs.declared.alloc.Global.{Global}
 use Rattle.std.specs.String.{string_bytes}
@@ -24,7 +24,7 @@ use Rattle.mc_input.specs.SourceFault.{IsReadOrMemory}
 use Rattle.mc_input.specs.declared.source_fault.SourceFault.{SourceFault}
 use Rattle.mc_input.specs.declared.source_fault.SourceFault.TheVariants as source
 use Rattle.mc_run.specs.InputMeaning.{IsRefusedFor}
-use Rattle.mc_run.specs.AuditRun.{AreYesWords, AuditSaysYes, yes_object}
+use Rattle.mc_run.specs.AuditYes.{AreYesWords, AuditSaysYes, yes_object}
 use Rattle.mc_run.specs.CheckRun.{IsLineStart, SaysYes, WroteAtStart}
 use Rattle.mc_text.specs.Device.{failures_after}
 use Rattle.mc_run.specs.Failures.{IsNoDeviceFault, is_read, is_write}

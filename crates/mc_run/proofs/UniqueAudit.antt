@@ -1,7 +1,7 @@
 -- The text of an audit is determined by the domain, and by the folder's files.
-use Rattle.std.proofs.Common.{◌≡◌, ℕ, suc, ◌+◌, Bool, true, false, cond, List, [], ◌∷◌, ◌++◌}
-use Rattle.std.proofs.Common.{length, Option, Some, None, refl, sym, ap, ap₂, subst, ◌∙◌, arith}
-use Rattle.std.proofs.Common.{filter, fold, take, ◌&&◌, slice_get}
+use Rattle.std.proofs.Common.{◌≡◌, ℕ, suc, ◌+◌, Bool, true, false, cond, List, [], ◌∷◌, ◌++◌, length}
+use Rattle.std.proofs.Common.{Option, Some, None, refl, sym, ap, ap₂, subst, ◌∙◌, arith, filter, fold}
+use Rattle.std.proofs.Common.{take, ◌&&◌, slice_get}
 use Rattle.std.specs.Prelude.{◌==◌, codes, flat_map, if◌then◌else◌, map, option_map, ⊤, is_none}
 use Rattle.mc_files.specs.Files.{FileText}
 use Rattle.mc_tables.specs.Summary.{SummaryValue}
@@ -22,8 +22,7 @@ use Rattle.mc_maker.specs.ExaminedFlights.{without_flights}
 use Rattle.mc_maker.specs.declared.examination.Examined.{Examined}
 use Rattle.mc_maker.specs.declared.examination.Examined.TheVariants as examined_as
 use Rattle.mc_maker.specs.declared.examined_flights.ExaminedFlights.{ExaminedFlights}
-use Rattle.mc_maker.specs.declared.examined_flights.ExaminedFlights.TheVariants.{Certified}
-use Rattle.mc_maker.specs.declared.examined_flights.ExaminedFlights.TheVariants.{FoundAtTtl255}
+use Rattle.mc_maker.specs.declared.examined_flights.ExaminedFlights.TheVariants.{Certified, FoundAtTtl255}
 use Rattle.mc_maker.specs.declared.examined_flights.ExaminedFlights.TheVariants.{FoundAtFlowTtl}
 use Rattle.mc_explain.specs.declared.searches.searching.LanSearch.{LanSearch}
 use Rattle.mc_lines.specs.ExplanationText.{causes_text, context_of, first_lines_text}
@@ -41,31 +40,26 @@ use Rattle.mc_json.specs.FlowData.{WrongFlow, event_data, finding_data, optional
 use Rattle.mc_json.specs.FlowData.{shown_from_data, wrong_data}
 use Rattle.mc_json.specs.RowData.{lan_data, line_of, list_data, object_data}
 use Rattle.mc_json.specs.LineData.{line_values}
-use Rattle.mc_json.specs.WhyData.{causes_data}
-use Rattle.mc_json.specs.WhyData.{search_data_if_any, why_data}
+use Rattle.mc_json.specs.WhyData.{causes_data, search_data_if_any, why_data}
 use Rattle.mc_json.specs.WrongLine.{wrong_flow_of}
 use Rattle.mc_json.specs.TreeKey.{tree_key}
 use Rattle.serde_json.specs.Data.{Data}
-use Rattle.mc_run.specs.AuditEnd.{FlowAnswer, are_right, begin_lines, count, end_text_or_objects, end_lines}
-use Rattle.mc_run.specs.AuditEnd.{is_right, is_unknown, is_unwanted, is_wrong, says_right, says_wrong}
-use Rattle.mc_run.specs.AuditEnd.{verdict_line}
+use Rattle.mc_run.specs.AuditEnd.{FlowAnswer, are_right, begin_lines, count, end_text_or_objects}
+use Rattle.mc_run.specs.AuditEnd.{end_lines, is_right, is_unknown, is_unwanted, is_wrong, says_right}
+use Rattle.mc_run.specs.AuditEnd.{says_wrong, verdict_line}
 use Rattle.mc_run.specs.AuditObjects.{found_travel, wrong_object}
-use Rattle.mc_run.specs.AuditRun.{LeftOutValue}
-use Rattle.mc_run.specs.AuditRun.{IsFlowAnswer, IsAuditText, IsAudited, MeansAudited, AuditedValue}
-use Rattle.mc_run.specs.AuditRun.{is_whole, is_yes, excluded, trees_shown}
+use Rattle.mc_run.specs.AuditedFiles.{AuditedValue, LeftOutValue, MeansAudited, excluded, is_whole}
+use Rattle.mc_run.specs.AuditRun.{IsAuditText, IsAudited, IsFlowAnswer, is_yes, trees_shown}
 use Rattle.mc_explain.specs.ExplanationValues.{ExplanationValue}
-use Rattle.mc_run.specs.AuditText.{behind_text, events_if_shown, explanation_lines}
-use Rattle.mc_run.specs.AuditText.{searched_lines, second_behind_text, found_flow_line, shown_by_text}
-use Rattle.mc_run.specs.AuditText.{wrong_lines}
+use Rattle.mc_run.specs.AuditText.{behind_text, events_if_shown, explanation_lines, searched_lines}
+use Rattle.mc_run.specs.AuditText.{second_behind_text, found_flow_line, shown_by_text, wrong_lines}
 use Rattle.mc_run.specs.AuditFlowText.{answer_lines, is_hidden, known_right, right_flow_lines}
-use Rattle.mc_run.specs.AuditFlowText.{shown_trees_with}
-use Rattle.mc_run.specs.AuditFlowText.{with_shown_tree}
-use Rattle.mc_run.specs.AuditFlowText.{wrong_lines_or_object}
+use Rattle.mc_run.specs.AuditFlowText.{shown_trees_with, with_shown_tree, wrong_lines_or_object}
 use Rattle.mc_run.specs.MakeRun.{IsExamined}
 use Rattle.mc_run.specs.ReplayRun.{event_lines}
 use Rattle.mc_cli.specs.declared.audit_options.AuditOptions.{AuditOptions}
-use Rattle.mc_run.proofs.UniqueExamination.{IsSameFinishedTravel, IsSameExplanation}
-use Rattle.mc_run.proofs.UniqueExamination.{HaveSameBehind, HaveSameFlights, HaveSameSearch, IsSameBehind}
+use Rattle.mc_run.proofs.UniqueExamination.{IsSameFinishedTravel, IsSameExplanation, HaveSameBehind}
+use Rattle.mc_run.proofs.UniqueExamination.{HaveSameFlights, HaveSameSearch, IsSameBehind}
 use Rattle.mc_run.proofs.UniqueExamination.{is_explanation-unique, examined_flights-unique}
 
 -- ---- the lines of a flow that isn't right

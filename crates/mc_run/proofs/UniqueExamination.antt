@@ -1,7 +1,7 @@
 -- The result of examining a flow is determined: its entries, or the travels and their explanation.
-use Rattle.std.proofs.Common.{◌≡◌, ◌≢◌, ℕ, suc, ◌+◌, ◌<◌, inl, inr, Bool, true, false}
-use Rattle.std.proofs.Common.{List, [], ◌∷◌, length, map, get_or, Option, Some, None}
-use Rattle.std.proofs.Common.{refl, sym, ap, ap₂, subst, ◌∙◌, arith}
+use Rattle.std.proofs.Common.{◌≡◌, ◌≢◌, ℕ, suc, ◌+◌, ◌<◌, inl, inr, Bool, true, false, List, [], ◌∷◌}
+use Rattle.std.proofs.Common.{length, map, get_or, Option, Some, None, refl, sym, ap, ap₂, subst, ◌∙◌}
+use Rattle.std.proofs.Common.{arith}
 use Rattle.std.specs.Prelude.{◌==◌, ◌↔◌, IsTrue, ⊤, nat_lt, not}
 use Rattle.std.specs.List.Sorted.{IsStrictlyIncreasing}
 use Rattle.std.proofs.lemmas.Bool.{false≢true}
@@ -28,14 +28,12 @@ use Rattle.mc_replay.proofs.PastStraysLemmas.{ends_past_strays-unique}
 use Rattle.mc_topology.specs.Topology.{TopologyValue}
 use Rattle.mc_replay.specs.Travels.{IsTravelTo}
 use Rattle.mc_replay.specs.declared.finding.Finding.{Finding}
-use Rattle.mc_replay.specs.declared.finding.Finding.TheVariants.{Clean, Duplicate, Loop, Stray}
-use Rattle.mc_replay.specs.declared.finding.Finding.TheVariants.{Missed}
+use Rattle.mc_replay.specs.declared.finding.Finding.TheVariants.{Clean, Duplicate, Loop, Stray, Missed}
 use Rattle.mc_replay.specs.declared.travel.FinishedTravel.{FinishedTravel}
 use Rattle.mc_maker.specs.Examined.{AreEntriesOfCleanTravel, first_choices}
 use Rattle.mc_maker.specs.ExaminedFlights.{IsFinishedTravelOf, HasExaminedFlights, without_flights}
 use Rattle.mc_maker.specs.declared.examined_flights.ExaminedFlights.{ExaminedFlights}
-use Rattle.mc_maker.specs.declared.examined_flights.ExaminedFlights.TheVariants.{Certified}
-use Rattle.mc_maker.specs.declared.examined_flights.ExaminedFlights.TheVariants.{FoundAtTtl255}
+use Rattle.mc_maker.specs.declared.examined_flights.ExaminedFlights.TheVariants.{Certified, FoundAtTtl255}
 use Rattle.mc_maker.specs.declared.examined_flights.ExaminedFlights.TheVariants.{FoundAtFlowTtl}
 use Rattle.mc_explain.specs.Behind.{IsBehind, IsBehindIn}
 use Rattle.mc_explain.specs.Explained.{ExplainsAtFlowTtl, ExplainsFinding, IsExplained}

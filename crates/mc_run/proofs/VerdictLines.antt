@@ -1,24 +1,22 @@
 -- Lines that don't say yes, as those of flows in a verdict text.
-use Rattle.std.proofs.Common.{◌≡◌, ℕ, Bool, true, false, cond}
-use Rattle.std.proofs.Common.{eqb, List, [], ◌∷◌, ◌++◌, ◌⊎◌, inl, inr}
+use Rattle.std.proofs.Common.{◌≡◌, ℕ, Bool, true, false, cond, eqb, List, [], ◌∷◌, ◌++◌, ◌⊎◌, inl, inr}
 use Rattle.std.proofs.Common.{refl, sym, ap, subst, ◌∙◌, append_assoc, append-nil}
 use Rattle.std.specs.Prelude.{codes, slice_index, decimal}
 use Rattle.std.proofs.lemmas.Bool.{eq-eqb, false≢true}
 use Rattle.mc_text.specs.Addr.{dotted}
 use Rattle.mc_text.proofs.BundleWords.{HasNoByte}
 use Rattle.mc_explain.proofs.LineFeedLemmas.{no_feed-dotted, no_feed-lan_name, number}
-use Rattle.mc_explain.proofs.LineFeedLemmas.{no_feed-from_list_all, no_feed-router_name}
-use Rattle.mc_explain.proofs.LineFeedLemmas.{no_feed-append}
+use Rattle.mc_explain.proofs.LineFeedLemmas.{no_feed-from_list_all, no_feed-router_name, no_feed-append}
 use Rattle.mc_topology.specs.declared.flow.Flow.{Flow}
 use Rattle.mc_topology.specs.Topology.{TopologyValue, IsValidTopology, lan_name, router_name}
 use Rattle.mc_check.specs.ReasonText.{reason_text, verdict_text}
 use Rattle.mc_check.specs.declared.verdict.Reason.{Reason}
-use Rattle.mc_check.specs.declared.verdict.Reason.TheVariants.{TwoEntries, BadSource, Wildcard}
-use Rattle.mc_check.specs.declared.verdict.Reason.TheVariants.{Stray, Extra, WrongRank, WrongNeed}
-use Rattle.mc_check.specs.declared.verdict.Reason.TheVariants.{Unfed, Missed, Low}
+use Rattle.mc_check.specs.declared.verdict.Reason.TheVariants.{TwoEntries, BadSource, Wildcard, Stray}
+use Rattle.mc_check.specs.declared.verdict.Reason.TheVariants.{Extra, WrongRank, WrongNeed, Unfed, Missed}
+use Rattle.mc_check.specs.declared.verdict.Reason.TheVariants.{Low}
 use Rattle.mc_check.specs.declared.verdict.Verdict.{Verdict}
 use Rattle.mc_check.specs.declared.verdict.Verdict.TheVariants.{Yes, No}
-use Rattle.mc_run.specs.AuditRun.{AreYesWords}
+use Rattle.mc_run.specs.AuditYes.{AreYesWords}
 use Rattle.mc_run.specs.CheckRun.{IsLineStart}
 use Rattle.mc_run.specs.VerdictText.{flow_words, flow_line, flow_lines}
 

@@ -1,7 +1,6 @@
 -- A report list that is read piece by piece.
-use Rattle.std.proofs.Common.{◌≡◌, ℕ, Bool, false, ◌||◌, List, [], ◌++◌, refl, sym, ap, ◌∙◌}
-use Rattle.std.proofs.Common.{append_assoc, arith, ◌+◌, ◌<◌, ◌⊎◌, ◌≢◌, inl, inr, length, Ok, Err}
-use Rattle.std.proofs.Common.{Option, Some, None}
+use Rattle.std.proofs.Common.{◌≡◌, ℕ, Bool, false, ◌||◌, List, [], ◌++◌, refl, sym, ap, ◌∙◌, append_assoc}
+use Rattle.std.proofs.Common.{arith, ◌+◌, ◌<◌, ◌⊎◌, ◌≢◌, inl, inr, length, Ok, Err, Option, Some, None}
 use Rattle.std.specs.Prelude.{IsTrue, ◌↔◌, IfSome}
 use Rattle.std.specs.Io.KnownBytes.{IsAtEnd}
 use Rattle.std.proofs.lemmas.Bool.{cases_lt, lt-ltb}

@@ -1,6 +1,6 @@
 -- A text has a line that says yes exactly if the verdict is yes, and it is the last line.
-use Rattle.std.proofs.Common.{◌≡◌, ℕ, Bool, true, false, List, [], ◌∷◌, ◌++◌, inl, inr, Some, refl}
-use Rattle.std.proofs.Common.{sym, ap, ◌∙◌, append_assoc, arith, Option, Result}
+use Rattle.std.proofs.Common.{◌≡◌, ℕ, Bool, true, false, List, [], ◌∷◌, ◌++◌, inl, inr, Some, refl, sym}
+use Rattle.std.proofs.Common.{ap, ◌∙◌, append_assoc, arith, Option, Result}
 use Rattle.std.specs.Prelude.{◌==◌, codes, drop, flat_map, length, slice_index, IfOk, IfSome, IsTrue}
 use Rattle.std.proofs.lemmas.Bool.{and_parts, false≢true, ne_eqb}
 use Rattle.json.specs.Print.{escape_byte}
@@ -9,8 +9,9 @@ use Rattle.mc_explain.proofs.LineFeedLemmas.{no_feed-from_list_all}
 use Rattle.mc_files.specs.Files.{FileText}
 use Rattle.mc_forward.specs.ListedTables.{facts}
 use Rattle.mc_run.specs.AuditEnd.{begin_lines, end_lines, verdict_line}
-use Rattle.mc_run.specs.AuditRun.{AreYesWords, IsAuditText, LeftOutValue, excluded, is_whole, is_yes}
-use Rattle.mc_run.specs.AuditRun.{yes_object, yes_words}
+use Rattle.mc_run.specs.AuditedFiles.{LeftOutValue, excluded, is_whole}
+use Rattle.mc_run.specs.AuditRun.{IsAuditText, is_yes}
+use Rattle.mc_run.specs.AuditYes.{AreYesWords, yes_object, yes_words}
 use Rattle.mc_run.specs.CheckRun.{BundleKeepsHeadline, IsLineStart, IsVerdictText, SaysYes, WroteAtStart}
 use Rattle.mc_run.specs.CheckRun.{WroteYes}
 use Rattle.mc_run.specs.RunOutput.{IsOutputWritten}

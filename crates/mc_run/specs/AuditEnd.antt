@@ -3,7 +3,8 @@
 -- caches, what hosts ask for and no flow answers, the excluded routers, the numbers of flows, and the
 -- verdict.
 use Rattle.std.specs.Prelude.{ℕ, ◌==◌, ◌+◌, ◌&&◌, not, Bool, List, [], ◌∷◌, ◌++◌, codes, decimal, filter}
-use Rattle.std.specs.Prelude.{flat_map, length, map, if◌then◌else◌, Option, Some, None, is_none, true, false}
+use Rattle.std.specs.Prelude.{flat_map, length, map, if◌then◌else◌, Option, Some, None, is_none, true}
+use Rattle.std.specs.Prelude.{false}
 use Rattle.std.specs.List.{list_all, list_any}
 use Rattle.std.specs.Str.{bytes_eq}
 use Rattle.mc_tables.specs.Summary.{SummaryValue}

@@ -15,17 +15,18 @@ use Rattle.mc_explain.specs.declared.causes.behind.Behind.{Behind}
 use Rattle.mc_explain.specs.declared.causes.explanation.Certainty.{Certainty}
 use Rattle.mc_explain.specs.declared.causes.explanation.ShownBy.{ShownBy}
 use Rattle.mc_input.specs.declared.domain.FolderDomain.{FolderDomain}
-use Rattle.mc_run.specs.AuditEnd.{FlowAnswer, count, end_objects, end_text, end_text_or_objects}
-use Rattle.mc_run.specs.AuditEnd.{is_right, is_unknown, is_unwanted, is_wrong}
+use Rattle.mc_run.specs.AuditEnd.{FlowAnswer, count, end_objects, end_text, end_text_or_objects, is_right}
+use Rattle.mc_run.specs.AuditEnd.{is_unknown, is_unwanted, is_wrong}
 use Rattle.mc_run.specs.AuditObjects.{key_of_tree, right_objects, wrong_object}
 use Rattle.mc_run.specs.AuditExplanation.{is_known_wrong, search_context}
-use Rattle.mc_run.specs.AuditRun.{IsFlowAnswer, AuditedValue, LeftOutValue, excluded, is_whole}
-use Rattle.mc_run.specs.AuditRun.{trees_shown}
+use Rattle.mc_run.specs.AuditedFiles.{AuditedValue, LeftOutValue, excluded, is_whole}
+use Rattle.mc_run.specs.AuditRun.{IsFlowAnswer, trees_shown}
 use Rattle.mc_explain.specs.ExplanationValues.{ExplanationValue}
-use Rattle.mc_run.specs.AuditText.{behind_text, second_behind_text}
-use Rattle.mc_run.specs.AuditText.{explanation_lines, right_lines, searched_lines, wrong_lines}
+use Rattle.mc_run.specs.AuditText.{behind_text, second_behind_text, explanation_lines, right_lines}
+use Rattle.mc_run.specs.AuditText.{searched_lines, wrong_lines}
 use Rattle.mc_run.specs.AuditFlowText.{is_hidden, right_flow_lines, shown_trees_with, status_of}
-use Rattle.mc_run.specs.AuditFlowText.{status_of_right, status_of_wrong, with_shown_tree, wrong_flow_lines}
+use Rattle.mc_run.specs.AuditFlowText.{status_of_right, status_of_wrong, with_shown_tree}
+use Rattle.mc_run.specs.AuditFlowText.{wrong_flow_lines}
 use Rattle.mc_cli.specs.declared.audit_options.AuditOptions.{AuditOptions}
 use Rattle.mc_run.specs.declared.audit.audited_domain.AuditedDomain.{AuditedDomain}
 use Rattle.mc_run.specs.declared.audit.audit_output.AuditAnswer.{AuditAnswer}

@@ -10,8 +10,7 @@ use Rattle.mc_check.specs.declared.verdict.Verdict.TheVariants.{Yes}
 use Rattle.mc_replay.specs.TravelText.{finding_text}
 use Rattle.mc_replay.specs.declared.finding.Finding.{Finding}
 use Rattle.mc_replay.specs.declared.travel.Travel.{Travel}
-use Rattle.mc_lines.specs.ExplanationText.{causes_text, deeper_causes_text}
-use Rattle.mc_lines.specs.ExplanationText.{search_text}
+use Rattle.mc_lines.specs.ExplanationText.{causes_text, deeper_causes_text, search_text}
 use Rattle.mc_explain.specs.BehindText.{leaks_behind_text}
 use Rattle.mc_explain.specs.ExplanationValues.{ExplanationValue}
 use Rattle.mc_explain.specs.WantedText.{also_missed_text, wanted_text}

@@ -3,7 +3,11 @@ pub mod AuditEnd
 pub mod AuditObjects
 pub mod AuditPieces
 pub mod AuditExplanation
+pub mod AuditedFiles
 pub mod AuditRun
+pub mod AuditClaims
+pub mod AuditExclusions
+pub mod AuditYes
 pub mod AuditText
 pub mod AuditFlowText
 pub mod CheckRun

@@ -12,15 +12,15 @@ mod flow_status;
 pub(crate) mod left_out;
 mod reasons;
 
-ghost use Rattle.std.specs.Prelude.{◌≡◌, ◌≢◌, ◌<◌, ◌==◌, ◌&&◌, IfErr, IfOk, IfSome, Err, false};
-ghost use Rattle.std.specs.Prelude.{length};
+ghost use Rattle.std.specs.Prelude.{◌≡◌, ◌≢◌, ◌<◌, ◌==◌, ◌&&◌, IfErr, IfOk, IfSome, Err, false, length};
 ghost use Rattle.std.specs.String.{string_bytes};
 ghost use Rattle.mc_run.specs.AuditPieces.{AreAllFlowsPushed, HasItsMarksAndInterfaces, audited_value};
 ghost use Rattle.mc_run.specs.AuditPieces.{audited_without, yes_of};
-ghost use Rattle.mc_run.specs.AuditRun.{AreFoundInWhole, AuditSaysYes, HasCounts, FilesKeepHeadline};
-ghost use Rattle.mc_run.specs.AuditRun.{IsAudited, IsAuditText, left_out};
-ghost use Rattle.mc_run.specs.AuditRun.{MeansAudited, SaysOfEach, SaysWhichAreRight};
-ghost use Rattle.mc_input.specs.Meaning.{MeansDomainWhere};
+ghost use Rattle.mc_run.specs.AuditedFiles.{MeansAuditedWhere, left_out};
+ghost use Rattle.mc_run.specs.AuditRun.{HasCounts, IsAuditText, IsAudited};
+ghost use Rattle.mc_run.specs.AuditClaims.{SaysOfEach, SaysWhichAreRight};
+ghost use Rattle.mc_run.specs.AuditExclusions.{AreFoundInWhole};
+ghost use Rattle.mc_run.specs.AuditYes.{AuditSaysYes, FilesKeepHeadline};
 ghost use Rattle.mc_text.specs.Device.{failures_after};
 ghost use Rattle.mc_run.specs.Failures.{is_read, is_write};
 ghost use Rattle.mc_run.specs.Faults.{IsFaultOfAudit};
@@ -138,8 +138,7 @@ fn audit_files<F: PieceSource>(
         IsAuditText options (left_out left.now) files audit.run_output.yes
         (string_bytes audit.run_output.text))) }
     ensures counts { IfOk result (λ audit. IfSome (F.contents files.old)
-        (MeansDomainWhere (MeansAudited options (left_out left.now))
-        (λ v. HasCounts v options audit.counts))) }
+        (MeansAuditedWhere options (left_out left.now) (λ v. HasCounts v options audit.counts))) }
     ensures refused { IfErr result (λ fault. IfSome (F.contents files.old) (λ files.
         AreRefusedWithout (left_out left.now).routers files fault)) }
     ensures no_write { IfErr result (λ fault. is_write fault ≡ false) }
@@ -214,8 +213,7 @@ pub fn run_audit<F: PieceSource, W: Output>(
     // The answer has the number of flows without a finding that are wanted by no LAN, and that of the wants
     // of LANs that no flow answers.
     ensures counts { IfOk result (λ answer. IfSome (F.contents files.old)
-        (MeansDomainWhere (MeansAudited options (left_out left.now))
-        (λ v. HasCounts v options answer.counts))) }
+        (MeansAuditedWhere options (left_out left.now) (λ v. HasCounts v options answer.counts))) }
     // After a `Write` fault, a proper part of a right text was written, from its front.
     ensures part { result ≡ Err RunFault.Write → IfSome (F.contents files.old) (λ contents.
         WritesPart (IsAuditText options (left_out left.now)) contents

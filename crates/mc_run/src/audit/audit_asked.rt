@@ -1,14 +1,13 @@
 //! Writes the lines of what hosts ask for and no flow answers.
 
-ghost use Rattle.std.specs.Prelude.{◌≡◌, ◌<◌, ◌++◌, IfOk, OnOk, flat_map, length, not};
+ghost use Rattle.std.specs.Prelude.{◌≡◌, ◌<◌, ◌++◌, IfOk, OnOk, flat_map, length, not, slice_get};
 ghost use Rattle.std.specs.String.{string_bytes};
 ghost use Rattle.mc_explain.specs.AskedText.{listed_sources};
 ghost use Rattle.mc_forward.specs.ListedTables.{flow_pairs};
 ghost use Rattle.mc_run.specs.AuditAsked.{asked_end, asked_lines, line_written, numbered_asked_line};
 ghost use Rattle.mc_run.specs.AuditAsked.{state_at, states_of_line};
 ghost use Rattle.mc_run.specs.AuditPieces.{audited_value};
-ghost use Rattle.mc_run.specs.AuditRun.{is_whole};
-ghost use Rattle.std.specs.Prelude.{slice_get};
+ghost use Rattle.mc_run.specs.AuditedFiles.{is_whole};
 
 use crate::audit::audited_domain::AuditedDomain;
 use mc_asked::RouterState;

@@ -3,8 +3,9 @@
 ghost use Rattle.std.specs.Prelude.{◌≡◌, ◌++◌, IfOk, OnOk, flat_map, map};
 ghost use Rattle.std.specs.String.{string_bytes};
 ghost use Rattle.mc_forward.specs.ListedTables.{facts};
-ghost use Rattle.mc_run.specs.AuditEnd.{begin_lines, ignore_words, option_words, strict_line, strict_lines};
-ghost use Rattle.mc_run.specs.AuditEnd.{summary_line, verdict_line, without_words, word_if_asked};
+ghost use Rattle.mc_run.specs.AuditEnd.{begin_lines, ignore_words, option_words, strict_line};
+ghost use Rattle.mc_run.specs.AuditEnd.{strict_lines, summary_line, verdict_line, without_words};
+ghost use Rattle.mc_run.specs.AuditEnd.{word_if_asked};
 ghost use Rattle.mc_run.specs.AuditPieces.{audited_value, end_objects_of, end_text_of};
 ghost use Rattle.mc_run.specs.AuditPieces.{end_text_or_objects_of};
 

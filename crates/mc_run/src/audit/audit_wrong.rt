@@ -4,13 +4,12 @@ ghost use Rattle.std.specs.Prelude.{◌≡◌, ◌<◌, ◌++◌, IfOk, OnOk, le
 ghost use Rattle.std.specs.String.{string_bytes};
 ghost use Rattle.mc_explain.specs.ExplanationValues.{explanation_value};
 ghost use Rattle.mc_run.specs.AuditObjects.{events_asked};
-ghost use Rattle.mc_run.specs.AuditPieces.{audited_value, explanation_lines_of};
-ghost use Rattle.mc_run.specs.AuditPieces.{searched_lines_of, explained_lines_of, status_of_wrong_flow};
-ghost use Rattle.mc_run.specs.AuditPieces.{wrong_flow_lines_of, behind_lines_of, second_behind_of};
-ghost use Rattle.mc_run.specs.AuditPieces.{wrong_lines_of, wrong_object_of};
+ghost use Rattle.mc_run.specs.AuditPieces.{audited_value, explanation_lines_of, searched_lines_of};
+ghost use Rattle.mc_run.specs.AuditPieces.{explained_lines_of, status_of_wrong_flow, wrong_flow_lines_of};
+ghost use Rattle.mc_run.specs.AuditPieces.{behind_lines_of, second_behind_of, wrong_lines_of};
+ghost use Rattle.mc_run.specs.AuditPieces.{wrong_object_of};
 ghost use Rattle.mc_run.specs.AuditText.{at_flow_ttl_text, deeper_shown_from_text, events_if_shown};
-ghost use Rattle.mc_run.specs.AuditText.{found_flow_line, known_word};
-ghost use Rattle.mc_run.specs.AuditText.{shown_by_text, shown_from_text};
+ghost use Rattle.mc_run.specs.AuditText.{found_flow_line, known_word, shown_by_text, shown_from_text};
 
 use crate::audit::audited_domain::AuditedDomain;
 use crate::audit::flow_status::FlowStatus;

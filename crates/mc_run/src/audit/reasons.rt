@@ -4,10 +4,10 @@ ghost use Rattle.std.specs.Prelude.{◌≡◌, ◌<◌, IfOk, length};
 ghost use Rattle.mc_maker.specs.ExaminedFlights.{IsFinishedTravelOf};
 ghost use Rattle.mc_maker.specs.declared.examined_flights.ExaminedFlights.TheVariants.{FoundAtTtl255};
 ghost use Rattle.mc_run.specs.AuditPieces.{HasItsMarksAndInterfaces, audited_value, search_context_of};
-ghost use Rattle.mc_run.specs.AuditExplanation.{IsBehindIfStray, IsFoundBelow, IsSearchIfMissed, IsShownBy};
-ghost use Rattle.mc_run.specs.AuditExplanation.{IsShownFromAt255};
-ghost use Rattle.mc_run.specs.AuditExplanation.{certain_finding, is_known_wrong as says_known_wrong};
-ghost use Rattle.mc_run.specs.AuditRun.{is_whole};
+ghost use Rattle.mc_run.specs.AuditExplanation.{IsBehindIfStray, IsFoundBelow, IsSearchIfMissed};
+ghost use Rattle.mc_run.specs.AuditExplanation.{IsShownBy, IsShownFromAt255, certain_finding};
+ghost use Rattle.mc_run.specs.AuditExplanation.{is_known_wrong as says_known_wrong};
+ghost use Rattle.mc_run.specs.AuditedFiles.{is_whole};
 
 use crate::audit::audited_domain::AuditedDomain;
 use mc_explain::{Behind, Cause, LanSearch, ShownBy, behind_stray, search, shown_from};

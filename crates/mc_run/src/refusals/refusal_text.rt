@@ -1,16 +1,16 @@
 //! Prints all refused files of a folder, with the fault of each and the front of the line that has it.
 
-ghost use Rattle.std.specs.Prelude.{◌≡◌, ◌≢◌, ◌<◌, ◌++◌, ℕ, List, [], IfErr, IfOk, IfSome, OnOk};
-ghost use Rattle.std.specs.Prelude.{codes, length, map, option_map, unwrap_or};
+ghost use Rattle.std.specs.Prelude.{◌≡◌, ◌≢◌, ◌<◌, ◌++◌, ℕ, List, [], IfErr, IfOk, IfSome, OnOk, codes};
+ghost use Rattle.std.specs.Prelude.{length, map, option_map, unwrap_or};
 ghost use Rattle.std.specs.String.{string_bytes};
 ghost use Rattle.mc_text.specs.Device.{failures_after};
 ghost use Rattle.mc_files.specs.FilePart.{unread_text};
 ghost use Rattle.mc_input.specs.declared.refused_file.Refusal.TheVariants.{Fault};
 ghost use Rattle.mc_run.specs.Failures.{is_write};
 ghost use Rattle.mc_run.specs.RefusalText.{AppendsWithFailures, AreFirst50Lines, AreRefusedFileLines};
-ghost use Rattle.mc_run.specs.RefusalText.{IsFrontText, IsReasonOfFile, IsRefusalReason, IsRefusedFileLine};
-ghost use Rattle.mc_run.specs.RefusalText.{IsRefusalText, IsTextWritten};
-ghost use Rattle.mc_run.specs.RefusalText.{more_line, quoted};
+ghost use Rattle.mc_run.specs.RefusalText.{IsFrontText, IsReasonOfFile, IsRefusalReason};
+ghost use Rattle.mc_run.specs.RefusalText.{IsRefusedFileLine, IsRefusalText, IsTextWritten, more_line};
+ghost use Rattle.mc_run.specs.RefusalText.{quoted};
 
 use crate::fault::RunFault;
 use crate::refusals::fault_text::{ShownFault, line_of_fault};

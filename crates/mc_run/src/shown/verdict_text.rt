@@ -2,8 +2,8 @@
 
 ghost use Rattle.std.specs.Prelude.{◌≡◌, ◌++◌, IfOk, OnOk, Some, length};
 ghost use Rattle.std.specs.String.{string_bytes};
-ghost use Rattle.mc_run.specs.VerdictText.{are_yes as all_yes, check_text as text_of_check};
-ghost use Rattle.mc_run.specs.VerdictText.{flow_words, flow_line, last_line};
+ghost use Rattle.mc_run.specs.VerdictText.{are_yes as all_yes, check_text as text_of_check, flow_words};
+ghost use Rattle.mc_run.specs.VerdictText.{flow_line, last_line};
 
 use mc_check::Verdict;
 use mc_text::Memory as NoMemory;

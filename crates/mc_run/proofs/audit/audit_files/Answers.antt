@@ -3,7 +3,8 @@ use Rattle.std.specs.Prelude.{IfSome}
 use Rattle.mc_input.specs.AskedOfFiles.{IsAskedOf}
 use Rattle.mc_input.specs.ExcludedRouters.{files_with_exclusions}
 use Rattle.std.specs.String.{string_bytes}
-use Rattle.mc_run.specs.AuditRun.{HasCounts, IsAudited, left_out}
+use Rattle.mc_run.specs.AuditedFiles.{left_out}
+use Rattle.mc_run.specs.AuditRun.{HasCounts, IsAudited}
 use Rattle.mc_run.proofs.AuditTextLemmas.{of_domain-means_audited}
 use Rattle.std.proofs.lemmas.Result.{err_from_is_err_and}
 use Rattle.mc_run.proofs.FaultLemmas.{is_fault_of_audit-exclusion_fault}

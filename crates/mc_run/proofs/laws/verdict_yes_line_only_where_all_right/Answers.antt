@@ -1,6 +1,5 @@
-use Rattle.mc_run.proofs.YesLines.{has_line-check_text, is_last_line_yes-check_text}
-use Rattle.mc_run.proofs.YesLines.{has_line-audit_text, is_last_line_yes-audit_text}
-use Rattle.mc_run.proofs.YesLines.{audit_yes-no_excluded_router}
+use Rattle.mc_run.proofs.YesLines.{has_line-check_text, is_last_line_yes-check_text, has_line-audit_text}
+use Rattle.mc_run.proofs.YesLines.{is_last_line_yes-audit_text, audit_yes-no_excluded_router}
 use Rattle.mc_run.proofs.laws.verdict_yes_line_only_where_all_right.Goals as goal
 
 pub returns-clause-has_line : goal.returns-clause-has_line

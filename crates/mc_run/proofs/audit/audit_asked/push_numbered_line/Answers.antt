@@ -8,7 +8,7 @@ use Rattle.mc_forward.proofs.IndexLemmas.{slice_get-from_read}
 use Rattle.mc_forward.specs.ListedTables.{flow_pairs}
 use Rattle.mc_run.specs.AuditAsked.{states_of_line}
 use Rattle.mc_run.specs.AuditPieces.{audited_value}
-use Rattle.mc_run.specs.AuditRun.{is_whole}
+use Rattle.mc_run.specs.AuditedFiles.{is_whole}
 use Rattle.mc_run.proofs.AuditAskedLemmas.{appended-same, few-states_of_line, line-by_number}
 use Rattle.mc_run.proofs.ShownTrees.{is_whole-no_names}
 use Rattle.mc_run.proofs.audit.audit_asked.push_numbered_line.Goals as goal

@@ -1,6 +1,6 @@
 use Rattle.std.proofs.Common.{◌∙◌}
 use Rattle.mc_run.specs.AuditPieces.{audited_value}
-use Rattle.mc_run.specs.AuditRun.{is_whole}
+use Rattle.mc_run.specs.AuditedFiles.{is_whole}
 use Rattle.mc_run.proofs.AuditEndLemmas.{end_text-parts}
 use Rattle.mc_run.proofs.audit.audit_end.push_end_text.Goals as goal
 

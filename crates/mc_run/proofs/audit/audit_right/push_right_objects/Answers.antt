@@ -1,6 +1,6 @@
 use Rattle.std.proofs.Common.{refl, ◌∙◌}
 use Rattle.mc_run.specs.AuditPieces.{audited_value}
-use Rattle.mc_run.specs.AuditRun.{is_whole}
+use Rattle.mc_run.specs.AuditedFiles.{is_whole}
 use Rattle.mc_run.proofs.ShownTrees.{is_whole-no_names, right_objects-pushed, shown_trees-pushed}
 use Rattle.mc_run.proofs.audit.audit_right.push_right_objects.Goals as goal
 

@@ -1,8 +1,8 @@
 use Rattle.std.proofs.Common.{sym}
 use Rattle.std.proofs.lemmas.Result.{err_from_is_err_and}
-use Rattle.mc_run.proofs.WantsReadingLemmas.{is_wants_answer-reads_pieces}
-use Rattle.mc_run.proofs.WantsReadingLemmas.{answers_wants-list_refused, answers_wants-failed_run}
-use Rattle.mc_run.proofs.WantsReadingLemmas.{is_not_write-read_or_memory, is_no_device_fault-list_fault}
+use Rattle.mc_run.proofs.WantsReadingLemmas.{is_wants_answer-reads_pieces, answers_wants-list_refused}
+use Rattle.mc_run.proofs.WantsReadingLemmas.{answers_wants-failed_run, is_not_write-read_or_memory}
+use Rattle.mc_run.proofs.WantsReadingLemmas.{is_no_device_fault-list_fault}
 use Rattle.mc_run.proofs.FaultLemmas.{is_fault_of_wants-read_or_memory, is_fault_of_wants-list_fault}
 use Rattle.mc_run.proofs.commands.wants.wanted_in_input.Goals as goal
 

@@ -1,5 +1,5 @@
 use Rattle.std.proofs.Common.{◌≡◌, ℕ, List, map, ap₂, subst}
-use Rattle.mc_run.specs.AuditRun.{LeftOutValue}
+use Rattle.mc_run.specs.AuditedFiles.{LeftOutValue}
 use Rattle.mc_run.specs.TaskRuns.{IsAuditResult, left_out_by}
 use Rattle.mc_run.proofs.task.task_files.audit_task.Goals as goal
 

@@ -1,0 +1,141 @@
+-- What the text of an audit says of each flow (docs/FORMATS.md, "The program"; docs/PROMISES.md). Two relations are
+-- to be trusted: by `SaysWhichAreRight` the text never misjudges a flow, and by `SaysOfEach` what its lines say
+-- of a flow is true of the tables that were read.
+use Rattle.std.specs.Prelude.{◌≡◌, ◌≤◌, ◌&&◌, ◌⊎◌, ℕ, Bool, true, false, List, ◌++◌, flat_map, length}
+use Rattle.std.specs.Prelude.{slice_get, Option, Some}
+use Rattle.mc_files.specs.Files.{FileText}
+use Rattle.mc_topology.specs.Topology.{TopologyValue, flow_at}
+use Rattle.mc_theory.specs.Certificates.{IsAccepted, IsRight}
+use Rattle.mc_theory.specs.Headline.{HeadlineHolds}
+use Rattle.mc_theory.specs.ShownFrom.{EachCompleteRunHasFault}
+use Rattle.mc_forward.specs.Domains.{net_of}
+use Rattle.mc_forward.specs.ListedTables.{facts}
+use Rattle.mc_cert.specs.Certificate.{Tree}
+use Rattle.mc_replay.specs.FindingValues.{finding_value}
+use Rattle.mc_replay.specs.declared.finding.Finding.{Finding}
+use Rattle.mc_replay.specs.declared.travel.Travel.{Travel}
+use Rattle.mc_maker.specs.Examined.{FindsFault, IsFirstPickTravel, IsTtlOfFault}
+use Rattle.mc_maker.specs.ExaminedFlights.{HasExaminedFlights}
+use Rattle.mc_maker.specs.declared.examined_flights.ExaminedFlights.{ExaminedFlights}
+use Rattle.mc_explain.specs.BehindFacts.{IsTrueBehind}
+use Rattle.mc_explain.specs.ExplanationValues.{ExplanationValue}
+use Rattle.mc_explain.specs.WantedText.{lans_wanting}
+use Rattle.mc_explain.specs.declared.causes.behind.Behind.{Behind}
+use Rattle.mc_json.specs.FlowData.{WrongFlow, wrong_data}
+use Rattle.mc_json.specs.RowData.{line_of}
+use Rattle.mc_cli.specs.declared.audit_options.AuditOptions.{AuditOptions}
+use Rattle.mc_run.specs.AuditEnd.{verdict_line}
+use Rattle.mc_run.specs.AuditExplanation.{IsExplanation}
+use Rattle.mc_run.specs.AuditFlowText.{right_flow_lines, wrong_flow_lines}
+use Rattle.mc_run.specs.AuditText.{found_flow_line}
+use Rattle.mc_run.specs.AuditedFiles.{AuditedValue, LeftOutValue, MeansAuditedWhere, excluded, is_whole}
+use Rattle.mc_run.specs.MakeRun.{AreRight}
+
+-- ---- the lines of each flow
+
+-- The text has for each flow of the domain, in order, lines of which this holds, and last the verdict. `begin`
+-- stands before the lines of the flows, and `end` between them and the verdict.
+pub record HasLinesOfEachFlow (v : AuditedValue) (json all : Bool) (Holds : ℕ → List ℕ → Type 0)
+    (written : List ℕ) : Type 0 where
+  pub begin : List ℕ
+  pub lines : List (List ℕ)
+  pub end : List ℕ
+  pub count : length lines ≡ length v.domain.topology.flows
+  pub each : (flow : ℕ) (ls : List ℕ) → slice_get lines flow ≡ Some ls → Holds flow ls
+  pub spelled : written ≡ begin ++ (flat_map (λ ls. ls) lines ++ (end ++ verdict_line json all))
+
+-- the lines that say yes to the flow with this tree: that it is right or, where routers are excluded, that no
+-- fault of it is known, and which LANs want it. There are none if some LAN wants it and only faults are asked
+-- for.
+abbrev pub yes_lines : AuditedValue → AuditOptions → (printed : List Tree) → (flow : ℕ) → Tree → List ℕ
+yes_lines v o printed flow tree = right_flow_lines o (is_whole v) (facts v.domain) printed flow tree
+    (lans_wanting (facts v.domain) flow)
+
+-- the lines that give the finding of the travel with this TTL, and its explanation
+abbrev pub finding_lines : AuditedValue → AuditOptions → (flow ttl : ℕ) → Travel → ExplanationValue → List ℕ
+finding_lines v o flow ttl travel explanation =
+    wrong_flow_lines o (facts v.domain) v.summary flow ttl travel explanation
+
+-- ---- which flows are right
+
+-- The lines of a flow that isn't right begin with this, whatever the finding: that the flow is wrong, or that
+-- this isn't known, which can be only where a router is excluded.
+abbrev pub SaysFinding : (json whole : Bool) → TopologyValue → (flow : ℕ) → (lines : List ℕ) → Type 0
+SaysFinding true whole t flow lines = (wrong : WrongFlow) × (whole ≡ true → wrong.certainty.known ≡ true)
+    × (lines ≡ line_of (wrong_data flow (flow_at t flow) wrong))
+SaysFinding false whole t flow lines = (known : Bool) × (finding : Finding) × (more : List ℕ)
+    × (whole ≡ true → known ≡ true) × (lines ≡ found_flow_line t (flow_at t flow) known finding ++ more)
+
+-- The lines say yes to the flow if it is right by the known tables, and otherwise that it has a finding.
+pub record SaysFlowRight (v : AuditedValue) (o : AuditOptions) (flow : ℕ) (lines : List ℕ) : Type 0 where
+  pub right : IsRight (net_of v.domain flow)
+      → (printed : List Tree) × (tree : Tree) × (lines ≡ yes_lines v o printed flow tree)
+  pub wrong : ¬ IsRight (net_of v.domain flow)
+      → SaysFinding o.json (is_whole v) v.domain.topology flow lines
+
+-- The text has for each flow lines that say whether it is right, and its verdict is yes exactly if all flows are
+-- right and no router is excluded.
+pub record WritesWhichAreRight (v : AuditedValue) (o : AuditOptions) (all : Bool) (written : List ℕ)
+    : Type 0 where
+  pub lines : HasLinesOfEachFlow v o.json all (SaysFlowRight v o) written
+  pub right : Bool
+  pub are_right : AreRight v.domain right
+  pub answer : all ≡ (is_whole v && right)
+
+-- The files mean what is audited, and this is such a text of it.
+abbrev pub SaysWhichAreRight : AuditOptions → (left : LeftOutValue) → List FileText → (all : Bool)
+    → (written : List ℕ) → Type 0
+SaysWhichAreRight o left files all written =
+    MeansAuditedWhere o left (λ v. WritesWhichAreRight v o all written) files
+
+-- ---- what is said of each flow
+
+-- The lines say yes to the flow with the number of entries of a tree. By the tables that were read this is true:
+-- the flow is right, the checker accepts the tree, and the headline holds with at most that number of copies.
+pub record SaysYesOf (v : AuditedValue) (o : AuditOptions) (flow : ℕ) (lines : List ℕ) : Type 0 where
+  pub tree : Tree
+  pub printed : List Tree
+  pub right : IsRight (net_of v.domain flow)
+  pub accepted : IsAccepted (net_of v.domain flow) tree
+  pub headline : HeadlineHolds (net_of v.domain flow) (length tree)
+  pub spelled : lines ≡ yes_lines v o printed flow tree
+
+-- The lines give the finding of the flow, and what they say is true.
+pub record SaysWhatIsFound (v : AuditedValue) (o : AuditOptions) (flow : ℕ) (lines : List ℕ)
+    : Type 0 where
+  pub ttl : ℕ
+  pub travel : Travel
+  pub flights : ExaminedFlights
+  pub explanation : ExplanationValue
+  -- By the known tables the flow isn't right.
+  pub wrong : ¬ IsRight (net_of v.domain flow)
+  -- The finding is that of the travel of a packet with this TTL in which the first waiting copy is handled
+  -- each time;
+  pub runs : IsFirstPickTravel v.domain flow ttl travel
+  -- it is a fault;
+  pub fault : FindsFault travel
+  -- and the TTL is 255 if a fault is found there, and otherwise the flow's.
+  pub ttl_shown : IsTtlOfFault v.domain flow ttl
+  -- The explanation is by the flights of the examination. Where a finding is given of a packet with the
+  -- flow's own TTL, it is that of such a packet's travel.
+  pub has_flights : HasExaminedFlights v.domain flow flights
+  pub explained : IsExplanation v.domain v.summary (excluded v) (is_whole v) flow flights
+      explanation
+  -- Where a TTL is given from which on packets show the finding, each packet with that TTL or more carries
+  -- two copies on the finding's LAN, or makes the stray, in each complete run in which no copy is lost.
+  pub shown : (k t : ℕ) → explanation.certainty.shown_by.from ≡ Some k → k ≤ t
+      → EachCompleteRunHasFault (net_of v.domain flow) t (finding_value travel.finding)
+  -- What is given as behind a stray is true of one run of the flow.
+  pub behind : (b : Behind) → explanation.behind ≡ Some b → IsTrueBehind v.domain flow b
+  -- The lines give all of this.
+  pub spelled : lines ≡ finding_lines v o flow ttl travel explanation
+
+-- The lines truly say yes to the flow, or what is found of it.
+abbrev pub SaysYesOrFinding : AuditedValue → AuditOptions → (flow : ℕ) → (lines : List ℕ) → Type 0
+SaysYesOrFinding v o flow lines = SaysYesOf v o flow lines ⊎ SaysWhatIsFound v o flow lines
+
+-- The files mean what is audited, and the text has such lines of each flow.
+abbrev pub SaysOfEach : AuditOptions → (left : LeftOutValue) → List FileText → (all : Bool)
+    → (written : List ℕ) → Type 0
+SaysOfEach o left files all written =
+    MeansAuditedWhere o left (λ v. HasLinesOfEachFlow v o.json all (SaysYesOrFinding v o) written) files

@@ -66,7 +66,7 @@ use Rattle.mc_run.specs.AuditRun.{AreFlowAnswers, IsFlowAnswer, is_yes, trees_sh
 use Rattle.mc_run.specs.AuditYes.{AreYesWords, yes_object}
 use Rattle.mc_explain.specs.ExplanationValues.{ExplanationValue}
 use Rattle.mc_run.specs.AuditText.{events_if_shown, explanation_lines, right_line, at_flow_ttl_text}
-use Rattle.mc_run.specs.AuditText.{behind_text, deeper_shown_from_text, found_flow_line, known_word}
+use Rattle.mc_run.specs.AuditText.{behind_text, found_flow_line, known_word}
 use Rattle.mc_run.specs.AuditText.{searched_lines, second_behind_text, shown_by_text, shown_from_text}
 use Rattle.mc_run.specs.AuditFlowText.{answer_lines, is_hidden, right_lines_or_object, wrong_lines_or_object}
 use Rattle.mc_cli.specs.declared.audit_options.AuditOptions.{AuditOptions}
@@ -310,18 +310,22 @@ no_yes_line-right_lines_or_object false whole d printed flow es wanted ok =
     (no_yes_line-right_line whole t (flow_at t flow) (length es) ok)
     (no_yes_line-indented_lines (wanted_text t wanted) (are_indented-wanted_text t wanted ok))
 
--- the line on the TTL from which on packets show a fault
-no_yes_line-shown_from_text : (shown_from : Option ℕ) → AreLinesWithoutYes (shown_from_text shown_from)
-no_yes_line-shown_from_text None = no_yes_line-no_lines
-no_yes_line-shown_from_text (Some ttl) =
+-- the line on the TTL from which on packets show a fault, after an indent of two spaces and more
+no_yes_line-shown_from_text : (more : List ℕ) (shown_from : Option ℕ) → HasNoByte 10 more
+    → AreLinesWithoutYes (shown_from_text (codes "  " ++ more) shown_from)
+no_yes_line-shown_from_text more None none = no_yes_line-no_lines
+no_yes_line-shown_from_text more (Some ttl) none =
+    let begin = codes "  " in
+    let words = codes "shown by packets sent with ttl " in
     let last = codes " or more" in
-    no_yes_line-text_line (shown_from_text (Some ttl))
-    (codes "  shown by packets sent with ttl " ++ (decimal ttl ++ last)) (refl, refl)
-    (no_feed-append (codes "  shown by packets sent with ttl ") _
-    (no_feed-from_list_all (codes "  shown by packets sent with ttl ") refl)
-    (no_feed-append (decimal ttl) last (number ttl) (no_feed-from_list_all last refl)))
-    (ap (λ xs. codes "  shown by packets sent with ttl " ++ xs)
-    (sym (append_assoc (decimal ttl) last (codes "\n"))))
+    let line = words ++ (decimal ttl ++ last) in
+    no_yes_line-text_line (shown_from_text (begin ++ more) (Some ttl)) (begin ++ (more ++ line)) (refl, refl)
+    (no_feed-append begin (more ++ line) (no_feed-from_list_all begin refl)
+    (no_feed-append more line none
+    (no_feed-append words (decimal ttl ++ last) (no_feed-from_list_all words refl)
+    (no_feed-append (decimal ttl) last (number ttl) (no_feed-from_list_all last refl)))))
+    (ap (λ xs. begin ++ (more ++ (words ++ xs))) (sym (append_assoc (decimal ttl) last (codes "\n")))
+    ∙ ap (λ xs. begin ++ xs) (sym (append_assoc more line (codes "\n"))))
 
 -- the line on what the flow's own TTL shows
 no_yes_line-at_flow_ttl_text : (t : TopologyValue) (ttl : ℕ) (found : Option Finding) → IsValidTopology t
@@ -343,20 +347,9 @@ no_yes_line-at_flow_ttl_text t ttl (Some found) ok =
 no_yes_line-shown_by_text : (t : TopologyValue) (ttl : ℕ) (shown_by : ShownBy) → IsValidTopology t
     → AreLinesWithoutYes (shown_by_text t ttl shown_by)
 no_yes_line-shown_by_text t ttl shown_by ok =
-    no_yes_line-append (shown_from_text shown_by.from) (at_flow_ttl_text t ttl shown_by.at_flow_ttl)
-    (no_yes_line-shown_from_text shown_by.from) (no_yes_line-at_flow_ttl_text t ttl shown_by.at_flow_ttl ok)
-
--- after four spaces
-no_yes_line-deeper_shown_from : (shown_from : Option ℕ)
-    → AreLinesWithoutYes (deeper_shown_from_text shown_from)
-no_yes_line-deeper_shown_from None = no_yes_line-no_lines
-no_yes_line-deeper_shown_from (Some ttl) =
-    let begin = codes "    shown by packets sent with ttl " in
-    let last = codes " or more" in
-    no_yes_line-text_line (deeper_shown_from_text (Some ttl)) (begin ++ (decimal ttl ++ last)) (refl, refl)
-    (no_feed-append begin _ (no_feed-from_list_all begin refl)
-    (no_feed-append (decimal ttl) last (number ttl) (no_feed-from_list_all last refl)))
-    (ap (λ xs. begin ++ xs) (sym (append_assoc (decimal ttl) last (codes "\n"))))
+    no_yes_line-append (shown_from_text (codes "  ") shown_by.from)
+    (at_flow_ttl_text t ttl shown_by.at_flow_ttl)
+    (no_yes_line-shown_from_text [] shown_by.from (no_feed-from_list_all [] refl)) (no_yes_line-at_flow_ttl_text t ttl shown_by.at_flow_ttl ok)
 
 -- the second copy behind a stray, with its causes
 no_yes_line-second_behind : (d : DomainFacts) (summary : List SummaryValue) (flow : ℕ) (causes : List Cause)
@@ -367,14 +360,15 @@ no_yes_line-second_behind d summary flow causes shown_from (Some found) ok =
     let begin = codes "  behind it: " in
     let words = finding_text d.topology found in
     let line = begin ++ (words ++ codes "\n") in
-    let more = deeper_causes_text d summary flow causes ++ deeper_shown_from_text shown_from in
+    let shown = shown_from_text (codes "    ") shown_from in
+    let more = deeper_causes_text d summary flow causes ++ shown in
     let first = no_yes_line-text_line line (begin ++ words) (refl, refl)
     (no_feed-append begin words (no_feed-from_list_all begin refl) (finding_text-no_yes d.topology found ok))
     (sym (append_assoc begin words (codes "\n"))) in
-    let rest = no_yes_line-append (deeper_causes_text d summary flow causes)
-    (deeper_shown_from_text shown_from)
+    let spaces = codes "  " in
+    let rest = no_yes_line-append (deeper_causes_text d summary flow causes) shown
     (no_yes_line-indented_lines _ (are_indented-deeper_causes_text d summary flow causes ok))
-    (no_yes_line-deeper_shown_from shown_from) in
+    (no_yes_line-shown_from_text spaces shown_from (no_feed-from_list_all spaces refl)) in
     subst AreLinesWithoutYes (append_assoc begin (words ++ codes "\n") more
     ∙ ap (λ xs. begin ++ xs) (append_assoc words (codes "\n") more)) (no_yes_line-append line more first rest)
 

@@ -41,8 +41,8 @@ use Rattle.mc_run.specs.AuditExplanation.{IsBehindIfStray, IsFoundBelow, IsFound
 use Rattle.mc_run.specs.AuditedFiles.{AuditedValue, excluded, is_whole}
 use Rattle.mc_explain.specs.ExplanationValues.{ExplanationValue}
 use Rattle.mc_run.specs.AuditText.{behind_text, events_if_shown, explanation_lines, searched_lines}
-use Rattle.mc_run.specs.AuditText.{deeper_shown_from_text, found_flow_line, second_behind_text}
-use Rattle.mc_run.specs.AuditText.{shown_by_text, wrong_lines}
+use Rattle.mc_run.specs.AuditText.{found_flow_line, second_behind_text}
+use Rattle.mc_run.specs.AuditText.{shown_by_text, shown_from_text, wrong_lines}
 use Rattle.mc_run.proofs.MissedLemmas.{missed_lan-below_count}
 
 -- ---- a search
@@ -183,7 +183,7 @@ pub second_behind-pushed : {A X : Type 0} (d : DomainFacts) (summary : List Summ
     → t ≡ d.topology → shown ≡ x → b.finding ≡ Some x → causes ≡ b.causes.items
     → one ≡ old ++ (codes "  behind it: " ++ (finding_text t shown ++ codes "\n"))
     → two ≡ one ++ deeper_causes_text d summary flow causes
-    → OnOk r (new ≡ two ++ deeper_shown_from_text b.shown_from)
+    → OnOk r (new ≡ two ++ shown_from_text (codes "    ") b.shown_from)
     → OnOk r (new ≡ old ++ second_behind_text d summary flow b.causes.items b.shown_from b.finding)
 second_behind-pushed d summary flow b t x shown causes (Err e) old one two new same is some are first
     second third = tt
@@ -191,7 +191,7 @@ second_behind-pushed d summary flow b t x shown causes (Ok a) old one two new sa
     second third =
     let begin = codes "  behind it: " in
     let feed = codes "\n" in
-    let last = deeper_shown_from_text b.shown_from in
+    let last = shown_from_text (codes "    ") b.shown_from in
     let lines = deeper_causes_text d summary flow b.causes.items in
     let words : finding_text t shown ≡ finding_text d.topology x = ap₂ finding_text same is in
     let line : one ≡ old ++ (begin ++ (finding_text d.topology x ++ feed)) =

@@ -3,10 +3,13 @@
 
 mod audit_asked;
 mod audit_end;
+mod audit_explanation;
 mod audit_flow;
 pub(crate) mod audit_output;
 mod audit_right;
+mod audit_shown_by;
 mod audit_wrong;
+mod audit_wrong_text;
 mod audited_domain;
 mod flow_status;
 pub(crate) mod left_out;
@@ -43,7 +46,7 @@ use mc_cli::AuditOptions;
 use mc_explain::InterfacesOfLans;
 use mc_files::PieceSource;
 use mc_input::{FolderDomain, FolderOptions, read_folder_domain};
-use mc_text::{Memory as NoMemory, Output};
+use mc_text::{Memory, Output};
 use std::alloc::Global;
 
 /// Appends the lines of each flow of a domain, in order, and counts the flows by their status.
@@ -51,7 +54,7 @@ fn push_flows(
     alloc: Global,
     audited: &AuditedDomain<'_>,
     text: &mut String,
-) -> Result<FlowCounts, NoMemory>
+) -> Result<FlowCounts, Memory>
     requires valid { HasItsMarksAndInterfaces audited.now }
     ensures appended { IfOk result (λ flow_counts. AreAllFlowsPushed audited.now flow_counts
         (string_bytes text.old) (string_bytes text.new)) }
@@ -75,7 +78,7 @@ fn is_yes(audited: &AuditedDomain<'_>, flow_counts: FlowCounts) -> bool
 
 /// The text of a domain's audit: its flows, the unlisted sources and groups of the caches, and the
 /// verdict, which is no where routers are excluded.
-fn audit_all(alloc: Global, audited: &AuditedDomain<'_>) -> Result<AuditOutput, NoMemory>
+fn audit_all(alloc: Global, audited: &AuditedDomain<'_>) -> Result<AuditOutput, Memory>
     requires valid { HasItsMarksAndInterfaces audited.now }
     ensures text { IfOk result (λ audit. IsAudited (audited_value audited.now) audited.now.options
         audit.run_output.yes (string_bytes audit.run_output.text)) }
@@ -103,7 +106,7 @@ fn audit_domain(
     read: &FolderDomain,
     options: AuditOptions,
     left: &LeftOut<'_>,
-) -> Result<AuditOutput, NoMemory>
+) -> Result<AuditOutput, Memory>
     ensures text { IfOk result (λ audit.
         IsAudited (audited_without (left_out left.now) read.now) options
         audit.run_output.yes (string_bytes audit.run_output.text)) }

@@ -23,7 +23,7 @@ use mc_explain::{
 use mc_json::{
     push_domain_line, push_summary_line, push_unlisted_lines, push_verdict_line, push_without_line,
 };
-use mc_text::{GroupRange, Memory as NoMemory};
+use mc_text::{GroupRange, Memory};
 use mc_topology::{RouterNo, Topology};
 use std::alloc::Global;
 
@@ -35,7 +35,7 @@ fn push_option_word(
     words: &mut Vec<String>,
     asked: bool,
     word: &str,
-) -> Result<(), NoMemory>
+) -> Result<(), Memory>
     ensures { OnOk result (map string_bytes words.new.items
         ≡ map string_bytes words.old.items ++ word_if_asked asked word.now) }
 {
@@ -51,7 +51,7 @@ fn push_without_words(
     words: &mut Vec<String>,
     topology: &Topology,
     router: RouterNo,
-) -> Result<(), NoMemory>
+) -> Result<(), Memory>
     ensures { OnOk result (map string_bytes words.new.items
         ≡ map string_bytes words.old.items ++ without_words topology.now router) }
 {
@@ -67,7 +67,7 @@ fn push_all_without_words(
     words: &mut Vec<String>,
     topology: &Topology,
     routers: &[RouterNo],
-) -> Result<(), NoMemory>
+) -> Result<(), Memory>
     ensures { OnOk result (map string_bytes words.new.items ≡ map string_bytes words.old.items
         ++ flat_map (without_words topology.now) routers.now) }
 {
@@ -82,7 +82,7 @@ fn push_ignore_words(
     alloc: Global,
     words: &mut Vec<String>,
     range: GroupRange,
-) -> Result<(), NoMemory>
+) -> Result<(), Memory>
     ensures { OnOk result (map string_bytes words.new.items
         ≡ map string_bytes words.old.items ++ ignore_words range) }
 {
@@ -96,7 +96,7 @@ fn push_all_ignore_words(
     alloc: Global,
     words: &mut Vec<String>,
     ranges: &[GroupRange],
-) -> Result<(), NoMemory>
+) -> Result<(), Memory>
     ensures { OnOk result (map string_bytes words.new.items
         ≡ map string_bytes words.old.items ++ flat_map ignore_words ranges.now) }
 {
@@ -113,7 +113,7 @@ fn option_words(
     options: AuditOptions,
     excluded: &[bool],
     ignored: &[GroupRange],
-) -> Result<Vec<String>, NoMemory>
+) -> Result<Vec<String>, Memory>
     ensures { IfOk result (λ words.
         map string_bytes words.items ≡ option_words options topology.now excluded.now ignored.now) }
 {
@@ -130,7 +130,7 @@ fn option_words(
 }
 
 /// The begin of the text: in JSON a line with the domain and the words of the call, else nothing.
-pub(crate) fn begin_lines(alloc: Global, audited: &AuditedDomain<'_>) -> Result<String, NoMemory>
+pub(crate) fn begin_lines(alloc: Global, audited: &AuditedDomain<'_>) -> Result<String, Memory>
     ensures { IfOk result (λ text. string_bytes text ≡ begin_lines audited.now.options
         (facts (audited_value audited.now).domain) audited.now.excluded.now audited.now.ignored.now) }
 {
@@ -152,7 +152,7 @@ fn push_summary(
     flows: u32,
     flow_counts: FlowCounts,
     asked: u64,
-) -> Result<(), NoMemory>
+) -> Result<(), Memory>
     ensures { OnOk result (string_bytes text.new ≡ string_bytes text.old
         ++ summary_line flows flow_counts.right flow_counts.wrong flow_counts.unknown
         flow_counts.unwanted asked) }
@@ -172,7 +172,7 @@ fn push_summary(
 }
 
 /// Writes that a yes isn't enough where there are some of what these words name.
-fn push_strict_line(text: &mut String, fails: bool, count: u64, words: &str) -> Result<(), NoMemory>
+fn push_strict_line(text: &mut String, fails: bool, count: u64, words: &str) -> Result<(), Memory>
     ensures { OnOk result (string_bytes text.new ≡ string_bytes text.old
         ++ strict_line fails count words.now) }
 {
@@ -190,7 +190,7 @@ fn push_strict(
     all: bool,
     unwanted: u32,
     asked: u64,
-) -> Result<(), NoMemory>
+) -> Result<(), Memory>
     ensures { OnOk result (string_bytes text.new ≡ string_bytes text.old
         ++ strict_lines strict all unwanted asked) }
 {
@@ -207,7 +207,7 @@ fn push_end_text(
     flow_counts: FlowCounts,
     asked: u64,
     all: bool,
-) -> Result<(), NoMemory>
+) -> Result<(), Memory>
     requires asked { asked ≡ (audited_value audited.now).asked.count }
     ensures { OnOk result (string_bytes text.new ≡ string_bytes text.old
         ++ end_text_of audited.now flow_counts all) }
@@ -232,7 +232,7 @@ fn push_end_objects(
     audited: &AuditedDomain<'_>,
     flow_counts: FlowCounts,
     asked: u64,
-) -> Result<(), NoMemory>
+) -> Result<(), Memory>
     requires asked { asked ≡ (audited_value audited.now).asked.count }
     ensures { OnOk result (string_bytes text.new ≡ string_bytes text.old
         ++ end_objects_of audited.now flow_counts) }
@@ -262,7 +262,7 @@ pub(crate) fn push_end(
     flow_counts: FlowCounts,
     asked: u64,
     all: bool,
-) -> Result<(), NoMemory>
+) -> Result<(), Memory>
     requires asked { asked ≡ (audited_value audited.now).asked.count }
     ensures { OnOk result (string_bytes text.new ≡ string_bytes text.old
         ++ (end_text_or_objects_of audited.now flow_counts all

@@ -21,7 +21,7 @@ use mc_explain::{Cause, ShownBy, explain};
 use mc_forward::FlowView;
 use mc_maker::{ExaminedFlights, examine_to_end};
 use mc_replay::FinishedTravel;
-use mc_text::Memory as NoMemory;
+use mc_text::Memory;
 use std::alloc::Global;
 
 /// Whether a cause names an oif to remove.
@@ -48,7 +48,7 @@ fn causes_to_print(
     audited: &AuditedDomain<'_>,
     flow: u32,
     flights: &ExaminedFlights<'_>,
-) -> Result<Vec<Cause>, NoMemory>
+) -> Result<Vec<Cause>, Memory>
     requires flow { flow < length (audited_value audited.now).domain.topology.flows }
     requires flights { HasExaminedFlights (audited_value audited.now).domain flow flights.now }
     ensures causes { IfOk result (λ causes. ArePrintedCauses (is_whole (audited_value audited.now))
@@ -66,7 +66,7 @@ fn push_found_at_255(
     flights: &ExaminedFlights<'_>,
     ended: &FinishedTravel<'_>,
     text: &mut String,
-) -> Result<FlowStatus, NoMemory>
+) -> Result<FlowStatus, Memory>
     requires flow { flow < length (audited_value audited.now).domain.topology.flows }
     requires ready { HasItsMarksAndInterfaces audited.now }
     requires flights { HasExaminedFlights (audited_value audited.now).domain flow flights.now }
@@ -100,7 +100,7 @@ fn push_found_at_flow_ttl(
     greatest: &FinishedTravel<'_>,
     least: &FinishedTravel<'_>,
     text: &mut String,
-) -> Result<FlowStatus, NoMemory>
+) -> Result<FlowStatus, Memory>
     requires flow { flow < length (audited_value audited.now).domain.topology.flows }
     requires flights { HasExaminedFlights (audited_value audited.now).domain flow flights.now }
     requires examined { IsExamined (audited_value audited.now).domain flow
@@ -134,7 +134,7 @@ fn push_examined(
     flights: &ExaminedFlights<'_>,
     shown_trees: &mut DistinctTrees,
     text: &mut String,
-) -> Result<FlowStatus, NoMemory>
+) -> Result<FlowStatus, Memory>
     requires flow { flow < length (audited_value audited.now).domain.topology.flows }
     requires ready { HasItsMarksAndInterfaces audited.now }
     requires room { length shown_trees.old < 4096 }
@@ -166,7 +166,7 @@ pub(crate) fn push_flow(
     flow: u32,
     shown_trees: &mut DistinctTrees,
     text: &mut String,
-) -> Result<FlowStatus, NoMemory>
+) -> Result<FlowStatus, Memory>
     requires flow { flow < length (audited_value audited.now).domain.topology.flows }
     requires ready { HasItsMarksAndInterfaces audited.now }
     requires room { length shown_trees.old < 4096 }

@@ -25,7 +25,7 @@ use mc_check::{Verdict, check_flow};
 use mc_explain::{lans_wanting, push_wanted};
 use mc_forward::FlowView;
 use mc_json::{RightFlow, push_right_line, push_tree_line, tree_key};
-use mc_text::Memory as NoMemory;
+use mc_text::Memory;
 use mc_topology::{Flow, LanNo, Topology};
 use std::alloc::Global;
 
@@ -38,7 +38,7 @@ fn push_certified_line(
     flow: &Flow,
     copies: u32,
     whole: bool,
-) -> Result<(), NoMemory>
+) -> Result<(), Memory>
     ensures { OnOk result (string_bytes text.new ≡
         string_bytes text.old ++ right_line whole topology.now flow.now copies) }
 {
@@ -46,7 +46,7 @@ fn push_certified_line(
         return push_flow_verdict(text, topology, flow, Verdict::Yes { copies });
     }
     let words = FlowWords { flow };
-    writeln!(text, "{words} no fault known copies {copies}").map_err(|_| NoMemory)
+    writeln!(text, "{words} no fault known copies {copies}").map_err(|_| Memory)
 }
 
 /// Writes the line of a flow that is right, and the LANs that want it.
@@ -56,7 +56,7 @@ fn push_right_lines(
     flow: u32,
     copies: u32,
     wanted: &[LanNo],
-) -> Result<(), NoMemory>
+) -> Result<(), Memory>
     requires known { flow < length (audited_value audited.now).domain.topology.flows }
     ensures lines { OnOk result (string_bytes text.new ≡ string_bytes text.old
         ++ right_lines_of audited.now flow copies wanted.now) }
@@ -78,7 +78,7 @@ fn push_tree_once(
     view: &FlowView<'_>,
     shown_trees: &mut DistinctTrees,
     entries: &[Reached],
-) -> Result<u32, NoMemory>
+) -> Result<u32, Memory>
     requires room { length shown_trees.old < 4096 }
     ensures shown_trees { OnOk result
         (shown_trees.new ≡ with_tree shown_trees.old (tree_key (net_in view.now) entries.now)) }
@@ -105,7 +105,7 @@ fn push_right_objects(
     entries: &[Reached],
     wanted: &[LanNo],
     shown_trees: &mut DistinctTrees,
-) -> Result<(), NoMemory>
+) -> Result<(), Memory>
     requires flow { flow < length (audited_value audited.now).domain.topology.flows }
     requires room { length shown_trees.old < 4096 }
     ensures shown_trees { OnOk result
@@ -134,7 +134,7 @@ fn lans_wanting_flow(
     alloc: Global,
     audited: &AuditedDomain<'_>,
     flow: u32,
-) -> Result<Vec<LanNo>, NoMemory>
+) -> Result<Vec<LanNo>, Memory>
     requires known { flow < length (audited_value audited.now).domain.topology.flows }
     ensures lans { IfOk result (λ lans. lans.items ≡ lans_wanting_flow audited.now flow) }
 {
@@ -153,7 +153,7 @@ fn push_right(
     copies: u32,
     shown_trees: &mut DistinctTrees,
     text: &mut String,
-) -> Result<FlowStatus, NoMemory>
+) -> Result<FlowStatus, Memory>
     requires flow { flow < length (audited_value audited.now).domain.topology.flows }
     requires copies { copies ≡ length entries.now }
     requires room { length shown_trees.old < 4096 }
@@ -184,10 +184,10 @@ fn push_with_verdict(
     audited: &AuditedDomain<'_>,
     flow: u32,
     entries: &[Reached],
-    answer: Result<Verdict, NoMemory>,
+    answer: Result<Verdict, Memory>,
     shown_trees: &mut DistinctTrees,
     text: &mut String,
-) -> Result<FlowStatus, NoMemory>
+) -> Result<FlowStatus, Memory>
     requires flow { flow < length (audited_value audited.now).domain.topology.flows }
     requires room { length shown_trees.old < 4096 }
     requires accepted { IfOk answer (λ verdict. verdict ≡ is_yes (length entries.now)) }
@@ -204,7 +204,7 @@ fn push_with_verdict(
             push_right(alloc, audited, flow, entries, copies, shown_trees, text)
         }
         Ok(Verdict::No(_)) => Ok(FlowStatus::of_wrong(true)),
-        Err(_) => Err(NoMemory),
+        Err(_) => Err(Memory),
     }
 }
 
@@ -216,7 +216,7 @@ pub(crate) fn push_checked(
     entries: &[Reached],
     shown_trees: &mut DistinctTrees,
     text: &mut String,
-) -> Result<FlowStatus, NoMemory>
+) -> Result<FlowStatus, Memory>
     requires flow { flow < length (audited_value audited.now).domain.topology.flows }
     requires room { length shown_trees.old < 4096 }
     requires lans { All (λ e. e.lan < length (audited_value audited.now).domain.topology.lans) entries.now }

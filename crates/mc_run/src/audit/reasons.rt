@@ -13,7 +13,7 @@ use crate::audit::audited_domain::AuditedDomain;
 use mc_explain::{Behind, Cause, LanSearch, ShownBy, behind_stray, search, shown_from};
 use mc_forward::{FlowView, Stray};
 use mc_replay::{Finding, FinishedTravel, First, replay};
-use mc_text::Memory as NoMemory;
+use mc_text::Memory;
 use std::alloc::Global;
 
 /// Why a flow has the finding of a packet, and which packets show it.
@@ -47,7 +47,7 @@ pub(crate) fn search_if_missed(
     audited: &AuditedDomain<'_>,
     flow: u32,
     ended: &FinishedTravel<'_>,
-) -> Result<Option<LanSearch>, NoMemory>
+) -> Result<Option<LanSearch>, Memory>
     requires flow { flow < length (audited_value audited.now).domain.topology.flows }
     requires ready { HasItsMarksAndInterfaces audited.now }
     requires ended { IsFinishedTravelOf (audited_value audited.now).domain flow 255 ended.now }
@@ -76,7 +76,7 @@ fn shown_from_if_less(
     audited: &AuditedDomain<'_>,
     flow: u32,
     ended: &FinishedTravel<'_>,
-) -> Result<Option<u8>, NoMemory>
+) -> Result<Option<u8>, Memory>
     requires flow { flow < length (audited_value audited.now).domain.topology.flows }
     requires ended { IsFinishedTravelOf (audited_value audited.now).domain flow 255 ended.now }
     ensures shown { IfOk result (λ shown_from. IsShownFromAt255 (audited_value audited.now).domain flow
@@ -108,7 +108,7 @@ fn found_below(
     audited: &AuditedDomain<'_>,
     flow: u32,
     shown_from: Option<u8>,
-) -> Result<Option<Finding>, NoMemory>
+) -> Result<Option<Finding>, Memory>
     requires flow { flow < length (audited_value audited.now).domain.topology.flows }
     ensures found { IfOk result (IsFoundBelow (is_whole (audited_value audited.now))
         (audited_value audited.now).domain flow shown_from) }
@@ -130,7 +130,7 @@ pub(crate) fn shown_by(
     audited: &AuditedDomain<'_>,
     flow: u32,
     ended: &FinishedTravel<'_>,
-) -> Result<ShownBy, NoMemory>
+) -> Result<ShownBy, Memory>
     requires flow { flow < length (audited_value audited.now).domain.topology.flows }
     requires ended { IsFinishedTravelOf (audited_value audited.now).domain flow 255 ended.now }
     ensures shown { IfOk result (IsShownBy (is_whole (audited_value audited.now))
@@ -147,7 +147,7 @@ pub(crate) fn behind_if_stray(
     audited: &AuditedDomain<'_>,
     flow: u32,
     finding: Finding,
-) -> Result<Option<Behind>, NoMemory>
+) -> Result<Option<Behind>, Memory>
     requires flow { flow < length (audited_value audited.now).domain.topology.flows }
     ensures behind { IfOk result (IsBehindIfStray (is_whole (audited_value audited.now))
         (audited_value audited.now).domain flow finding) }

@@ -13,7 +13,7 @@ ghost use Rattle.mc_run.specs.WantsSoFar.{ReadsPiece, ReadsPieces};
 use crate::fault::RunFault;
 use mc_filter::is_wanted;
 use mc_igmp::ListReader;
-use mc_text::{Addr, Input, Memory as NoMemory, Output, write_all};
+use mc_text::{Addr, Input, Memory, Output, write_all};
 use std::alloc::Global;
 
 /// The number of bytes that are read from the input at once.
@@ -26,7 +26,7 @@ fn wanted_in_piece(
     piece: &[u8],
     group: Addr,
     source: Addr,
-) -> Result<bool, NoMemory>
+) -> Result<bool, Memory>
     ensures pieces_read { IfOk result (λ wanted.
         ReadsPiece reader.old reader.new piece.now group source wanted) }
     ensures size { OnOk result

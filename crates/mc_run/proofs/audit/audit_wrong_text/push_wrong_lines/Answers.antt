@@ -4,7 +4,7 @@ use Rattle.mc_forward.specs.FlightsInDomain.{FlowOfDomain}
 use Rattle.mc_explain.specs.ExplanationValues.{explanation_value}
 use Rattle.mc_run.specs.AuditPieces.{audited_value}
 use Rattle.mc_run.proofs.ExplanationLemmas.{wrong_lines-pushed}
-use Rattle.mc_run.proofs.audit.audit_wrong.push_wrong_lines.Goals as goal
+use Rattle.mc_run.proofs.audit.audit_wrong_text.push_wrong_lines.Goals as goal
 
 pub returns : goal.returns
 returns c = record {

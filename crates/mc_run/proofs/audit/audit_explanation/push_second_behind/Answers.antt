@@ -2,7 +2,7 @@ use Rattle.std.proofs.Common.{◌∙◌}
 use Rattle.mc_forward.specs.ListedTables.{facts}
 use Rattle.mc_run.specs.AuditPieces.{audited_value}
 use Rattle.mc_run.proofs.ExplanationLemmas.{second_behind-pushed}
-use Rattle.mc_run.proofs.audit.audit_wrong.push_second_behind.Goals as goal
+use Rattle.mc_run.proofs.audit.audit_explanation.push_second_behind.Goals as goal
 
 pub returns : goal.returns
 returns c = record {
@@ -11,9 +11,9 @@ returns c = record {
       second_behind-pushed (facts v.domain) v.summary c.args.flow c.args.behind.now
       c.shown-finding.result.topology.now
       c.in-Some.finding c.shown-finding.result.finding c.deref.result.now
-      c.push_deeper_shown_from.result _ _ _ _
+      c.push_shown_from.result _ _ _ _
       (c.shown-finding.ensures.topology ∙ c.topology.ensures.topology)
       c.shown-finding.ensures.finding c.in-Some.is
       c.deref.ensures.value c.in_ok-writeln.ensures.bytes c.in_ok-push_deeper_causes.ensures.lines
-      c.push_deeper_shown_from.ensures);
+      c.push_shown_from.ensures);
 }

@@ -3,7 +3,7 @@ use Rattle.std.specs.String.{string_bytes}
 use Rattle.mc_topology.specs.Topology.{TopologyValue}
 use Rattle.mc_replay.specs.declared.finding.Finding.{Finding}
 use Rattle.mc_run.specs.AuditText.{at_flow_ttl_text}
-use Rattle.mc_run.proofs.audit.audit_wrong.push_at_flow_ttl.Goals as goal
+use Rattle.mc_run.proofs.audit.audit_shown_by.push_at_flow_ttl.Goals as goal
 
 pub returns-in_ok-writeln : goal.returns-in_ok-writeln
 returns-in_ok-writeln c =

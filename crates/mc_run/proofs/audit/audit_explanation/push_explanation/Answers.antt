@@ -1,7 +1,7 @@
 use Rattle.mc_explain.specs.ExplanationValues.{explanation_value}
 use Rattle.mc_run.specs.AuditPieces.{audited_value}
 use Rattle.mc_run.proofs.ExplanationLemmas.{explanation_lines-pushed}
-use Rattle.mc_run.proofs.audit.audit_wrong.push_explanation.Goals as goal
+use Rattle.mc_run.proofs.audit.audit_explanation.push_explanation.Goals as goal
 
 pub returns : goal.returns
 returns c = record {

@@ -97,6 +97,12 @@ pub record IsFlowPushed (v : AuditedValue) (o : AuditOptions) (flow : ℕ) (flow
   pub shown_trees : new_printed ≡ shown_trees_with o answer.net printed answer.examined answer.wanted
   pub spelled : new ≡ old ++ answer.lines
 
+-- The lines of the flow with this number and its finding were appended, and this is its status. They print no
+-- tree, whichever trees the lines of earlier flows have printed.
+abbrev pub IsFindingPushed : AuditedDomain → (flow : ℕ) → FlowStatus → (old new : List ℕ) → Type 0
+IsFindingPushed a flow flow_status old new = (printed : List Tree)
+    → IsFlowPushed (audited_value a) a.options flow flow_status printed printed old new
+
 -- The lines of the first k flows were appended; these are the counts of these flows, and the trees that they
 -- have printed.
 pub record AreFlowsPushed (v : AuditedValue) (o : AuditOptions) (k : ℕ) (s : FlowCounts)

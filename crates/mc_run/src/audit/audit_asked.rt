@@ -1,6 +1,6 @@
 //! Writes the lines of what hosts ask for and no flow answers.
 
-ghost use Rattle.std.specs.Prelude.{◌≡◌, ◌<◌, ◌++◌, IfOk, OnOk, flat_map, length, not, slice_get};
+ghost use Rattle.std.specs.Prelude.{◌≡◌, ◌<◌, ◌++◌, IfOk, OnOk, length, not, slice_get};
 ghost use Rattle.std.specs.String.{string_bytes};
 ghost use Rattle.mc_explain.specs.AskedText.{listed_sources};
 ghost use Rattle.mc_forward.specs.ListedTables.{flow_pairs};
@@ -103,10 +103,10 @@ fn push_numbered_line(
     json: bool,
     number: usize,
 ) -> Result<(), Memory>
-    requires within { number < length (audited_value audited.now).asked.lines }
+    requires within { number < length audited.now.asked.now.lines }
     ensures { OnOk result (string_bytes text.new ≡ string_bytes text.old
-        ++ numbered_asked_line json (audited_value audited.now).domain.topology
-        (not (is_whole (audited_value audited.now))) (audited_value audited.now).asked number) }
+        ++ numbered_asked_line json audited.now.domain.now.topology
+        (not (is_whole (audited_value audited.now))) audited.now.asked.now number) }
 {
     let topology = audited.domain.topology();
     let shared = &audited.asked.lines()[number];
@@ -131,7 +131,7 @@ fn push_asked_end(
     json: bool,
 ) -> Result<(), Memory>
     ensures { OnOk result (string_bytes text.new ≡ string_bytes text.old
-        ++ asked_end json (audited_value audited.now).domain.topology (audited_value audited.now).asked) }
+        ++ asked_end json audited.now.domain.now.topology audited.now.asked.now) }
 {
     let (further, services) = (audited.asked.further(), audited.asked.services());
     if json {
@@ -151,8 +151,8 @@ pub(crate) fn push_asked_lines(
     json: bool,
 ) -> Result<(), Memory>
     ensures { OnOk result (string_bytes text.new ≡ string_bytes text.old
-        ++ asked_lines json (audited_value audited.now).domain.topology
-        (not (is_whole (audited_value audited.now))) (audited_value audited.now).asked) }
+        ++ asked_lines json audited.now.domain.now.topology
+        (not (is_whole (audited_value audited.now))) audited.now.asked.now) }
 {
     for number in 0..audited.asked.lines().len() {
         push_numbered_line(alloc, text, audited, json, number)?;

@@ -6,7 +6,7 @@ ghost use Rattle.mc_forward.specs.ListedTables.{facts};
 ghost use Rattle.mc_run.specs.AuditEnd.{begin_lines, ignore_words, option_words, strict_line};
 ghost use Rattle.mc_run.specs.AuditEnd.{strict_lines, summary_line, verdict_line, without_words};
 ghost use Rattle.mc_run.specs.AuditEnd.{word_if_asked};
-ghost use Rattle.mc_run.specs.AuditPieces.{audited_value, end_objects_of, end_text_of};
+ghost use Rattle.mc_run.specs.AuditPieces.{end_objects_of, end_text_of};
 ghost use Rattle.mc_run.specs.AuditPieces.{end_text_or_objects_of};
 
 use crate::audit::audit_asked::push_asked_lines;
@@ -132,7 +132,7 @@ fn option_words(
 /// The begin of the text: in JSON a line with the domain and the words of the call, else nothing.
 pub(crate) fn begin_lines(alloc: Global, audited: &AuditedDomain<'_>) -> Result<String, Memory>
     ensures { IfOk result (λ text. string_bytes text ≡ begin_lines audited.now.options
-        (facts (audited_value audited.now).domain) audited.now.excluded.now audited.now.ignored.now) }
+        (facts audited.now.domain.now) audited.now.excluded.now audited.now.ignored.now) }
 {
     let options = audited.options;
     let mut text = String::new(alloc);
@@ -208,7 +208,7 @@ fn push_end_text(
     asked: u64,
     all: bool,
 ) -> Result<(), Memory>
-    requires asked { asked ≡ (audited_value audited.now).asked.count }
+    requires asked { asked ≡ audited.now.asked.now.count }
     ensures { OnOk result (string_bytes text.new ≡ string_bytes text.old
         ++ end_text_of audited.now flow_counts all) }
 {
@@ -233,7 +233,7 @@ fn push_end_objects(
     flow_counts: FlowCounts,
     asked: u64,
 ) -> Result<(), Memory>
-    requires asked { asked ≡ (audited_value audited.now).asked.count }
+    requires asked { asked ≡ audited.now.asked.now.count }
     ensures { OnOk result (string_bytes text.new ≡ string_bytes text.old
         ++ end_objects_of audited.now flow_counts) }
 {
@@ -263,7 +263,7 @@ pub(crate) fn push_end(
     asked: u64,
     all: bool,
 ) -> Result<(), Memory>
-    requires asked { asked ≡ (audited_value audited.now).asked.count }
+    requires asked { asked ≡ audited.now.asked.now.count }
     ensures { OnOk result (string_bytes text.new ≡ string_bytes text.old
         ++ (end_text_or_objects_of audited.now flow_counts all
         ++ verdict_line audited.now.options.json all)) }

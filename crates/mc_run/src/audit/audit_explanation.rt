@@ -4,7 +4,7 @@
 ghost use Rattle.std.specs.Prelude.{◌≡◌, ◌<◌, ◌++◌, OnOk, length};
 ghost use Rattle.std.specs.String.{string_bytes};
 ghost use Rattle.mc_explain.specs.ExplanationValues.{explanation_value};
-ghost use Rattle.mc_run.specs.AuditPieces.{audited_value, behind_lines_of, explanation_lines_of};
+ghost use Rattle.mc_run.specs.AuditPieces.{behind_lines_of, explanation_lines_of};
 ghost use Rattle.mc_run.specs.AuditPieces.{searched_lines_of, second_behind_of};
 
 use crate::audit::audit_shown_by::push_shown_from;
@@ -22,7 +22,7 @@ fn push_search_if_any(
     flow: u32,
     found: &Option<LanSearch>,
 ) -> Result<(), Memory>
-    requires known { flow < length (audited_value audited.now).domain.topology.flows }
+    requires known { flow < length audited.now.domain.now.topology.flows }
     ensures added { OnOk result (string_bytes text.new ≡ string_bytes text.old
         ++ searched_lines_of audited.now flow found.now) }
 {
@@ -40,7 +40,7 @@ fn push_second_behind(
     flow: u32,
     behind: &Behind,
 ) -> Result<(), Memory>
-    requires known { flow < length (audited_value audited.now).domain.topology.flows }
+    requires known { flow < length audited.now.domain.now.topology.flows }
     ensures added { OnOk result (string_bytes text.new ≡ string_bytes text.old
         ++ second_behind_of audited.now flow behind.now) }
 {
@@ -68,7 +68,7 @@ fn push_behind_if_any(
     flow: u32,
     behind: &Option<Behind>,
 ) -> Result<(), Memory>
-    requires known { flow < length (audited_value audited.now).domain.topology.flows }
+    requires known { flow < length audited.now.domain.now.topology.flows }
     ensures added { OnOk result (string_bytes text.new ≡ string_bytes text.old
         ++ behind_lines_of audited.now flow behind.now) }
 {
@@ -87,7 +87,7 @@ pub(crate) fn push_explanation(
     flow: u32,
     explanation: &Explanation<'_>,
 ) -> Result<(), Memory>
-    requires flow { flow < length (audited_value audited.now).domain.topology.flows }
+    requires flow { flow < length audited.now.domain.now.topology.flows }
     ensures added { OnOk result (string_bytes text.new ≡ string_bytes text.old
         ++ explanation_lines_of audited.now flow (explanation_value explanation.now)) }
 {

@@ -1,12 +1,12 @@
 //! Writes the lines of one flow in an audit's text.
 
-ghost use Rattle.std.specs.Prelude.{◌≡◌, ◌<◌, IfOk, List, length};
+ghost use Rattle.std.specs.Prelude.{◌≡◌, ◌<◌, IfOk, length};
 ghost use Rattle.std.specs.String.{string_bytes};
-ghost use Rattle.mc_cert.specs.Certificate.{Tree};
 ghost use Rattle.mc_maker.specs.ExaminedFlights.{HasExaminedFlights, without_flights};
 ghost use Rattle.mc_maker.specs.declared.examined_flights.ExaminedFlights.TheVariants.{FoundAtTtl255};
 ghost use Rattle.mc_maker.specs.declared.examined_flights.ExaminedFlights.TheVariants.{FoundAtFlowTtl};
-ghost use Rattle.mc_run.specs.AuditPieces.{IsFlowPushed, HasItsMarksAndInterfaces, audited_value};
+ghost use Rattle.mc_run.specs.AuditPieces.{HasItsMarksAndInterfaces, IsFindingPushed, IsFlowPushed};
+ghost use Rattle.mc_run.specs.AuditPieces.{audited_value};
 ghost use Rattle.mc_run.specs.AuditExplanation.{ArePrintedCauses, is_remedy as says_remedy, without_remedies};
 ghost use Rattle.mc_run.specs.AuditedFiles.{is_whole};
 ghost use Rattle.mc_run.specs.MakeRun.{IsExamined};
@@ -37,7 +37,7 @@ fn without_remedies(whole: bool, causes: Vec<Cause>) -> Vec<Cause>
 {
     let mut causes = causes;
     if !whole {
-        causes.retain(|it| !is_remedy(it));
+        causes.retain(|cause| !is_remedy(cause));
     }
     causes
 }
@@ -49,16 +49,16 @@ fn causes_to_print(
     flow: u32,
     flights: &ExaminedFlights<'_>,
 ) -> Result<Vec<Cause>, Memory>
-    requires flow { flow < length (audited_value audited.now).domain.topology.flows }
-    requires flights { HasExaminedFlights (audited_value audited.now).domain flow flights.now }
+    requires flow { flow < length audited.now.domain.now.topology.flows }
+    requires flights { HasExaminedFlights audited.now.domain.now flow flights.now }
     ensures causes { IfOk result (λ causes. ArePrintedCauses (is_whole (audited_value audited.now))
-        (audited_value audited.now).domain flow flights.now causes.items) }
+        audited.now.domain.now flow flights.now causes.items) }
 {
     let causes = explain(alloc, audited.domain, flow, flights)?;
     Ok(without_remedies(audited.without.is_empty(), causes))
 }
 
-/// Writes what a packet with TTL 255 meets, and why. Returns the flow's status.
+/// Writes what is found of a packet with TTL 255, and why. Returns the flow's status.
 fn push_found_at_255(
     alloc: Global,
     audited: &AuditedDomain<'_>,
@@ -67,16 +67,14 @@ fn push_found_at_255(
     ended: &FinishedTravel<'_>,
     text: &mut String,
 ) -> Result<FlowStatus, Memory>
-    requires flow { flow < length (audited_value audited.now).domain.topology.flows }
+    requires flow { flow < length audited.now.domain.now.topology.flows }
     requires ready { HasItsMarksAndInterfaces audited.now }
-    requires flights { HasExaminedFlights (audited_value audited.now).domain flow flights.now }
-    requires examined { IsExamined (audited_value audited.now).domain flow
-        (without_flights (audited_value audited.now).domain flow flights.now) }
-    requires is { flights.now ≡ FoundAtTtl255 ended.now }
-    ensures ok { IfOk result (λ flow_status. (shown_trees : List Tree)
-        → IsFlowPushed (audited_value audited.now)
-        audited.now.options flow flow_status shown_trees shown_trees (string_bytes text.old)
-        (string_bytes text.new)) }
+    requires flights { HasExaminedFlights audited.now.domain.now flow flights.now }
+    requires examined { IsExamined audited.now.domain.now flow
+        (without_flights audited.now.domain.now flow flights.now) }
+    requires found { flights.now ≡ FoundAtTtl255 ended.now }
+    ensures ok { IfOk result (λ flow_status. IsFindingPushed audited.now flow flow_status
+        (string_bytes text.old) (string_bytes text.new)) }
 {
     let causes = causes_to_print(alloc, audited, flow, flights)?;
     let search = search_if_missed(alloc, audited, flow, ended)?;
@@ -91,7 +89,8 @@ fn push_found_at_255(
     push_wrong(alloc, audited, flow, ended, 255, &reasons, text)
 }
 
-/// Writes what a packet with the flow's TTL meets, and why. Returns the flow's status.
+/// Writes what is found of a packet with the flow's TTL, where one with TTL 255 shows no fault, and why.
+/// Returns the flow's status.
 fn push_found_at_flow_ttl(
     alloc: Global,
     audited: &AuditedDomain<'_>,
@@ -101,15 +100,13 @@ fn push_found_at_flow_ttl(
     least: &FinishedTravel<'_>,
     text: &mut String,
 ) -> Result<FlowStatus, Memory>
-    requires flow { flow < length (audited_value audited.now).domain.topology.flows }
-    requires flights { HasExaminedFlights (audited_value audited.now).domain flow flights.now }
-    requires examined { IsExamined (audited_value audited.now).domain flow
-        (without_flights (audited_value audited.now).domain flow flights.now) }
-    requires is { flights.now ≡ FoundAtFlowTtl greatest.now least.now }
-    ensures ok { IfOk result (λ flow_status. (shown_trees : List Tree)
-        → IsFlowPushed (audited_value audited.now)
-        audited.now.options flow flow_status shown_trees shown_trees (string_bytes text.old)
-        (string_bytes text.new)) }
+    requires flow { flow < length audited.now.domain.now.topology.flows }
+    requires flights { HasExaminedFlights audited.now.domain.now flow flights.now }
+    requires examined { IsExamined audited.now.domain.now flow
+        (without_flights audited.now.domain.now flow flights.now) }
+    requires found { flights.now ≡ FoundAtFlowTtl greatest.now least.now }
+    ensures ok { IfOk result (λ flow_status. IsFindingPushed audited.now flow flow_status
+        (string_bytes text.old) (string_bytes text.new)) }
 {
     let view = FlowView::new(audited.domain, flow);
     let ttl = view.ttl();
@@ -135,15 +132,14 @@ fn push_examined(
     shown_trees: &mut DistinctTrees,
     text: &mut String,
 ) -> Result<FlowStatus, Memory>
-    requires flow { flow < length (audited_value audited.now).domain.topology.flows }
+    requires flow { flow < length audited.now.domain.now.topology.flows }
     requires ready { HasItsMarksAndInterfaces audited.now }
     requires room { length shown_trees.old < 4096 }
-    requires flights { HasExaminedFlights (audited_value audited.now).domain flow flights.now }
-    requires examined { IsExamined (audited_value audited.now).domain flow
-        (without_flights (audited_value audited.now).domain flow flights.now) }
-    ensures ok { IfOk result (λ flow_status. IsFlowPushed (audited_value audited.now)
-        audited.now.options flow flow_status shown_trees.old shown_trees.new (string_bytes text.old)
-        (string_bytes text.new)) }
+    requires flights { HasExaminedFlights audited.now.domain.now flow flights.now }
+    requires examined { IsExamined audited.now.domain.now flow
+        (without_flights audited.now.domain.now flow flights.now) }
+    ensures ok { IfOk result (λ flow_status. IsFlowPushed (audited_value audited.now) audited.now.options
+        flow flow_status shown_trees.old shown_trees.new (string_bytes text.old) (string_bytes text.new)) }
 {
     match flights {
         ExaminedFlights::Certified(entries) => {
@@ -167,12 +163,11 @@ pub(crate) fn push_flow(
     shown_trees: &mut DistinctTrees,
     text: &mut String,
 ) -> Result<FlowStatus, Memory>
-    requires flow { flow < length (audited_value audited.now).domain.topology.flows }
+    requires flow { flow < length audited.now.domain.now.topology.flows }
     requires ready { HasItsMarksAndInterfaces audited.now }
     requires room { length shown_trees.old < 4096 }
-    ensures ok { IfOk result (λ flow_status. IsFlowPushed (audited_value audited.now)
-        audited.now.options flow flow_status shown_trees.old shown_trees.new (string_bytes text.old)
-        (string_bytes text.new)) }
+    ensures ok { IfOk result (λ flow_status. IsFlowPushed (audited_value audited.now) audited.now.options
+        flow flow_status shown_trees.old shown_trees.new (string_bytes text.old) (string_bytes text.new)) }
 {
     let flights = examine_to_end(alloc, audited.domain, flow)?;
     push_examined(alloc, audited, flow, &flights, shown_trees, text)

@@ -12,7 +12,7 @@ ghost use Rattle.mc_cert.specs.Distinct.{tree_number_of, with_tree};
 ghost use Rattle.mc_check.specs.declared.verdict.Verdict.TheVariants.{Yes as is_yes};
 ghost use Rattle.mc_json.specs.TreeKey.{tree_key};
 ghost use Rattle.mc_run.specs.AuditObjects.{tree_line};
-ghost use Rattle.mc_run.specs.AuditPieces.{audited_value, key_of_shown_tree, lans_wanting_flow};
+ghost use Rattle.mc_run.specs.AuditPieces.{key_of_shown_tree, lans_wanting_flow};
 ghost use Rattle.mc_run.specs.AuditPieces.{right_flow_lines_of, right_lines_of, right_objects_of};
 ghost use Rattle.mc_run.specs.AuditPieces.{shown_trees_with_right, status_of_right_flow};
 ghost use Rattle.mc_run.specs.AuditText.{right_line};
@@ -57,7 +57,7 @@ fn push_right_lines(
     copies: u32,
     wanted: &[LanNo],
 ) -> Result<(), Memory>
-    requires known { flow < length (audited_value audited.now).domain.topology.flows }
+    requires known { flow < length audited.now.domain.now.topology.flows }
     ensures lines { OnOk result (string_bytes text.new ≡ string_bytes text.old
         ++ right_lines_of audited.now flow copies wanted.now) }
 {
@@ -106,7 +106,7 @@ fn push_right_objects(
     wanted: &[LanNo],
     shown_trees: &mut DistinctTrees,
 ) -> Result<(), Memory>
-    requires flow { flow < length (audited_value audited.now).domain.topology.flows }
+    requires flow { flow < length audited.now.domain.now.topology.flows }
     requires room { length shown_trees.old < 4096 }
     ensures shown_trees { OnOk result
         (shown_trees.new ≡ with_tree shown_trees.old (key_of_shown_tree audited.now flow entries.now)) }
@@ -135,7 +135,7 @@ fn lans_wanting_flow(
     audited: &AuditedDomain<'_>,
     flow: u32,
 ) -> Result<Vec<LanNo>, Memory>
-    requires known { flow < length (audited_value audited.now).domain.topology.flows }
+    requires known { flow < length audited.now.domain.now.topology.flows }
     ensures lans { IfOk result (λ lans. lans.items ≡ lans_wanting_flow audited.now flow) }
 {
     let view = FlowView::new(audited.domain, flow);
@@ -154,7 +154,7 @@ fn push_right(
     shown_trees: &mut DistinctTrees,
     text: &mut String,
 ) -> Result<FlowStatus, Memory>
-    requires flow { flow < length (audited_value audited.now).domain.topology.flows }
+    requires flow { flow < length audited.now.domain.now.topology.flows }
     requires copies { copies ≡ length entries.now }
     requires room { length shown_trees.old < 4096 }
     ensures flow_status { IfOk result (λ flow_status.
@@ -188,7 +188,7 @@ fn push_with_verdict(
     shown_trees: &mut DistinctTrees,
     text: &mut String,
 ) -> Result<FlowStatus, Memory>
-    requires flow { flow < length (audited_value audited.now).domain.topology.flows }
+    requires flow { flow < length audited.now.domain.now.topology.flows }
     requires room { length shown_trees.old < 4096 }
     requires accepted { IfOk answer (λ verdict. verdict ≡ is_yes (length entries.now)) }
     ensures answered { OnOk result (IsOkAnd answer (λ verdict. verdict ≡ is_yes (length entries.now))) }
@@ -217,12 +217,12 @@ pub(crate) fn push_checked(
     shown_trees: &mut DistinctTrees,
     text: &mut String,
 ) -> Result<FlowStatus, Memory>
-    requires flow { flow < length (audited_value audited.now).domain.topology.flows }
+    requires flow { flow < length audited.now.domain.now.topology.flows }
     requires room { length shown_trees.old < 4096 }
-    requires lans { All (λ e. e.lan < length (audited_value audited.now).domain.topology.lans) entries.now }
-    requires accepted { IsAccepted (net_of (audited_value audited.now).domain flow) entries.now }
+    requires lans { All (λ e. e.lan < length audited.now.domain.now.topology.lans) entries.now }
+    requires accepted { IsAccepted (net_of audited.now.domain.now flow) entries.now }
     ensures headline { OnOk result
-        (HeadlineHolds (net_of (audited_value audited.now).domain flow) (length entries.now)) }
+        (HeadlineHolds (net_of audited.now.domain.now flow) (length entries.now)) }
     ensures flow_status { IfOk result (λ flow_status.
         flow_status ≡ status_of_right_flow audited.now flow) }
     ensures shown_trees { OnOk result

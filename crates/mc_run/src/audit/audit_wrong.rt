@@ -5,7 +5,7 @@ ghost use Rattle.std.specs.Prelude.{◌≡◌, ◌<◌, ◌++◌, IfOk, OnOk, le
 ghost use Rattle.std.specs.String.{string_bytes};
 ghost use Rattle.mc_explain.specs.ExplanationValues.{explanation_value};
 ghost use Rattle.mc_run.specs.AuditObjects.{events_asked};
-ghost use Rattle.mc_run.specs.AuditPieces.{audited_value, explained_lines_of, status_of_wrong_flow};
+ghost use Rattle.mc_run.specs.AuditPieces.{explained_lines_of, status_of_wrong_flow};
 ghost use Rattle.mc_run.specs.AuditPieces.{wrong_flow_lines_of, wrong_object_of};
 
 use crate::audit::audit_wrong_text::push_wrong_lines;
@@ -40,7 +40,7 @@ fn push_wrong_object(
     ttl: u8,
     explanation: &Explanation<'_>,
 ) -> Result<(), Memory>
-    requires flow { flow < length (audited_value audited.now).domain.topology.flows }
+    requires flow { flow < length audited.now.domain.now.topology.flows }
     ensures added { OnOk result (string_bytes text.new ≡ string_bytes text.old
         ++ wrong_object_of audited.now flow ttl travel.now (explanation_value explanation.now)) }
 {
@@ -69,7 +69,7 @@ fn push_explained(
     explanation: &Explanation<'_>,
     text: &mut String,
 ) -> Result<(), Memory>
-    requires flow { flow < length (audited_value audited.now).domain.topology.flows }
+    requires flow { flow < length audited.now.domain.now.topology.flows }
     ensures added { OnOk result (string_bytes text.new ≡ string_bytes text.old
         ++ explained_lines_of audited.now flow ttl ended.now (explanation_value explanation.now)) }
 {
@@ -92,7 +92,7 @@ pub(crate) fn push_wrong(
     reasons: &Reasons,
     text: &mut String,
 ) -> Result<FlowStatus, Memory>
-    requires flow { flow < length (audited_value audited.now).domain.topology.flows }
+    requires flow { flow < length audited.now.domain.now.topology.flows }
     ensures flow_status { IfOk result (λ flow_status.
         flow_status ≡ status_of_wrong_flow audited.now reasons.now.search) }
     ensures added { OnOk result (string_bytes text.new ≡ string_bytes text.old

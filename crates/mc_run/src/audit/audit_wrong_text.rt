@@ -3,7 +3,7 @@
 ghost use Rattle.std.specs.Prelude.{◌≡◌, ◌<◌, ◌++◌, OnOk, length};
 ghost use Rattle.std.specs.String.{string_bytes};
 ghost use Rattle.mc_explain.specs.ExplanationValues.{explanation_value};
-ghost use Rattle.mc_run.specs.AuditPieces.{audited_value, wrong_lines_of};
+ghost use Rattle.mc_run.specs.AuditPieces.{wrong_lines_of};
 ghost use Rattle.mc_run.specs.AuditText.{events_if_shown, found_flow_line, known_word};
 
 use crate::audit::audit_explanation::push_explanation;
@@ -69,7 +69,7 @@ pub(crate) fn push_wrong_lines(
     travel: &Travel,
     explanation: &Explanation<'_>,
 ) -> Result<(), Memory>
-    requires flow { flow < length (audited_value audited.now).domain.topology.flows }
+    requires flow { flow < length audited.now.domain.now.topology.flows }
     ensures added { OnOk result (string_bytes text.new ≡ string_bytes text.old
         ++ wrong_lines_of audited.now flow travel.now (explanation_value explanation.now)) }
 {

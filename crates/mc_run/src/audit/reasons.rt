@@ -48,9 +48,9 @@ pub(crate) fn search_if_missed(
     flow: u32,
     ended: &FinishedTravel<'_>,
 ) -> Result<Option<LanSearch>, Memory>
-    requires flow { flow < length (audited_value audited.now).domain.topology.flows }
+    requires flow { flow < length audited.now.domain.now.topology.flows }
     requires ready { HasItsMarksAndInterfaces audited.now }
-    requires ended { IsFinishedTravelOf (audited_value audited.now).domain flow 255 ended.now }
+    requires ended { IsFinishedTravelOf audited.now.domain.now flow 255 ended.now }
     ensures search { IfOk result (IsSearchIfMissed (search_context_of audited.now flow ended.now)
         ended.now.travel.events.items ended.now.travel.finding) }
 {
@@ -77,9 +77,9 @@ fn shown_from_if_less(
     flow: u32,
     ended: &FinishedTravel<'_>,
 ) -> Result<Option<u8>, Memory>
-    requires flow { flow < length (audited_value audited.now).domain.topology.flows }
-    requires ended { IsFinishedTravelOf (audited_value audited.now).domain flow 255 ended.now }
-    ensures shown { IfOk result (λ shown_from. IsShownFromAt255 (audited_value audited.now).domain flow
+    requires flow { flow < length audited.now.domain.now.topology.flows }
+    requires ended { IsFinishedTravelOf audited.now.domain.now flow 255 ended.now }
+    ensures shown { IfOk result (λ shown_from. IsShownFromAt255 audited.now.domain.now flow
         (FoundAtTtl255 ended.now) shown_from) }
 {
     let view = FlowView::new(audited.domain, flow);
@@ -109,9 +109,9 @@ fn found_below(
     flow: u32,
     shown_from: Option<u8>,
 ) -> Result<Option<Finding>, Memory>
-    requires flow { flow < length (audited_value audited.now).domain.topology.flows }
+    requires flow { flow < length audited.now.domain.now.topology.flows }
     ensures found { IfOk result (IsFoundBelow (is_whole (audited_value audited.now))
-        (audited_value audited.now).domain flow shown_from) }
+        audited.now.domain.now flow shown_from) }
 {
     let ttl = audited.domain.topology().flow(flow).ttl;
     let Some(from) = shown_from else {
@@ -131,10 +131,10 @@ pub(crate) fn shown_by(
     flow: u32,
     ended: &FinishedTravel<'_>,
 ) -> Result<ShownBy, Memory>
-    requires flow { flow < length (audited_value audited.now).domain.topology.flows }
-    requires ended { IsFinishedTravelOf (audited_value audited.now).domain flow 255 ended.now }
+    requires flow { flow < length audited.now.domain.now.topology.flows }
+    requires ended { IsFinishedTravelOf audited.now.domain.now flow 255 ended.now }
     ensures shown { IfOk result (IsShownBy (is_whole (audited_value audited.now))
-        (audited_value audited.now).domain flow (FoundAtTtl255 ended.now)) }
+        audited.now.domain.now flow (FoundAtTtl255 ended.now)) }
 {
     let from = shown_from_if_less(alloc, audited, flow, ended)?;
     let at_flow_ttl = found_below(alloc, audited, flow, from)?;
@@ -148,9 +148,9 @@ pub(crate) fn behind_if_stray(
     flow: u32,
     finding: Finding,
 ) -> Result<Option<Behind>, Memory>
-    requires flow { flow < length (audited_value audited.now).domain.topology.flows }
+    requires flow { flow < length audited.now.domain.now.topology.flows }
     ensures behind { IfOk result (IsBehindIfStray (is_whole (audited_value audited.now))
-        (audited_value audited.now).domain flow finding) }
+        audited.now.domain.now flow finding) }
 {
     match finding {
         Finding::Stray(router, vif) => {

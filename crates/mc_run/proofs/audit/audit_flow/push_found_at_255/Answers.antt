@@ -12,13 +12,13 @@ pub search_if_missed-requires-clause-ended : goal.search_if_missed-requires-clau
 search_if_missed-requires-clause-ended c =
     is_finished_travel-at_255 (audited_value c.args.audited.now).domain c.args.flow
     c.args.flights.now c.args.ended.now
-    c.requires.is c.requires.flights
+    c.requires.found c.requires.flights
 
 pub shown_by-requires-clause-ended : goal.shown_by-requires-clause-ended
 shown_by-requires-clause-ended c =
     is_finished_travel-at_255 (audited_value c.args.audited.now).domain c.args.flow
     c.args.flights.now c.args.ended.now
-    c.requires.is c.requires.flights
+    c.requires.found c.requires.flights
 
 pub returns : goal.returns
 returns c = record {
@@ -38,9 +38,9 @@ returns c = record {
       (wrong_flow_lines o (facts v.domain) v.summary c.args.flow 255 ended.travel x)
       (λ written puts. is_flow_pushed-wrong v o c.args.flow c.args.flights.now 255 ended.travel x _ written
       c.requires.flow c.requires.flights
-      c.requires.examined (ap (without_flights v.domain c.args.flow) c.requires.is)
+      c.requires.examined (ap (without_flights v.domain c.args.flow) c.requires.found)
       (is_explanation-at_255 v c.args.flow c.args.flights.now ended causes found behind shown
-      c.requires.is c.requires.flights c.in_ok-causes.ensures.causes c.in_ok-search.ensures.search
+      c.requires.found c.requires.flights c.in_ok-causes.ensures.causes c.in_ok-search.ensures.search
       c.in_ok-behind.ensures.behind c.in_ok-shown_by.ensures.shown) puts)
       c.push_wrong.ensures.added));
 }

@@ -25,10 +25,10 @@ returns c = record {
       (wrong_flow_lines o (facts v.domain) v.summary c.args.flow ttl least.travel x)
       (λ written puts. is_flow_pushed-wrong v o c.args.flow c.args.flights.now ttl least.travel x _ written
       c.requires.flow c.requires.flights c.requires.examined
-      (ap (without_flights v.domain c.args.flow) c.requires.is
+      (ap (without_flights v.domain c.args.flow) c.requires.found
       ∙ found-ttl_of_view v.domain c.args.flow ttl c.new-view.result least.travel c.new-view.ensures.flow
       c.ttl-ttl.ensures)
       (is_explanation-at_flow_ttl v c.args.flow c.args.flights.now c.args.greatest.now least causes
-      c.requires.is c.requires.flights c.in_ok-causes.ensures.causes) puts)
+      c.requires.found c.requires.flights c.in_ok-causes.ensures.causes) puts)
       c.push_wrong.ensures.added));
 }

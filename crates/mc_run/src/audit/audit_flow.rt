@@ -14,7 +14,7 @@ ghost use Rattle.mc_run.specs.MakeRun.{IsExamined};
 use crate::audit::audit_right::push_checked;
 use crate::audit::audit_wrong::push_wrong;
 use crate::audit::audited_domain::AuditedDomain;
-use crate::audit::flow_status::FlowStatus;
+use crate::audit::flow_status::{FlowStatus, MAX_FLOWS};
 use crate::audit::reasons::{Reasons, behind_if_stray, search_if_missed, shown_by};
 use mc_cert::DistinctTrees;
 use mc_explain::{Cause, ShownBy, explain};
@@ -134,7 +134,7 @@ fn push_examined(
 ) -> Result<FlowStatus, Memory>
     requires flow { flow < length audited.now.domain.now.topology.flows }
     requires ready { HasItsMarksAndInterfaces audited.now }
-    requires room { length shown_trees.old < 4096 }
+    requires room { length shown_trees.old < MAX_FLOWS }
     requires flights { HasExaminedFlights audited.now.domain.now flow flights.now }
     requires examined { IsExamined audited.now.domain.now flow
         (without_flights audited.now.domain.now flow flights.now) }
@@ -165,7 +165,7 @@ pub(crate) fn push_flow(
 ) -> Result<FlowStatus, Memory>
     requires flow { flow < length audited.now.domain.now.topology.flows }
     requires ready { HasItsMarksAndInterfaces audited.now }
-    requires room { length shown_trees.old < 4096 }
+    requires room { length shown_trees.old < MAX_FLOWS }
     ensures ok { IfOk result (λ flow_status. IsFlowPushed (audited_value audited.now) audited.now.options
         flow flow_status shown_trees.old shown_trees.new (string_bytes text.old) (string_bytes text.new)) }
 {

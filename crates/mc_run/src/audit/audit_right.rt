@@ -18,7 +18,7 @@ ghost use Rattle.mc_run.specs.AuditPieces.{shown_trees_with_right, status_of_rig
 ghost use Rattle.mc_run.specs.AuditText.{right_line};
 
 use crate::audit::audited_domain::AuditedDomain;
-use crate::audit::flow_status::FlowStatus;
+use crate::audit::flow_status::{FlowStatus, MAX_FLOWS};
 use crate::shown::verdict_text::{FlowWords, push_flow_verdict};
 use mc_cert::{DistinctTrees, Reached};
 use mc_check::{Verdict, check_flow};
@@ -79,7 +79,7 @@ fn push_tree_once(
     shown_trees: &mut DistinctTrees,
     entries: &[Reached],
 ) -> Result<u32, Memory>
-    requires room { length shown_trees.old < 4096 }
+    requires room { length shown_trees.old < MAX_FLOWS }
     ensures shown_trees { OnOk result
         (shown_trees.new ≡ with_tree shown_trees.old (tree_key (net_in view.now) entries.now)) }
     ensures number { IfOk result (λ number.
@@ -107,7 +107,7 @@ fn push_right_objects(
     shown_trees: &mut DistinctTrees,
 ) -> Result<(), Memory>
     requires flow { flow < length audited.now.domain.now.topology.flows }
-    requires room { length shown_trees.old < 4096 }
+    requires room { length shown_trees.old < MAX_FLOWS }
     ensures shown_trees { OnOk result
         (shown_trees.new ≡ with_tree shown_trees.old (key_of_shown_tree audited.now flow entries.now)) }
     ensures lines { OnOk result (string_bytes text.new ≡ string_bytes text.old
@@ -156,7 +156,7 @@ fn push_right(
 ) -> Result<FlowStatus, Memory>
     requires flow { flow < length audited.now.domain.now.topology.flows }
     requires copies { copies ≡ length entries.now }
-    requires room { length shown_trees.old < 4096 }
+    requires room { length shown_trees.old < MAX_FLOWS }
     ensures flow_status { IfOk result (λ flow_status.
         flow_status ≡ status_of_right_flow audited.now flow) }
     ensures shown_trees { OnOk result
@@ -189,7 +189,7 @@ fn push_with_verdict(
     text: &mut String,
 ) -> Result<FlowStatus, Memory>
     requires flow { flow < length audited.now.domain.now.topology.flows }
-    requires room { length shown_trees.old < 4096 }
+    requires room { length shown_trees.old < MAX_FLOWS }
     requires accepted { IfOk answer (λ verdict. verdict ≡ is_yes (length entries.now)) }
     ensures answered { OnOk result (IsOkAnd answer (λ verdict. verdict ≡ is_yes (length entries.now))) }
     ensures flow_status { IfOk result (λ flow_status.
@@ -218,7 +218,7 @@ pub(crate) fn push_checked(
     text: &mut String,
 ) -> Result<FlowStatus, Memory>
     requires flow { flow < length audited.now.domain.now.topology.flows }
-    requires room { length shown_trees.old < 4096 }
+    requires room { length shown_trees.old < MAX_FLOWS }
     requires lans { All (λ e. e.lan < length audited.now.domain.now.topology.lans) entries.now }
     requires accepted { IsAccepted (net_of audited.now.domain.now flow) entries.now }
     ensures headline { OnOk result

@@ -5,6 +5,7 @@ use Rattle.mc_json.proofs.LoopStepLemmas.{flat_map-take_more}
 use Rattle.mc_run.specs.AuditEnd.{ignore_words}
 use Rattle.mc_run.proofs.audit.audit_end.push_all_ignore_words.Goals as goal
 
+-- The words of the range at this index are appended to those of the ranges before it.
 pub loop-range-preserved : goal.loop-range-preserved
 loop-range-preserved c =
     let ranges = c.args.ranges.now in

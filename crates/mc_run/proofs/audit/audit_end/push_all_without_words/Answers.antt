@@ -5,6 +5,7 @@ use Rattle.mc_json.proofs.LoopStepLemmas.{flat_map-take_more}
 use Rattle.mc_run.specs.AuditEnd.{without_words}
 use Rattle.mc_run.proofs.audit.audit_end.push_all_without_words.Goals as goal
 
+-- The words of the router at this index are appended to those of the routers before it.
 pub loop-router-preserved : goal.loop-router-preserved
 loop-router-preserved c =
     let routers = c.args.routers.now in

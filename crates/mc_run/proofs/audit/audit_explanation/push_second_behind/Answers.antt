@@ -4,6 +4,8 @@ use Rattle.mc_run.specs.AuditPieces.{audited_value}
 use Rattle.mc_run.proofs.ExplanationLemmas.{second_behind-pushed}
 use Rattle.mc_run.proofs.audit.audit_explanation.push_second_behind.Goals as goal
 
+-- The line of the second copy, its causes and the line on the packets that show it are appended one after
+-- another. The finding is there, since this is the case where one is.
 pub returns : goal.returns
 returns c = record {
   added = (

@@ -8,18 +8,23 @@ use Rattle.mc_run.proofs.AuditFlows.{is_flow_pushed-added, is_flow_pushed-status
 use Rattle.mc_run.proofs.ExplanationLemmas.{is_finished_travel-at_255, is_explanation-at_255}
 use Rattle.mc_run.proofs.audit.audit_flow.push_found_at_255.Goals as goal
 
+-- The flights of a finding at TTL 255 hold the finished travel of such a packet, which is what the search and
+-- the TTLs are asked of.
 pub search_if_missed-requires-clause-ended : goal.search_if_missed-requires-clause-ended
 search_if_missed-requires-clause-ended c =
     is_finished_travel-at_255 (audited_value c.args.audited.now).domain c.args.flow
     c.args.flights.now c.args.ended.now
     c.requires.found c.requires.flights
 
+-- It is the same travel as the search has.
 pub shown_by-requires-clause-ended : goal.shown_by-requires-clause-ended
 shown_by-requires-clause-ended c =
     is_finished_travel-at_255 (audited_value c.args.audited.now).domain c.args.flow
     c.args.flights.now c.args.ended.now
     c.requires.found c.requires.flights
 
+-- The causes, the search, what is behind a stray and the TTLs together are the explanation of this examination,
+-- so that the lines of `push_wrong` are those of the flow. They print no tree, whichever were printed before.
 pub returns : goal.returns
 returns c = record {
   ok = (

@@ -9,6 +9,8 @@ use Rattle.mc_run.proofs.AuditFlows.{found-ttl_of_view}
 use Rattle.mc_run.proofs.ExplanationLemmas.{is_explanation-at_flow_ttl, unsaid}
 use Rattle.mc_run.proofs.audit.audit_flow.push_found_at_flow_ttl.Goals as goal
 
+-- Only the causes are explained of such a finding: there is no search, nothing behind it and no TTL. The TTL
+-- that is printed is the flow's own, as its view has it.
 pub returns : goal.returns
 returns c = record {
   ok = (

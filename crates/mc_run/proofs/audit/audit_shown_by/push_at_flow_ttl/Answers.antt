@@ -5,6 +5,7 @@ use Rattle.mc_replay.specs.declared.finding.Finding.{Finding}
 use Rattle.mc_run.specs.AuditText.{at_flow_ttl_text}
 use Rattle.mc_run.proofs.audit.audit_shown_by.push_at_flow_ttl.Goals as goal
 
+-- The line is that of the finding that is given, with the names of this topology.
 pub returns-in_ok-writeln : goal.returns-in_ok-writeln
 returns-in_ok-writeln c =
     let ttl = c.args.ttl in

@@ -7,7 +7,6 @@ use Rattle.mc_files.specs.Files.{FileText}
 use Rattle.mc_tables.specs.Summary.{SummaryValue}
 use Rattle.mc_topology.specs.Topology.{TopologyValue, flow_at}
 use Rattle.mc_cert.specs.Certificate.{Tree}
-use Rattle.mc_theory.specs.Events.{Event}
 use Rattle.mc_theory.specs.Nets.{Interface, Net}
 use Rattle.mc_forward.specs.Domains.{DomainValue, IsDomain, net_of, ttl_of}
 use Rattle.mc_forward.specs.ListedTables.{DomainFacts, facts}

@@ -2,7 +2,7 @@
 -- to be trusted: by `SaysWhichAreRight` the text never misjudges a flow, and by `SaysOfEach` what its lines say
 -- of a flow is true of the tables that were read.
 use Rattle.std.specs.Prelude.{◌≡◌, ◌≤◌, ◌&&◌, ◌⊎◌, ℕ, Bool, true, false, List, ◌++◌, flat_map, length}
-use Rattle.std.specs.Prelude.{slice_get, Option, Some}
+use Rattle.std.specs.Prelude.{slice_get, Some}
 use Rattle.mc_files.specs.Files.{FileText}
 use Rattle.mc_topology.specs.Topology.{TopologyValue, flow_at}
 use Rattle.mc_theory.specs.Certificates.{IsAccepted, IsRight}

@@ -6,6 +6,8 @@ use Rattle.mc_json.specs.DomainData.{unmatched_data}
 use Rattle.mc_json.proofs.LoopStepLemmas.{flat_map-take_more}
 use Rattle.mc_json.proofs.domain_line.push_unmatched.Goals as goal
 
+-- The interface at this place is the topology's, and it is added exactly if its router has no vif of its
+-- device.
 pub loop-number-preserved : goal.loop-number-preserved
 loop-number-preserved c =
     let d = c.args.domain.now in

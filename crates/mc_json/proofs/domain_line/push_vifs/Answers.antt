@@ -8,10 +8,12 @@ use Rattle.mc_json.specs.DomainData.{vif_data}
 use Rattle.mc_json.proofs.LoopStepLemmas.{flat_map-below_more}
 use Rattle.mc_json.proofs.domain_line.push_vifs.Goals as goal
 
+-- No vif is below 0, and nothing was added.
 pub loop-vif-init : goal.loop-vif-init
 unfolding below
 loop-vif-init c = sym (append-nil (map data_of c.args.values.now.items))
 
+-- The next vif is added to those below it, if the router's table has a line for it.
 pub loop-vif-preserved : goal.loop-vif-preserved
 loop-vif-preserved c =
     let d = c.args.domain.now in

@@ -19,7 +19,8 @@ use Rattle.mc_cli.specs.declared.audit_options.AuditOptions.{AuditOptions}
 use Rattle.mc_run.specs.declared.audit.audit_output.AuditOutput.{AuditOutput}
 use Rattle.mc_run.specs.declared.fault.RunFault.{RunFault}
 use Rattle.mc_run.specs.declared.run_output.RunOutput.{RunOutput}
-use Rattle.mc_run.proofs.RunLemmas.{IsOutputOf, of_domain-implication, is_output_of-implication}
+use Rattle.mc_run.proofs.RunInputLemmas.{of_domain-implication}
+use Rattle.mc_run.proofs.RunLemmas.{IsOutputOf, is_output_of-implication}
 use Rattle.mc_run.proofs.FlowAnswerLemmas.{and-true_left, keeps_headline-all_certified}
 use Rattle.mc_run.proofs.FlowClaimLemmas.{writes_which_are_right-audited, yes_or_finding-audited}
 

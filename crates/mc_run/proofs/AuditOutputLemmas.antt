@@ -24,8 +24,9 @@ use Rattle.mc_run.proofs.AuditTextLemmas.{audit_write_fault-gives, audit_yes-giv
 use Rattle.mc_run.proofs.AuditLemmas.{is_output_of-each_flow, headline_of_files-audit_yes}
 use Rattle.mc_run.proofs.AuditLemmas.{is_write_fault-audit_output, is_output_of-which_are_right}
 use Rattle.mc_run.proofs.AuditLemmas.{is_output_of-audit}
-use Rattle.mc_run.proofs.RunLemmas.{IsOutputOf, headline-audit_says_yes, writes_part-output_written}
-use Rattle.mc_run.proofs.RunLemmas.{answers-output_written, writes-output_written}
+use Rattle.mc_run.proofs.RunLemmas.{IsOutputOf, writes_part-output_written, answers-output_written}
+use Rattle.mc_run.proofs.RunLemmas.{writes-output_written}
+use Rattle.mc_run.proofs.YesRunLemmas.{headline-audit_says_yes}
 use Rattle.mc_run.proofs.WholeDomainLemmas.{is_output_of-found_in_whole}
 use Rattle.mc_run.proofs.YesLines.{says_yes_by_line-verdict_yes, says_yes_by_line-yes_object}
 

@@ -41,8 +41,8 @@ use Rattle.mc_run.specs.AuditExplanation.{IsBehindIfStray, IsFoundBelow, IsFound
 use Rattle.mc_run.specs.AuditedFiles.{AuditedValue, excluded, is_whole}
 use Rattle.mc_explain.specs.ExplanationValues.{ExplanationValue}
 use Rattle.mc_run.specs.AuditText.{behind_text, events_if_shown, explanation_lines, searched_lines}
-use Rattle.mc_run.specs.AuditText.{found_flow_line, second_behind_text}
-use Rattle.mc_run.specs.AuditText.{shown_by_text, shown_from_text, wrong_lines}
+use Rattle.mc_run.specs.AuditText.{found_flow_line, second_behind_text, shown_by_text, shown_from_text}
+use Rattle.mc_run.specs.AuditText.{wrong_lines}
 use Rattle.mc_run.proofs.MissedLemmas.{missed_lan-below_count}
 
 -- ---- a search

@@ -50,7 +50,8 @@ use Rattle.mc_replay.specs.declared.travel.Travel.{Travel}
 use Rattle.mc_run.specs.MakeRun.{AreRight}
 use Rattle.mc_cli.specs.declared.audit_options.AuditOptions.{AuditOptions}
 use Rattle.mc_run.proofs.MakeLemmas.{are_certified-are_right}
-use Rattle.mc_run.proofs.FlowAnswerLemmas.{has_lines-each_answer, are_right-examinations, are_examined-answers, examinations_of}
+use Rattle.mc_run.proofs.FlowAnswerLemmas.{has_lines-each_answer, are_right-examinations}
+use Rattle.mc_run.proofs.FlowAnswerLemmas.{are_examined-answers, examinations_of}
 
 -- ---- which flows are right
 

@@ -32,7 +32,7 @@ use Rattle.mc_run.specs.AuditFlowText.{answer_lines}
 use Rattle.mc_cli.specs.declared.audit_options.AuditOptions.{AuditOptions}
 use Rattle.mc_run.specs.declared.fault.RunFault.{RunFault}
 use Rattle.mc_run.specs.declared.run_output.RunOutput.{RunOutput}
-use Rattle.mc_run.proofs.AuditFlows.{is_first_pick_travel-of_examined}
+use Rattle.mc_run.proofs.FlowPushedLemmas.{is_first_pick_travel-of_examined}
 use Rattle.mc_run.proofs.FlowAnswerLemmas.{has_lines-each_answer}
 use Rattle.mc_run.proofs.FlowClaimLemmas.{says_yes_of-certified}
 use Rattle.mc_run.proofs.RunLemmas.{IsOutputOf, is_output_of-implication}

@@ -20,7 +20,8 @@ use Rattle.mc_cli.specs.declared.audit_options.AuditOptions.{AuditOptions}
 use Rattle.mc_run.specs.declared.fault.RunFault.{RunFault}
 use Rattle.mc_run.specs.declared.run_output.RunOutput.{RunOutput}
 use Rattle.mc_run.proofs.AuditLines.{no_yes_line-text_before_verdict, text_before_verdict}
-use Rattle.mc_run.proofs.RunLemmas.{IsOutputOf, SaysYesByLine, headline-check_says_yes}
+use Rattle.mc_run.proofs.RunLemmas.{IsOutputOf}
+use Rattle.mc_run.proofs.YesRunLemmas.{SaysYesByLine, headline-check_says_yes}
 use Rattle.mc_run.proofs.VerdictLines.{AreLinesWithoutYes, words_at_line_start-cases, no_yes_line-flow_lines}
 
 -- ---- the last line

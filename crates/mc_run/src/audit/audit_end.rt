@@ -6,8 +6,7 @@ ghost use Rattle.mc_forward.specs.ListedTables.{facts};
 ghost use Rattle.mc_run.specs.AuditEnd.{begin_lines, ignore_words, option_words, strict_line};
 ghost use Rattle.mc_run.specs.AuditEnd.{strict_lines, summary_line, verdict_line, without_words};
 ghost use Rattle.mc_run.specs.AuditEnd.{word_if_asked};
-ghost use Rattle.mc_run.specs.AuditPieces.{end_objects_of, end_text_of};
-ghost use Rattle.mc_run.specs.AuditPieces.{end_text_or_objects_of};
+ghost use Rattle.mc_run.specs.AuditPieces.{end_objects_of, end_text_of, end_text_or_objects_of};
 
 use crate::audit::audit_asked::push_asked_lines;
 use crate::audit::audited_domain::AuditedDomain;

@@ -4,8 +4,8 @@
 ghost use Rattle.std.specs.Prelude.{◌≡◌, ◌<◌, ◌++◌, OnOk, length};
 ghost use Rattle.std.specs.String.{string_bytes};
 ghost use Rattle.mc_explain.specs.ExplanationValues.{explanation_value};
-ghost use Rattle.mc_run.specs.AuditPieces.{behind_lines_of, explanation_lines_of};
-ghost use Rattle.mc_run.specs.AuditPieces.{searched_lines_of, second_behind_of};
+ghost use Rattle.mc_run.specs.AuditPieces.{behind_lines_of, explanation_lines_of, searched_lines_of};
+ghost use Rattle.mc_run.specs.AuditPieces.{second_behind_of};
 
 use crate::audit::audit_shown_by::push_shown_from;
 use crate::audit::audited_domain::AuditedDomain;

@@ -12,9 +12,9 @@ ghost use Rattle.mc_cert.specs.Distinct.{tree_number_of, with_tree};
 ghost use Rattle.mc_check.specs.declared.verdict.Verdict.TheVariants.{Yes as is_yes};
 ghost use Rattle.mc_json.specs.TreeKey.{tree_key};
 ghost use Rattle.mc_run.specs.AuditObjects.{tree_line};
-ghost use Rattle.mc_run.specs.AuditPieces.{key_of_shown_tree, lans_wanting_flow};
-ghost use Rattle.mc_run.specs.AuditPieces.{right_flow_lines_of, right_lines_of, right_objects_of};
-ghost use Rattle.mc_run.specs.AuditPieces.{shown_trees_with_right, status_of_right_flow};
+ghost use Rattle.mc_run.specs.AuditPieces.{key_of_shown_tree, lans_wanting_flow, right_flow_lines_of};
+ghost use Rattle.mc_run.specs.AuditPieces.{right_lines_of, right_objects_of, shown_trees_with_right};
+ghost use Rattle.mc_run.specs.AuditPieces.{status_of_right_flow};
 ghost use Rattle.mc_run.specs.AuditText.{right_line};
 
 use crate::audit::audited_domain::AuditedDomain;

@@ -5,8 +5,8 @@ ghost use Rattle.std.specs.Prelude.{◌≡◌, ◌<◌, ◌++◌, IfOk, OnOk, le
 ghost use Rattle.std.specs.String.{string_bytes};
 ghost use Rattle.mc_explain.specs.ExplanationValues.{explanation_value};
 ghost use Rattle.mc_run.specs.AuditObjects.{events_asked};
-ghost use Rattle.mc_run.specs.AuditPieces.{explained_lines_of, status_of_wrong_flow};
-ghost use Rattle.mc_run.specs.AuditPieces.{wrong_flow_lines_of, wrong_object_of};
+ghost use Rattle.mc_run.specs.AuditPieces.{explained_lines_of, status_of_wrong_flow, wrong_flow_lines_of};
+ghost use Rattle.mc_run.specs.AuditPieces.{wrong_object_of};
 
 use crate::audit::audit_wrong_text::push_wrong_lines;
 use crate::audit::audited_domain::AuditedDomain;

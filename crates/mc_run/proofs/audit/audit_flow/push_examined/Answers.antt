@@ -1,5 +1,5 @@
 use Rattle.mc_run.specs.AuditPieces.{audited_value}
-use Rattle.mc_run.proofs.AuditFlows.{is_flow_pushed-right, is_flow_pushed-any_shown_trees}
+use Rattle.mc_run.proofs.FlowPushedLemmas.{is_flow_pushed-right, is_flow_pushed-any_shown_trees}
 use Rattle.mc_run.proofs.audit.audit_flow.push_examined.Goals as goal
 
 -- The entries were checked to be accepted, and their lines are those of a right flow; the tree is printed at

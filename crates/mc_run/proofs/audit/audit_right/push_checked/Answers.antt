@@ -1,5 +1,5 @@
 use Rattle.mc_forward.specs.Domains.{net_of}
-use Rattle.mc_run.proofs.AuditFlows.{headline_holds-verdict_yes, verdict_yes-accepted_list}
+use Rattle.mc_run.proofs.FlowPushedLemmas.{headline_holds-verdict_yes, verdict_yes-accepted_list}
 use Rattle.mc_run.proofs.audit.audit_right.push_checked.Goals as goal
 
 -- The checker says yes to a list that is accepted, with one copy for each entry.

@@ -3,7 +3,7 @@ use Rattle.std.specs.Prelude.{◌==◌}
 use Rattle.std.proofs.lemmas.List.{length-map}
 use Rattle.mc_run.specs.AuditPieces.{audited_value}
 use Rattle.mc_run.specs.AuditedFiles.{is_whole}
-use Rattle.mc_run.proofs.AuditFlows.{wrong_flow_lines-same_causes}
+use Rattle.mc_run.proofs.FlowPushedLemmas.{wrong_flow_lines-same_causes}
 use Rattle.mc_run.proofs.ExplanationLemmas.{wrong_flow_lines-same_parts}
 use Rattle.mc_run.proofs.audit.audit_wrong.push_wrong.Goals as goal
 

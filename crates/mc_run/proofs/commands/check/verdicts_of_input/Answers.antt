@@ -12,7 +12,7 @@ use Rattle.mc_run.specs.declared.fault.RunFault.TheVariants.{Memory}
 use Rattle.std.specs.String.{string_bytes}
 use Rattle.mc_run.specs.CheckRun.{IsTextOfVerdicts, KeepsHeadline}
 use Rattle.mc_run.proofs.FaultLemmas.{is_fault_of_check-make, is_fault_of_make-source_fault}
-use Rattle.mc_run.proofs.RunLemmas.{of_domain-meant}
+use Rattle.mc_run.proofs.RunInputLemmas.{of_domain-meant}
 use Rattle.mc_run.proofs.commands.check.verdicts_of_input.Goals as goal
 
 -- what holds of the domain and the lists that were read holds of those that the bundle means

@@ -1,6 +1,6 @@
 use Rattle.std.proofs.Common.{false}
 use Rattle.std.proofs.lemmas.Result.{err_from_is_err_and}
-use Rattle.mc_run.proofs.RunLemmas.{means_domain-no_certificate, is_refused_for-source_of_contents}
+use Rattle.mc_run.proofs.RunInputLemmas.{means_domain-no_certificate, is_refused_for-source_of_contents}
 use Rattle.mc_run.proofs.FaultLemmas.{is_fault_of_make-source_fault}
 use Rattle.mc_run.proofs.commands.domain_input.read_domain.Goals as goal
 

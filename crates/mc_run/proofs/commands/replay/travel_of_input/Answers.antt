@@ -2,8 +2,8 @@ use Rattle.mc_run.specs.ReplayRun.{IsTextOfTravel}
 use Rattle.std.specs.String.{string_bytes}
 use Rattle.mc_run.proofs.ReplayLemmas.{is_no_device_fault-no_travel, is_replay_refused-no_travel}
 use Rattle.mc_input.specs.Meaning.{MeansUncertifiedDomain}
-use Rattle.mc_run.proofs.RunLemmas.{is_write_fault-other_fault, of_domain-ok_result}
-use Rattle.mc_run.proofs.RunLemmas.{counted_reads-no_device_fault}
+use Rattle.mc_run.proofs.RunInputLemmas.{of_domain-ok_result}
+use Rattle.mc_run.proofs.RunLemmas.{is_write_fault-other_fault, counted_reads-no_device_fault}
 use Rattle.std.proofs.Common.{◌∙◌}
 use Rattle.std.proofs.lemmas.Result.{err_from_is_err_and}
 use Rattle.mc_run.proofs.FaultLemmas.{is_fault_of_replay-make}

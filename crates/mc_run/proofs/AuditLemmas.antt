@@ -6,7 +6,7 @@ use Rattle.std.specs.String.{string_bytes}
 use Rattle.std.proofs.lemmas.Bool.{false≢true, ne_eqb}
 use Rattle.mc_files.specs.Files.{FileText}
 use Rattle.mc_forward.specs.Domains.{DomainValue}
-use Rattle.mc_run.specs.AuditEnd.{are_right}
+use Rattle.mc_run.specs.FlowCounts.{are_right}
 use Rattle.mc_run.specs.AuditPieces.{output_of}
 use Rattle.mc_run.specs.Failures.{is_write}
 use Rattle.mc_run.specs.AuditedFiles.{LeftOutValue, MeansAudited, is_whole}

@@ -6,8 +6,9 @@ use Rattle.mc_forward.specs.ListedTables.{DomainFacts, facts}
 use Rattle.mc_json.specs.DomainData.{domain_data}
 use Rattle.mc_json.specs.RowData.{line_of}
 use Rattle.mc_json.proofs.EachLineLemmas.{are_object_lines-domain}
-use Rattle.mc_run.specs.AuditEnd.{FlowAnswer, begin_lines, count, end_lines, option_words, is_right}
-use Rattle.mc_run.specs.AuditEnd.{is_unknown, is_unwanted, is_wrong}
+use Rattle.mc_run.specs.FlowCounts.{FlowAnswer, count, is_right, is_unknown, is_unwanted, is_wrong}
+use Rattle.mc_run.specs.AuditBegin.{begin_lines, option_words}
+use Rattle.mc_run.specs.AuditEnd.{end_lines}
 use Rattle.mc_run.specs.AuditedFiles.{AuditedValue, excluded, is_whole}
 use Rattle.mc_run.specs.AuditRun.{AreFlowAnswers, is_yes, trees_shown}
 use Rattle.mc_cli.specs.declared.audit_options.AuditOptions.{AuditOptions}

@@ -11,8 +11,9 @@ use Rattle.mc_input.specs.AskedOfFiles.{UnansweredWantsValue, IsAskedOf}
 use Rattle.mc_input.specs.ExcludedRouters.{AreRouterNames, files_with_exclusions}
 use Rattle.mc_input.specs.Meaning.{FilesMeanDomain}
 use Rattle.mc_input.specs.SummariesOfFiles.{AreSummariesOf}
-use Rattle.mc_run.specs.AuditEnd.{begin_lines, count as count_of, end_text_or_objects, is_right}
-use Rattle.mc_run.specs.AuditEnd.{is_unknown, is_unwanted, is_wrong, verdict_line}
+use Rattle.mc_run.specs.FlowCounts.{count as count_of, is_right, is_unknown, is_unwanted, is_wrong}
+use Rattle.mc_run.specs.AuditBegin.{begin_lines}
+use Rattle.mc_run.specs.AuditEnd.{end_text_or_objects, verdict_line}
 use Rattle.mc_run.specs.AuditPieces.{AreFlowsPushed, output_of, yes_of}
 use Rattle.mc_run.specs.AuditedFiles.{AuditedValue, LeftOutValue, MeansAuditedWhere, excluded, is_whole}
 use Rattle.mc_run.specs.AuditRun.{IsAudited, is_yes}

@@ -27,7 +27,8 @@ use Rattle.mc_json.proofs.EachLineLemmas.{are_object_lines-asked_services, are_o
 use Rattle.mc_json.proofs.EachLineLemmas.{are_object_lines-all_unlisted, are_object_lines-without}
 use Rattle.mc_run.specs.AuditAsked.{asked_end, asked_line_of, asked_lines, numbered_asked_line}
 use Rattle.mc_run.specs.AuditAsked.{states_of_line}
-use Rattle.mc_run.specs.AuditEnd.{count, end_text_or_objects, strict_lines, strict_line, summary_line}
+use Rattle.mc_run.specs.FlowCounts.{count}
+use Rattle.mc_run.specs.AuditEnd.{end_text_or_objects, strict_lines, strict_line, summary_line}
 use Rattle.mc_run.specs.AuditEnd.{summary_of_flows, end_objects, end_text}
 use Rattle.mc_cli.specs.declared.audit_options.AuditOptions.{AuditOptions}
 use Rattle.mc_explain.proofs.LineFeedLemmas.{number, no_feed-from_list_all, no_feed-append}

@@ -12,7 +12,9 @@ use Rattle.mc_cert.specs.Certificate.{Tree, tree_at}
 use Rattle.mc_maker.specs.Examined.{IfCertified, is_certified}
 use Rattle.mc_maker.specs.declared.examination.Examined.{Examined}
 use Rattle.mc_maker.specs.declared.examination.Examined.TheVariants.{Certified, Found}
-use Rattle.mc_run.specs.AuditEnd.{FlowAnswer, are_right, begin_lines, end_lines, verdict_line}
+use Rattle.mc_run.specs.FlowCounts.{FlowAnswer, are_right}
+use Rattle.mc_run.specs.AuditBegin.{begin_lines}
+use Rattle.mc_run.specs.AuditEnd.{end_lines, verdict_line}
 use Rattle.mc_run.specs.AuditedFiles.{AuditedValue, excluded, is_whole}
 use Rattle.mc_run.specs.AuditRun.{AreFlowAnswers, IsAudited, IsFlowAnswer, is_yes, trees_shown}
 use Rattle.mc_run.specs.AuditClaims.{HasLinesOfEachFlow}

@@ -22,7 +22,7 @@ use Rattle.mc_maker.specs.Examined.{IfFound, is_certified}
 use Rattle.mc_maker.specs.declared.examination.Examined.{Examined}
 use Rattle.mc_maker.specs.declared.examination.Examined.TheVariants.{Certified, Found}
 use Rattle.mc_json.specs.WrongLine.{wrong_flow_of}
-use Rattle.mc_run.specs.AuditEnd.{are_right}
+use Rattle.mc_run.specs.FlowCounts.{are_right}
 use Rattle.mc_run.specs.AuditObjects.{found_travel}
 use Rattle.mc_run.specs.AuditedFiles.{AuditedValue, excluded, is_whole}
 use Rattle.mc_run.specs.AuditRun.{IsAudited, IsChecked}

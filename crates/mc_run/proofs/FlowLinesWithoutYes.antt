@@ -28,7 +28,7 @@ use Rattle.mc_json.specs.FlowData.{tree_data}
 use Rattle.mc_json.specs.RowData.{line_of, lan_data}
 use Rattle.mc_json.proofs.EachLineLemmas.{are_object_lines-right, are_object_lines-tree}
 use Rattle.mc_json.proofs.EachLineLemmas.{are_object_lines-wrong}
-use Rattle.mc_run.specs.AuditEnd.{FlowAnswer}
+use Rattle.mc_run.specs.FlowCounts.{FlowAnswer}
 use Rattle.mc_run.specs.AuditObjects.{found_travel, key_of_tree, tree_line, tree_number}
 use Rattle.mc_run.specs.AuditedFiles.{AuditedValue, is_whole}
 use Rattle.mc_run.specs.AuditRun.{IsFlowAnswer}

@@ -30,7 +30,7 @@ use Rattle.mc_explain.specs.declared.causes.Cause.{Cause}
 use Rattle.mc_explain.specs.declared.causes.behind.Behind.{Behind}
 use Rattle.mc_explain.specs.declared.causes.explanation.ShownBy.{ShownBy}
 use Rattle.mc_json.specs.TreeKey.{tree_key}
-use Rattle.mc_run.specs.AuditEnd.{count}
+use Rattle.mc_run.specs.FlowCounts.{count}
 use Rattle.mc_run.specs.AuditPieces.{IsFlowPushed, explanation_in}
 use Rattle.mc_run.specs.AuditExplanation.{IsExplanation, is_known_wrong, without_remedies}
 use Rattle.mc_run.specs.AuditedFiles.{AuditedValue, excluded, is_whole}

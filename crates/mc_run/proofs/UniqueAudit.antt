@@ -12,9 +12,10 @@ use Rattle.mc_input.specs.AskedOfFiles.{UnansweredWantsValue, IsAskedOf}
 use Rattle.mc_input.specs.SummariesOfFiles.{AreSummariesOf}
 use Rattle.mc_input.proofs.UniqueDomain.{FilesMeanDomain-unique}
 use Rattle.mc_maker.specs.declared.examination.Examined.TheVariants as examined_as
-use Rattle.mc_run.specs.AuditEnd.{FlowAnswer, begin_lines, count, end_text_or_objects, end_lines}
-use Rattle.mc_run.specs.AuditEnd.{is_right, is_unknown, is_unwanted, is_wrong, says_right, says_wrong}
-use Rattle.mc_run.specs.AuditEnd.{verdict_line}
+use Rattle.mc_run.specs.FlowCounts.{FlowAnswer, count, is_right, is_unknown, is_unwanted, is_wrong}
+use Rattle.mc_run.specs.FlowCounts.{says_right, says_wrong}
+use Rattle.mc_run.specs.AuditBegin.{begin_lines}
+use Rattle.mc_run.specs.AuditEnd.{end_text_or_objects, end_lines, verdict_line}
 use Rattle.mc_run.specs.AuditedFiles.{AuditedValue, LeftOutValue, MeansAudited, excluded, is_whole}
 use Rattle.mc_run.specs.AuditRun.{IsAuditText, IsAudited, is_yes}
 use Rattle.mc_cli.specs.declared.audit_options.AuditOptions.{AuditOptions}

@@ -17,7 +17,7 @@ use Rattle.mc_maker.specs.declared.examined_flights.ExaminedFlights.TheVariants.
 use Rattle.mc_maker.specs.declared.examined_flights.ExaminedFlights.TheVariants.{FoundAtFlowTtl}
 use Rattle.mc_explain.specs.declared.causes.explanation.Certainty.{Certainty}
 use Rattle.mc_json.specs.TreeKey.{tree_key}
-use Rattle.mc_run.specs.AuditEnd.{FlowAnswer, are_right, count}
+use Rattle.mc_run.specs.FlowCounts.{FlowAnswer, are_right, count}
 use Rattle.mc_run.specs.AuditedFiles.{AuditedValue, excluded, is_whole}
 use Rattle.mc_run.specs.AuditRun.{IsFlowAnswer, trees_shown}
 use Rattle.mc_explain.specs.ExplanationValues.{ExplanationValue}

@@ -22,7 +22,7 @@ use Rattle.mc_explain.specs.WantedText.{lans_wanting}
 use Rattle.mc_input.specs.ExcludedRouters.{is_excluded}
 use Rattle.mc_input.specs.Meaning.{FilesMeanDomain}
 use Rattle.mc_input.proofs.ExcludedPerFlowLemmas.{ExcludesRouters-from_files}
-use Rattle.mc_run.specs.AuditEnd.{FlowAnswer}
+use Rattle.mc_run.specs.FlowCounts.{FlowAnswer}
 use Rattle.mc_run.specs.AuditedFiles.{AuditedValue, LeftOutValue, MeansAudited, is_whole}
 use Rattle.mc_run.specs.AuditRun.{IsAuditText, IsAudited, IsChecked, IsFlowAnswer}
 use Rattle.mc_run.specs.AuditClaims.{HasLinesOfEachFlow}

@@ -8,7 +8,8 @@ use Rattle.mc_text.proofs.BundleWords.{HasNoByte}
 use Rattle.mc_explain.proofs.LineFeedLemmas.{no_feed-from_list_all}
 use Rattle.mc_files.specs.Files.{FileText}
 use Rattle.mc_forward.specs.ListedTables.{facts}
-use Rattle.mc_run.specs.AuditEnd.{begin_lines, end_lines, verdict_line}
+use Rattle.mc_run.specs.AuditBegin.{begin_lines}
+use Rattle.mc_run.specs.AuditEnd.{end_lines, verdict_line}
 use Rattle.mc_run.specs.AuditedFiles.{LeftOutValue, excluded, is_whole}
 use Rattle.mc_run.specs.AuditRun.{IsAuditText, is_yes}
 use Rattle.mc_run.specs.AuditYes.{AreYesWords, yes_object, yes_words}

@@ -15,8 +15,8 @@ use Rattle.mc_explain.specs.declared.causes.behind.Behind.{Behind}
 use Rattle.mc_explain.specs.declared.causes.explanation.Certainty.{Certainty}
 use Rattle.mc_explain.specs.declared.causes.explanation.ShownBy.{ShownBy}
 use Rattle.mc_input.specs.declared.domain.FolderDomain.{FolderDomain}
-use Rattle.mc_run.specs.AuditEnd.{FlowAnswer, count, end_objects, end_text, end_text_or_objects, is_right}
-use Rattle.mc_run.specs.AuditEnd.{is_unknown, is_unwanted, is_wrong}
+use Rattle.mc_run.specs.FlowCounts.{FlowAnswer, count, is_right, is_unknown, is_unwanted, is_wrong}
+use Rattle.mc_run.specs.AuditEnd.{end_objects, end_text, end_text_or_objects}
 use Rattle.mc_run.specs.AuditObjects.{key_of_tree, right_objects, wrong_object}
 use Rattle.mc_run.specs.AuditExplanation.{is_known_wrong, search_context}
 use Rattle.mc_run.specs.AuditedFiles.{AuditedValue, LeftOutValue, excluded, is_whole}

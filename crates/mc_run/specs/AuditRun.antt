@@ -16,8 +16,9 @@ use Rattle.mc_maker.specs.declared.examined_flights.ExaminedFlights.{ExaminedFli
 use Rattle.mc_explain.specs.ExplanationValues.{ExplanationValue}
 use Rattle.mc_explain.specs.WantedText.{lans_wanting}
 use Rattle.mc_cli.specs.declared.audit_options.AuditOptions.{AuditOptions}
-use Rattle.mc_run.specs.AuditEnd.{FlowAnswer, are_right, begin_lines, count, end_lines, is_unwanted}
-use Rattle.mc_run.specs.AuditEnd.{verdict_line}
+use Rattle.mc_run.specs.FlowCounts.{FlowAnswer, are_right, count, is_unwanted}
+use Rattle.mc_run.specs.AuditBegin.{begin_lines}
+use Rattle.mc_run.specs.AuditEnd.{end_lines, verdict_line}
 use Rattle.mc_run.specs.AuditExplanation.{IsExplanation}
 use Rattle.mc_run.specs.AuditFlowText.{answer_lines, known_right, shown_trees_with}
 use Rattle.mc_run.specs.AuditedFiles.{AuditedValue, LeftOutValue, MeansAuditedWhere, excluded, is_whole}

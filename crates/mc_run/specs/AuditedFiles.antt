@@ -10,7 +10,7 @@ use Rattle.mc_input.specs.ExcludedRouters.{AreRouterNames, files_with_exclusions
 use Rattle.mc_input.specs.Meaning.{FilesMeanDomain, MeansDomainWhere}
 use Rattle.mc_input.specs.SummariesOfFiles.{AreSummariesOf}
 use Rattle.mc_cli.specs.declared.audit_options.AuditOptions.{AuditOptions}
-use Rattle.mc_run.specs.AuditEnd.{excluded_marks}
+use Rattle.mc_run.specs.AuditBegin.{excluded_marks}
 use Rattle.mc_run.specs.declared.audit.left_out.LeftOut.{LeftOut}
 
 -- What an audit leaves out.

@@ -2,6 +2,7 @@
 //! other flow what a packet of it meets, and why.
 
 mod audit_asked;
+mod audit_begin;
 mod audit_end;
 mod audit_explanation;
 mod audit_flow;
@@ -31,7 +32,8 @@ ghost use Rattle.mc_run.specs.InputMeaning.{AreRefusedWithout};
 ghost use Rattle.mc_run.specs.RunOutput.{Answers, IsWrittenWhole, WritesPart};
 
 use crate::audit::audit_asked::count_asked;
-use crate::audit::audit_end::{begin_lines, push_end};
+use crate::audit::audit_begin::begin_lines;
+use crate::audit::audit_end::push_end;
 use crate::audit::audit_flow::push_flow;
 pub use crate::audit::audit_output::{AuditAnswer, AuditCounts};
 use crate::audit::audit_output::{AuditOutput, with_counts};

@@ -2,7 +2,7 @@
 
 ghost use Rattle.std.specs.Prelude.{◌≡◌, ◌<◌, IfOk, length, map};
 ghost use Rattle.mc_topology.specs.Topology.{router_name};
-ghost use Rattle.mc_run.specs.AuditEnd.{is_among, excluded_marks};
+ghost use Rattle.mc_run.specs.AuditBegin.{is_among, excluded_marks};
 
 use mc_input::is_excluded;
 use mc_text::Memory;

@@ -7,7 +7,8 @@ ghost use Rattle.mc_maker.specs.declared.examined_flights.ExaminedFlights.TheVar
 ghost use Rattle.mc_maker.specs.declared.examined_flights.ExaminedFlights.TheVariants.{FoundAtFlowTtl};
 ghost use Rattle.mc_run.specs.AuditPieces.{HasItsMarksAndInterfaces, IsFindingPushed, IsFlowPushed};
 ghost use Rattle.mc_run.specs.AuditPieces.{audited_value};
-ghost use Rattle.mc_run.specs.AuditExplanation.{ArePrintedCauses, is_remedy as says_remedy, without_remedies};
+ghost use Rattle.mc_run.specs.AuditExplanation.{ArePrintedCauses, is_remedy as says_remedy};
+ghost use Rattle.mc_run.specs.AuditExplanation.{without_remedies};
 ghost use Rattle.mc_run.specs.AuditedFiles.{is_whole};
 ghost use Rattle.mc_run.specs.MakeRun.{IsExamined};
 

@@ -1,7 +1,7 @@
 //! The status of a flow, and counts of flows by status.
 
 ghost use Rattle.std.specs.Prelude.{◌≡◌, ◌<◌, ◌==◌};
-ghost use Rattle.mc_run.specs.AuditEnd.{one_if_true, with_status};
+ghost use Rattle.mc_run.specs.FlowCounts.{one_if_true, with_status};
 ghost use Rattle.mc_run.specs.AuditFlowText.{status_of_right, status_of_wrong};
 
 use mc_topology::LanNo;

@@ -1,5 +1,7 @@
 use Rattle.mc_run.specs.AuditPieces.{audited_value}
-use Rattle.mc_run.proofs.AuditFlows.{are_flows_pushed-more, count_right-below_limit, count_unwanted-below_limit, counted-few, trees_shown-at_most_flows, count_unknown-below_limit, count_wrong-below_limit}
+use Rattle.mc_run.proofs.AuditFlows.{are_flows_pushed-more, count_right-below_limit}
+use Rattle.mc_run.proofs.AuditFlows.{count_unwanted-below_limit, counted-few, trees_shown-at_most_flows}
+use Rattle.mc_run.proofs.AuditFlows.{count_unknown-below_limit, count_wrong-below_limit}
 use Rattle.mc_run.proofs.audit.push_flows.Goals as goal
 
 -- Each count is at most the number of flows so far, one of the topology's flows is still to come, and a

@@ -3,7 +3,7 @@ use Rattle.std.proofs.lemmas.List.{map-append}
 use Rattle.mc_topology.specs.Topology.{router_name}
 use Rattle.mc_theory.specs.Lists.{below}
 use Rattle.mc_forward.proofs.BelowLemmas.{below-more}
-use Rattle.mc_run.specs.AuditEnd.{is_among}
+use Rattle.mc_run.specs.AuditBegin.{is_among}
 use Rattle.mc_run.proofs.excluded.excluded_marks.Goals as goal
 
 -- No router is below 0, and no mark was made.

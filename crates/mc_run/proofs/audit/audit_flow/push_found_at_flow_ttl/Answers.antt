@@ -4,7 +4,8 @@ use Rattle.mc_forward.specs.ListedTables.{facts}
 use Rattle.mc_run.specs.AuditFlowText.{wrong_flow_lines}
 use Rattle.mc_run.specs.AuditPieces.{audited_value, explanation_in, status_of_wrong_flow}
 use Rattle.mc_run.specs.AuditedFiles.{is_whole}
-use Rattle.mc_run.proofs.FlowPushedLemmas.{is_flow_pushed-added, is_flow_pushed-status, is_flow_pushed-wrong, found-ttl_of_view}
+use Rattle.mc_run.proofs.FlowPushedLemmas.{is_flow_pushed-added, is_flow_pushed-status}
+use Rattle.mc_run.proofs.FlowPushedLemmas.{is_flow_pushed-wrong, found-ttl_of_view}
 use Rattle.mc_run.proofs.ExplanationLemmas.{is_explanation-at_flow_ttl, unsaid}
 use Rattle.mc_run.proofs.audit.audit_flow.push_found_at_flow_ttl.Goals as goal
 

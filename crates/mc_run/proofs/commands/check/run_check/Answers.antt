@@ -1,7 +1,8 @@
 use Rattle.std.proofs.Common.{true}
 use Rattle.mc_run.specs.InputMeaning.{IsRefusedFor}
 use Rattle.mc_run.specs.CheckRun.{IsVerdictText}
-use Rattle.mc_run.proofs.RunLemmas.{answers-output_written, fault-of_output_or_write, writes_part-output_written, writes-output_written}
+use Rattle.mc_run.proofs.RunLemmas.{answers-output_written, fault-of_output_or_write}
+use Rattle.mc_run.proofs.RunLemmas.{writes_part-output_written, writes-output_written}
 use Rattle.mc_run.proofs.YesLines.{headline_of_bundle-check_yes}
 use Rattle.mc_run.specs.Faults.{IsFaultOfCheck}
 use Rattle.mc_run.proofs.commands.check.run_check.Goals as goal

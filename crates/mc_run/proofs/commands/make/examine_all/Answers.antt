@@ -1,7 +1,9 @@
 use Rattle.std.proofs.Common.{◌≡◌, ◌++◌, ap, ◌∙◌, subst, arith, length, slice_get, Some}
 use Rattle.std.specs.String.{string_bytes}
 use Rattle.mc_run.specs.MakeRun.{found_lines}
-use Rattle.mc_run.proofs.MadeSoFarLemmas.{is_examined-of_examination, are_made_so_far-certified, made_lists-at_most_flows, are_made_so_far-found, are_made_so_far-none}
+use Rattle.mc_run.proofs.MadeSoFarLemmas.{is_examined-of_examination, are_made_so_far-certified}
+use Rattle.mc_run.proofs.MadeSoFarLemmas.{made_lists-at_most_flows, are_made_so_far-found}
+use Rattle.mc_run.proofs.MadeSoFarLemmas.{are_made_so_far-none}
 use Rattle.mc_run.proofs.commands.make.examine_all.Goals.{in-Certified+in_ok-push-in-Certified}
 use Rattle.mc_run.proofs.commands.make.examine_all.Goals.{in-Found+in_ok-push_found_lines-in-Found}
 use Rattle.mc_run.proofs.commands.make.examine_all.Goals as goal

@@ -1,5 +1,6 @@
 use Rattle.std.proofs.Common.{◌∙◌, sym}
-use Rattle.mc_run.proofs.MakeLemmas.{is_make_output-certificate, found_lines-empty, found_lines-not_empty, is_make_output-lines, belongs_to-made_lists}
+use Rattle.mc_run.proofs.MakeLemmas.{is_make_output-certificate, found_lines-empty, found_lines-not_empty}
+use Rattle.mc_run.proofs.MakeLemmas.{is_make_output-lines, belongs_to-made_lists}
 use Rattle.mc_run.proofs.commands.make.make_for_domain.Goals as goal
 
 -- There are lines, so that some flow isn't certified, and these lines are the text.

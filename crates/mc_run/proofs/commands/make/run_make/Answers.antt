@@ -2,7 +2,8 @@ use Rattle.std.proofs.Common.{false}
 use Rattle.mc_run.specs.InputMeaning.{IsRefusedFor}
 use Rattle.mc_run.specs.MakeRun.{IsMadeText, SaysAllRight}
 use Rattle.mc_run.proofs.MakeLemmas.{says_all_right-make_output}
-use Rattle.mc_run.proofs.RunLemmas.{answer-gives, answers-output_written, fault-of_output_or_write, writes_part-output_written, writes-output_written}
+use Rattle.mc_run.proofs.RunLemmas.{answer-gives, answers-output_written, fault-of_output_or_write}
+use Rattle.mc_run.proofs.RunLemmas.{writes_part-output_written, writes-output_written}
 use Rattle.mc_run.specs.Faults.{IsFaultOfMake}
 use Rattle.mc_run.proofs.commands.make.run_make.Goals as goal
 

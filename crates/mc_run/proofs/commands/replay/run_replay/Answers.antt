@@ -1,5 +1,6 @@
 use Rattle.mc_run.specs.ReplayRun.{IsReplayRefused, IsTravelText}
-use Rattle.mc_run.proofs.RunLemmas.{answers-output_written, fault-of_output_or_write, writes_part-output_written, writes-output_written}
+use Rattle.mc_run.proofs.RunLemmas.{answers-output_written, fault-of_output_or_write}
+use Rattle.mc_run.proofs.RunLemmas.{writes_part-output_written, writes-output_written}
 use Rattle.mc_run.specs.Faults.{IsFaultOfReplay}
 use Rattle.mc_run.proofs.commands.replay.run_replay.Goals as goal
 

@@ -2,8 +2,8 @@ use Rattle.std.proofs.Common.{length, map, refl}
 use Rattle.std.specs.String.{string_bytes}
 use Rattle.std.proofs.lemmas.Option.{slice_get_read}
 use Rattle.mc_json.proofs.LoopStepLemmas.{flat_map-take_more}
-use Rattle.mc_run.specs.AuditEnd.{ignore_words}
-use Rattle.mc_run.proofs.audit.audit_end.push_all_ignore_words.Goals as goal
+use Rattle.mc_run.specs.AuditBegin.{ignore_words}
+use Rattle.mc_run.proofs.audit.audit_begin.push_all_ignore_words.Goals as goal
 
 -- The words of the range at this index are appended to those of the ranges before it.
 pub loop-range-preserved : goal.loop-range-preserved

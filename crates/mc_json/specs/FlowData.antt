@@ -10,11 +10,15 @@ use Rattle.mc_theory.specs.Events.{Event, Outcome}
 use Rattle.mc_theory.specs.Events.Outcome.{Open, NoRow, OtherVif, Sent}
 use Rattle.mc_theory.specs.Nets.{Interface, Net, Row}
 use Rattle.mc_theory.specs.CertificateOfCopies.{row_pairs}
+use Rattle.mc_forward.specs.ListedTables.{DomainFacts}
+use Rattle.mc_explain.specs.WantedText.{lans_wanting}
 use Rattle.mc_replay.specs.declared.finding.Finding.{Finding}
-use Rattle.mc_replay.specs.declared.finding.Finding.TheVariants.{Clean, Duplicate, Loop, Stray, Missed}
+use Rattle.mc_replay.specs.declared.finding.Finding.TheVariants.{Clean, Duplicate, Loop, Stray}
+use Rattle.mc_replay.specs.declared.finding.Finding.TheVariants.{Missed}
 use Rattle.mc_explain.specs.declared.causes.explanation.Certainty.{Certainty}
 use Rattle.serde_json.specs.Data.{Data, null, boolean, string}
-use Rattle.mc_json.specs.RowData.{count_data, list_data, object_data, lan_data, router_data}
+use Rattle.mc_json.specs.RowData.{count_data, line_of, list_data, object_data}
+use Rattle.mc_json.specs.RowData.{lan_data, router_data}
 use Rattle.mc_json.specs.TreeKey.{taking_interface}
 
 -- ---- any flow

@@ -6,7 +6,7 @@ use Rattle.mc_forward.specs.Domains.{vif_of}
 use Rattle.mc_forward.specs.ListedTables.{facts}
 use Rattle.mc_json.specs.DomainData.{vif_data}
 use Rattle.mc_json.proofs.LoopStepLemmas.{flat_map-below_more}
-use Rattle.mc_json.proofs.domain_line.push_vifs.Goals as goal
+use Rattle.mc_json.proofs.interface_list.push_vifs.Goals as goal
 
 -- No vif is below 0, and nothing was added.
 pub loop-vif-init : goal.loop-vif-init

@@ -1,5 +1,5 @@
 use Rattle.std.proofs.Common.{refl}
-use Rattle.mc_json.proofs.domain_line.interface_value.Goals as goal
+use Rattle.mc_json.proofs.interface_list.interface_value.Goals as goal
 
 -- The four members are added one by one; the LAN and the vif are values that the caller made.
 pub returns : goal.returns

@@ -4,7 +4,7 @@ use Rattle.mc_topology.specs.Topology.{TopologyValue}
 use Rattle.mc_forward.specs.ListedTables.{facts}
 use Rattle.mc_json.specs.DomainData.{unmatched_data}
 use Rattle.mc_json.proofs.LoopStepLemmas.{flat_map-take_more}
-use Rattle.mc_json.proofs.domain_line.push_unmatched.Goals as goal
+use Rattle.mc_json.proofs.interface_list.push_unmatched.Goals as goal
 
 -- The interface at this place is the topology's, and it is added exactly if its router has no vif of its
 -- device.

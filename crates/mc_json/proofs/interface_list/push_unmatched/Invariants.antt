@@ -2,7 +2,7 @@ use Rattle.std.proofs.Common.{◌≡◌, ◌++◌, map, flat_map, take}
 use Rattle.serde_json.specs.View.{view as data_of}
 use Rattle.mc_forward.specs.ListedTables.{facts}
 use Rattle.mc_json.specs.DomainData.{unmatched_data}
-use Rattle.mc_json.proofs.domain_line.push_unmatched.Given as goal
+use Rattle.mc_json.proofs.interface_list.push_unmatched.Given as goal
 
 -- the interfaces so far
 abbrev pub invariant-loop-number : goal.invariant-loop-number

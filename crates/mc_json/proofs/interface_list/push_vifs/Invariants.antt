@@ -4,7 +4,7 @@ use Rattle.mc_theory.specs.Lists.{below}
 use Rattle.mc_forward.specs.Domains.{vif_of}
 use Rattle.mc_forward.specs.ListedTables.{facts}
 use Rattle.mc_json.specs.DomainData.{vif_data}
-use Rattle.mc_json.proofs.domain_line.push_vifs.Given as goal
+use Rattle.mc_json.proofs.interface_list.push_vifs.Given as goal
 
 -- the vifs so far
 abbrev pub invariant-loop-vif : goal.invariant-loop-vif

@@ -4,7 +4,7 @@ use Rattle.mc_theory.specs.Lists.{below}
 use Rattle.mc_forward.specs.ListedTables.{facts}
 use Rattle.mc_json.specs.DomainData.{vifs_data}
 use Rattle.mc_json.proofs.LoopStepLemmas.{flat_map-below_more}
-use Rattle.mc_json.proofs.domain_line.push_all_vifs.Goals as goal
+use Rattle.mc_json.proofs.interface_list.push_all_vifs.Goals as goal
 
 -- No router is below 0, and nothing was added.
 pub loop-number-init : goal.loop-number-init

@@ -3,7 +3,7 @@ use Rattle.serde_json.specs.View.{view as data_of}
 use Rattle.mc_theory.specs.Lists.{below}
 use Rattle.mc_forward.specs.ListedTables.{facts}
 use Rattle.mc_json.specs.DomainData.{vifs_data}
-use Rattle.mc_json.proofs.domain_line.push_all_vifs.Given as goal
+use Rattle.mc_json.proofs.interface_list.push_all_vifs.Given as goal
 
 -- the routers so far
 abbrev pub invariant-loop-number : goal.invariant-loop-number

@@ -13,7 +13,8 @@ use Rattle.mc_forward.specs.ListedTables.{DomainFacts}
 use Rattle.mc_explain.specs.RowText.{device_name_text}
 use Rattle.mc_explain.specs.TopologyLans.{vif_of_device}
 use Rattle.serde_json.specs.Data.{Data, null, string}
-use Rattle.mc_json.specs.RowData.{count_data, list_data, object_data, lan_data, router_data}
+use Rattle.mc_json.specs.RowData.{count_data, list_data, object_data}
+use Rattle.mc_json.specs.RowData.{lan_data, router_data}
 
 -- ---- interfaces
 

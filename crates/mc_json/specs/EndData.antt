@@ -1,6 +1,6 @@
 -- The lines in JSON after those of the flows (docs/FORMATS.md, "What `audit --json` writes").
-use Rattle.std.specs.Prelude.{ℕ, ◌+◌, ◌==◌, Bool, List, [], ◌∷◌, ◌++◌, flat_map, map, if◌then◌else◌}
-use Rattle.std.specs.Prelude.{codes}
+use Rattle.std.specs.Prelude.{ℕ, ◌+◌, ◌==◌, Bool, List, [], ◌∷◌, ◌++◌, flat_map, map}
+use Rattle.std.specs.Prelude.{if◌then◌else◌, codes}
 use Rattle.mc_tables.specs.Summary.{SummaryValue}
 use Rattle.mc_text.specs.Addr.{dotted}
 use Rattle.mc_topology.specs.Topology.{TopologyValue}
@@ -8,7 +8,8 @@ use Rattle.mc_explain.specs.ExcludedText.{excluded_routers}
 use Rattle.mc_explain.specs.UnlistedPairs.{with_routers}
 use Rattle.mc_explain.specs.UnlistedText.{further_rows, shown_unlisted_pairs}
 use Rattle.serde_json.specs.Data.{Data, string}
-use Rattle.mc_json.specs.RowData.{count_data, line_of, list_data, object_data, router_data}
+use Rattle.mc_json.specs.RowData.{count_data, line_of, list_data, object_data}
+use Rattle.mc_json.specs.RowData.{router_data}
 
 -- a list of routers by their names
 abbrev pub routers_data : TopologyValue → List ℕ → Data

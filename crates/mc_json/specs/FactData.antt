@@ -4,11 +4,12 @@ use Rattle.serde_json.specs.Data.{Data, boolean, string}
 use Rattle.mc_lines.specs.FactText.{interface_text}
 use Rattle.mc_lines.specs.FlowContext.{FlowContext, flow_of, row_for_flow}
 use Rattle.mc_lines.specs.Lines.{FactValue}
-use Rattle.mc_lines.specs.Lines.FactValue.{Lan, Router, Device, Interface, IncomingDevice, IncomingVif}
-use Rattle.mc_lines.specs.Lines.FactValue.{Row, EverySourceRow, Flag, Number, Routers}
+use Rattle.mc_lines.specs.Lines.FactValue.{Lan, Router, Device, Interface, IncomingDevice, IncomingVif, Row}
+use Rattle.mc_lines.specs.Lines.FactValue.{EverySourceRow, Flag, Number, Routers}
 use Rattle.mc_json.specs.EndData.{routers_data}
-use Rattle.mc_json.specs.RowData.{lan_data, router_data, count_data, device_data, every_source_data}
-use Rattle.mc_json.specs.RowData.{flow_row_data, incoming_device, incoming_vif}
+use Rattle.mc_json.specs.RowData.{lan_data, router_data}
+use Rattle.mc_json.specs.RowData.{count_data, device_data, every_source_data, flow_row_data}
+use Rattle.mc_json.specs.RowData.{incoming_device, incoming_vif}
 
 -- the value of a fact, in a line about a flow
 abbrev pub fact_data : FlowContext → FactValue → Data

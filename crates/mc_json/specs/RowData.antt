@@ -11,8 +11,8 @@ use Rattle.mc_forward.specs.Domains.{oif_pairs}
 use Rattle.mc_forward.specs.ListedTables.{DomainFacts}
 use Rattle.mc_explain.specs.EverySourceText.{every_source_of}
 use Rattle.mc_explain.specs.RowText.{address_text, device_name_text, of_entry_or}
-use Rattle.serde_json.specs.Data.{Data, Members, null, number, unsigned, string, array, object, member}
-use Rattle.serde_json.specs.Data.{no_members}
+use Rattle.serde_json.specs.Data.{Data, Members, null, number, unsigned, string, array, object}
+use Rattle.serde_json.specs.Data.{member, no_members}
 use Rattle.serde_json.specs.View.{items_of}
 use Rattle.serde_json.specs.Written.{compact_text}
 

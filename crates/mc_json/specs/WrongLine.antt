@@ -10,7 +10,8 @@ use Rattle.mc_explain.specs.ExplanationValues.{ExplanationValue}
 use Rattle.mc_explain.specs.WantedText.{lans_wanting}
 use Rattle.serde_json.specs.Data.{Data}
 use Rattle.mc_json.specs.BehindData.{behind_data}
-use Rattle.mc_json.specs.FlowData.{WrongFlow, event_data, finding_data, optional_finding_data, wrong_data}
+use Rattle.mc_json.specs.FlowData.{WrongFlow, event_data, finding_data, optional_finding_data}
+use Rattle.mc_json.specs.FlowData.{wrong_data}
 use Rattle.mc_json.specs.RowData.{lan_data, line_of}
 use Rattle.mc_json.specs.WhyData.{why_data}
 use Rattle.mc_json.specs.declared.wrong_line.FoundTravel.{FoundTravel}

@@ -8,6 +8,7 @@ mod audit_explanation;
 mod audit_flow;
 pub(crate) mod audit_output;
 mod audit_right;
+mod audit_right_object;
 mod audit_shown_by;
 mod audit_wrong;
 mod audit_wrong_text;

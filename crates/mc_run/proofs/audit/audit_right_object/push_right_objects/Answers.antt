@@ -2,7 +2,7 @@ use Rattle.std.proofs.Common.{refl, ◌∙◌}
 use Rattle.mc_run.specs.AuditPieces.{audited_value}
 use Rattle.mc_run.specs.AuditedFiles.{is_whole}
 use Rattle.mc_run.proofs.ShownTrees.{is_whole-no_names, right_objects-pushed, shown_trees-pushed}
-use Rattle.mc_run.proofs.audit.audit_right.push_right_objects.Goals as goal
+use Rattle.mc_run.proofs.audit.audit_right_object.push_right_objects.Goals as goal
 
 -- The key of the tree joins the printed ones, unless it is among them: the view is that of this flow.
 pub returns-clause-shown_trees : goal.returns-clause-shown_trees

@@ -22,7 +22,8 @@ append-two_parts (Ok x) old a b c one two new first second third =
     third ∙ ap (λ xs. xs ++ c) (second ∙ ap (λ xs. xs ++ b) first)
     ∙ append_assoc (old ++ a) b c ∙ append_assoc old a (b ++ c)
 
--- as text, by the domain's topology and the excluded routers
+-- the parts of the text after the flows, appended one after another, are that text: the topology is the
+-- domain's, and the routers are the excluded ones
 pub end_text-parts : {A X : Type 0} (o : AuditOptions) (t u : TopologyValue) (summary : List SummaryValue)
     (asked : UnansweredWantsValue) (marks : List Bool) (routers again : List ℕ) (whole all : Bool)
     (flows right wrong unknown unwanted wants : ℕ) (r : Result A X) (old one two three four five new : List ℕ)

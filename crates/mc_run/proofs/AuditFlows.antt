@@ -70,7 +70,7 @@ status_of-unwanted : (whole : Bool) (x : Examined) (known : Bool) (wanted : List
 status_of-unwanted whole (examined.Certified entries) known wanted = refl
 status_of-unwanted whole (examined.Found ttl travel) known wanted = refl
 
--- and whether it is known to be right
+-- the status of a flow says that it is right, or isn't, exactly where that is known
 status_of-right : (whole : Bool) (x : Examined) (known : Bool) (wanted : List ℕ)
     → (status_of whole x known wanted).right ≡ known_right whole x known
 status_of-right whole (examined.Certified entries) known wanted = refl
@@ -128,7 +128,7 @@ trees_shown-at_most_flows_from o printed (a ∷ answers) =
       with_shown_tree-at_most_one_more o a.net printed a.examined a.wanted,
     )
 
--- so after k flows there are at most k
+-- each flow prints at most one tree, so that the first k flows print at most k
 pub trees_shown-at_most_flows : (v : AuditedValue) (o : AuditOptions) (k : ℕ) (s : FlowCounts)
     (printed : List Tree)
     (old new : List ℕ) → AreFlowsPushed v o k s printed old new → length printed ≤ k
@@ -198,35 +198,35 @@ count-at_most_length p [] = omega arith
 count-at_most_length p (x ∷ answers) =
     length-filter_step (p x) x (filter p answers) answers (count-at_most_length p answers)
 
--- so a count is at most the number of flows so far
+-- a count of flows is at most their number, since it is that of a part of them
 counted-below_limit : (p : FlowAnswer → Bool) (answers : List FlowAnswer) (k counted : ℕ)
     → length answers ≡ k → counted ≡ count p answers → counted ≤ k
 counted-below_limit p answers k counted all same =
     let few = count-at_most_length p answers in
     omega (arith, few, all, same)
 
--- of right flows
+-- the count of right flows is at most the number of flows so far
 pub count_right-below_limit : (v : AuditedValue) (o : AuditOptions) (k : ℕ) (s : FlowCounts)
     (printed : List Tree)
     (old new : List ℕ) → AreFlowsPushed v o k s printed old new → s.right ≤ k
 count_right-below_limit v o k s printed old new to =
     counted-below_limit is_right to.answers k s.right to.count_is to.right
 
--- of wrong flows
+-- the count of wrong flows is at most the number of flows so far
 pub count_wrong-below_limit : (v : AuditedValue) (o : AuditOptions) (k : ℕ) (s : FlowCounts)
     (printed : List Tree)
     (old new : List ℕ) → AreFlowsPushed v o k s printed old new → s.wrong ≤ k
 count_wrong-below_limit v o k s printed old new to =
     counted-below_limit is_wrong to.answers k s.wrong to.count_is to.wrong
 
--- of flows of which it isn't known
+-- the count of flows of which it isn't known is at most the number of flows so far
 pub count_unknown-below_limit : (v : AuditedValue) (o : AuditOptions) (k : ℕ) (s : FlowCounts)
     (printed : List Tree)
     (old new : List ℕ) → AreFlowsPushed v o k s printed old new → s.unknown ≤ k
 count_unknown-below_limit v o k s printed old new to =
     counted-below_limit is_unknown to.answers k s.unknown to.count_is to.unknown
 
--- of unwanted flows
+-- the count of unwanted flows is at most the number of flows so far
 pub count_unwanted-below_limit : (v : AuditedValue) (o : AuditOptions) (k : ℕ) (s : FlowCounts)
     (printed : List Tree)
     (old new : List ℕ) → AreFlowsPushed v o k s printed old new → s.unwanted ≤ k

@@ -24,7 +24,7 @@ use Rattle.mc_run.proofs.RunLemmas.{IsOutputOf, is_output_of-implication}
 use Rattle.mc_run.proofs.FlowAnswerLemmas.{and-true_left, keeps_headline-all_certified}
 use Rattle.mc_run.proofs.FlowClaimLemmas.{writes_which_are_right-audited, yes_or_finding-audited}
 
--- it says which flows are right
+-- the output of an audit says which flows are right, since each text of an audit does
 pub is_output_of-which_are_right : (contents : Option (List FileText)) (o : AuditOptions)
     (left : LeftOutValue)
     (s : Result RunOutput RunFault) → IsOutputOf contents (IsAuditText o left) s
@@ -35,7 +35,7 @@ is_output_of-which_are_right contents o left s =
     of_domain-implication (MeansAudited o left) (λ v. IsAudited v o all written)
     (λ v. WritesWhichAreRight v o all written) (λ v. writes_which_are_right-audited v o all written) files)
 
--- and of each flow what holds of it
+-- the output of an audit truly says yes to each flow or what is found of it, since each text of an audit does
 pub is_output_of-each_flow : (contents : Option (List FileText)) (o : AuditOptions) (left : LeftOutValue)
     (s : Result RunOutput RunFault) → IsOutputOf contents (IsAuditText o left) s
     → IsOutputOf contents (SaysOfEach o left) s
@@ -57,7 +57,8 @@ excluded_files-no_names files (name ∷ names) d none means = absurd (not_none (
     not_none : (n : ℕ) → (suc n == 0) ≡ true → ⊥
     not_none n same = false≢true (sym (ne_eqb (suc n) 0 (λ e. omega (arith, e))) ∙ same)
 
--- if it says yes, the headline holds for the files
+-- after a yes no router is excluded and all flows are certified, so that the headline holds for the files
+-- themselves
 pub headline_of_files-audit_yes : (contents : Option (List FileText)) (o : AuditOptions)
     (left : LeftOutValue)
     (s : Result RunOutput RunFault) → IsOutputOf contents (IsAuditText o left) s
@@ -77,7 +78,7 @@ headline_of_files-audit_yes (Some files) o left (Ok run_output) says = λ yes.
 
 -- ---- the text, and the number of unwanted flows
 
--- the output is right for the files
+-- an audit's text that is right for the files is so as the output of a run
 pub is_output_of-audit : (contents : Option (List FileText)) (o : AuditOptions) (left : LeftOutValue)
     (r : Result AuditOutput RunFault)
     → IfOk r (λ audit. IfSome contents (λ files.
@@ -86,7 +87,7 @@ pub is_output_of-audit : (contents : Option (List FileText)) (o : AuditOptions) 
 is_output_of-audit contents o left (Ok audit) says = says
 is_output_of-audit contents o left (Err fault) says = tt
 
--- and a fault in its place is not the output's
+-- a fault in place of an audit is the same fault in place of its output, and not `Write`
 pub is_write_fault-audit_output : (r : Result AuditOutput RunFault)
     → IfErr r (λ fault. is_write fault ≡ false)
     → IfErr (output_of r) (λ fault. is_write fault ≡ false)

@@ -80,7 +80,7 @@ writes_part-run contents o left a p s r old new text no_write parts is same =
     (is_write_fault-audit_output a no_write) (is_output_of-audit contents o left a text)
     (is_output_written-parts p (output_of a) s old new parts is))
 
--- what is written says which flows are right,
+-- what is written says which flows are right
 writes_which_are_right-run : (contents : Option (List FileText)) (o : AuditOptions)
     (left : LeftOutValue)
     (a : Result AuditOutput RunFault) (p : Result RunOutput RunFault) (s : Result Bool RunFault)
@@ -93,7 +93,7 @@ writes_which_are_right-run contents o left a p s r old new text parts is same =
     (is_output_of-which_are_right contents o left (output_of a)
     (is_output_of-audit contents o left a text)) parts is same
 
--- what holds of each flow,
+-- what is written truly says yes to each flow or what is found of it
 writes_of_each-run : (contents : Option (List FileText)) (o : AuditOptions) (left : LeftOutValue)
     (a : Result AuditOutput RunFault) (p : Result RunOutput RunFault) (s : Result Bool RunFault)
     (r : Result AuditAnswer RunFault) (old new : Option (List ℕ)) → HasText contents o left a
@@ -104,7 +104,7 @@ writes_of_each-run contents o left a p s r old new text parts is same =
     (is_output_of-each_flow contents o left (output_of a)
     (is_output_of-audit contents o left a text)) parts is same
 
--- and what is found in the whole domain
+-- a second copy or a stray in what is written is a fault of the whole domain
 are_found_in_whole-run : (contents : Option (List FileText)) (o : AuditOptions) (left : LeftOutValue)
     (a : Result AuditOutput RunFault) (p : Result RunOutput RunFault) (s : Result Bool RunFault)
     (r : Result AuditAnswer RunFault) (old new : Option (List ℕ)) → HasText contents o left a
@@ -116,7 +116,7 @@ are_found_in_whole-run contents o left a p s r old new text parts is same =
     (is_output_of-found_in_whole contents o left (output_of a)
     (is_output_of-audit contents o left a text)) parts is same
 
--- a part of it is written if the output fails
+-- a part of such a text is written if the output fails
 writes_of_each_in_part-run : (contents : Option (List FileText)) (o : AuditOptions)
     (left : LeftOutValue)
     (a : Result AuditOutput RunFault) (p : Result RunOutput RunFault) (s : Result Bool RunFault)
@@ -131,7 +131,7 @@ writes_of_each_in_part-run contents o left a p s r old new text no_write parts i
     (is_output_of-each_flow contents o left (output_of a) (is_output_of-audit contents o left a text))
     (is_output_written-parts p (output_of a) s old new parts is))
 
--- and the headline holds after a yes
+-- after a yes, by the answer or by a line that was written, the headline holds for the files
 headline_of_files-run : (contents : Option (List FileText)) (o : AuditOptions) (left : LeftOutValue)
     (a : Result AuditOutput RunFault) (p : Result RunOutput RunFault) (s : Result Bool RunFault)
     (r : Result AuditAnswer RunFault) (old new : Option (List ℕ)) → HasText contents o left a
@@ -172,7 +172,7 @@ pub record IsRunOf (contents : Option (List FileText)) (o : AuditOptions) (left 
       Writes (AreFoundInWhole o left) files all old new))
   pub headline : AuditSaysYes (yes_of r) old new → IfSome contents FilesKeepHeadline
 
--- by the audit of the files, and how its output was written
+-- all this follows from the audit of the files and from how its output was written
 pub is_run-of_steps : (contents : Option (List FileText)) (o : AuditOptions) (left : LeftOutValue)
     (a : Result AuditOutput RunFault) (p : Result RunOutput RunFault) (s : Result Bool RunFault)
     (r : Result AuditAnswer RunFault) (old new : Option (List ℕ)) → HasText contents o left a

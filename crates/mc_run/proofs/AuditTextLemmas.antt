@@ -152,7 +152,8 @@ no_answer-without_output f p s all old new none same is =
     subst (λ (u : Result RunOutput RunFault). IsOutputWritten u s old new) none is in
     subst (λ (t : Result Bool RunFault). IsOutputWritten (Err f) t old new) (sym same) run_output
 
--- and what holds of the counts holds of the returned ones
+-- an answer comes only from an audit's output, so that what holds of the counts of the audit holds of those
+-- that are returned with the answer
 pub audit_counts-gives : (P : AuditCounts → Type 0) (a : Result AuditOutput RunFault)
     (p : Result RunOutput RunFault) (counts : AuditCounts) (s : Result Bool RunFault)
     (r : Result AuditAnswer RunFault) (old new : Option (List ℕ)) → IfOk a (λ audit. P audit.counts)

@@ -109,7 +109,7 @@ headline_holds-is_yes d flow es (Yes copies) is count keeps =
     subst (λ (n : ℕ). HeadlineHolds (net_of d flow) n) count keeps
 headline_holds-is_yes d flow es (No reason) is count keeps = absurd cc
 
--- so it does for the flow of the list
+-- the headline for a flow's list is that for the list at its place among all lists
 headline_holds-flow_is_yes : (d : DomainValue) (lists : List Tree) (flow : ℕ) (es : List Entry)
     → slice_get lists flow ≡ Some es → HeadlineHolds (net_of d flow) (length es)
     → HeadlineHolds (net_of d flow) (length (tree_at lists flow))

@@ -100,7 +100,7 @@ no_yes_line-strict_line fails n words none =
     (ap (λ xs. codes "  strict: " ++ xs) ends))
     no_yes_line-no_lines
 
--- both such lines
+-- neither of the two lines on the option strict says yes
 no_yes_line-strict_lines : (strict all : Bool) (unwanted asked : ℕ)
     → AreLinesWithoutYes (strict_lines strict all unwanted asked)
 no_yes_line-strict_lines strict all unwanted asked =
@@ -116,7 +116,7 @@ no_yes_line-strict_lines strict all unwanted asked =
 begins-asked_line : (l : List ℕ) → IsAskedLine l → BeginsWithOtherByte l
 begins-asked_line l (rest, begins) = subst BeginsWithOtherByte (sym begins) (refl, refl)
 
--- so a text of such lines has no yes
+-- lines on what hosts ask for begin with another byte than a yes, so that no text of them says yes
 no_yes_line-asked_text : (text : List ℕ) → AreLines IsAskedLine text → AreLinesWithoutYes text
 no_yes_line-asked_text text are = no_yes_line-lines IsAskedLine text begins-asked_line are
 

@@ -68,7 +68,7 @@ pub is_finished_travel-at_255 : (d : DomainValue) (flow : ℕ) (x : ExaminedFlig
 is_finished_travel-at_255 d flow x ended same has_flights =
     subst (λ (y : ExaminedFlights). HasExaminedFlights d flow y) same has_flights
 
--- and so is one with the flow's TTL
+-- the flights of a finding at the flow's own TTL hold a finished travel of a packet with that TTL
 pub is_finished_travel-at_flow_ttl : (d : DomainValue) (flow : ℕ) (x : ExaminedFlights)
     (greatest least : FinishedTravel)
     → x ≡ FoundAtFlowTtl greatest least → HasExaminedFlights d flow x
@@ -89,7 +89,7 @@ missed_besides-domain_flow d flow ttl ended has =
     ap (λ (e : DomainValue). missed_besides (facts e) ended.flight.flow cs x) has.domain
     ∙ ap (λ (n : ℕ). missed_besides (facts d) n cs x) has.flow_of_flight
 
--- with excluded routers, the kept causes are the printed ones
+-- with excluded routers the causes that are no remedies are the ones to print
 pub without_remedies-filtered : (whole : Bool) (printed kept : List Cause) → whole ≡ false
     → kept ≡ filter (λ t. not (is_remedy t)) printed → kept ≡ without_remedies whole printed
 without_remedies-filtered true printed kept part same = absurd cc
@@ -104,7 +104,7 @@ is_shown_from-greatest d flow ttl view ended same is greatest =
     subst (λ (b : Bool). IsShownFromUnless b (net_of d flow) ended.flight.flight.carried
     (finding_value ended.travel.finding) None) (sym (eq-eqb (ttl_of d flow) 255 own)) refl
 
--- and is what was worked out elsewhere
+-- where the flow's own TTL is less than 255, the TTL that was found is the one to print
 pub is_shown_from-less : {X : Type 0} (d : DomainValue) (flow ttl : ℕ) (view : FlowOfDomain)
     (ended : FinishedTravel) (r : Result (Option ℕ) X) → view ≡ record { domain = d; flow = flow }
     → ttl ≡ (net_in view).ttl → ttl ≢ 255
@@ -176,7 +176,8 @@ regrouped_behind : (old begin words feed causes shown : List ℕ)
     ≡ old ++ (begin ++ (words ++ (feed ++ (causes ++ shown))))
 regrouped_behind old begin words feed causes shown = simp append_assoc
 
--- of a second copy behind a stray
+-- the line of a second copy behind a stray, its causes and the packets that show it, appended one after
+-- another, are its text
 pub second_behind-pushed : {A X : Type 0} (d : DomainFacts) (summary : List SummaryValue)
     (flow : ℕ) (b : Behind)
     (t : TopologyValue) (x shown : Finding) (causes : List Cause) (r : Result A X) (old one two new : List ℕ)
@@ -203,7 +204,8 @@ second_behind-pushed d summary flow b t x shown causes (Ok a) old one two new sa
     ∙ ap (λ (o : Option Finding). old ++ second_behind_text d summary flow b.causes.items b.shown_from o)
     (sym some)
 
--- as text
+-- the causes, the search, the other missed LANs and what is behind a stray, appended one after another, are the
+-- explanation
 pub explanation_lines-pushed : {A X : Type 0} (v : AuditedValue) (flow : ℕ) (e : ExplanationValue)
     (t : TopologyValue) (r : Result A X) (old one two three new : List ℕ) → t ≡ v.domain.topology
     → one ≡ old ++ causes_text (facts v.domain) v.summary flow e.printed
@@ -225,7 +227,8 @@ explanation_lines-pushed v flow e t (Ok a) old one two three new same first seco
     ∙ append_assoc (old ++ lines) search (missed ++ past)
     ∙ append_assoc old lines (search ++ (missed ++ past))
 
--- all lines of a flow with a finding
+-- the finding, the packets that show it, the explanation and the events, appended one after another, are the
+-- lines of the flow
 pub wrong_lines-pushed : {A X : Type 0} (v : AuditedValue) (flow : ℕ) (travels : Bool) (travel : Travel)
     (e : ExplanationValue) (t : TopologyValue) (f : Flow) (r : Result A X) (old one two three new : List ℕ)
     → t ≡ v.domain.topology → f ≡ flow_at v.domain.topology flow
@@ -267,7 +270,8 @@ explanation_with causes found also behind known shown_by = record {
   certainty = record { known = known; shown_by = shown_by };
 }
 
--- in both, with the LANs that the travel also missed, and whether the flow is known to be wrong
+-- the lines of a finding are the same by the LANs that its travel also missed, and by whether it is then known
+-- that the flow is wrong
 pub wrong_flow_lines-same_parts : (v : AuditedValue) (o : AuditOptions) (flow ttl : ℕ)
     (ended : FinishedTravel) (causes : List Cause) (found : Option LanSearch) (behind : Option Behind)
     (shown_by : ShownBy) (also : List ℕ) (whole known : Bool) (old new : List ℕ) → also ≡ also_missed_of ended
@@ -284,7 +288,8 @@ wrong_flow_lines-same_parts v o flow ttl ended causes found behind shown_by also
 
 -- ---- what a packet with the flow's own TTL meets
 
--- where that TTL is less than the one from which on packets show the finding
+-- where the flow's own TTL is less than the one from which on packets show the finding, the finding of a packet
+-- with it is printed as far as it is certain
 pub is_found_below-less : (whole part : Bool) (d : DomainValue) (flow ttl k : ℕ) (from : Option ℕ)
     (travel : Travel)
     → ttl ≡ ttl_of d flow → from ≡ Some k → ttl < k → part ≡ whole

@@ -99,13 +99,13 @@ fault-of_output : (P : RunFault → Type 0) (a : Result AuditOutput RunFault) �
 fault-of_output P (Ok audit) own = tt
 fault-of_output P (Err fault) own = own
 
--- and what holds of a yes's fault holds of the answer's
+-- what holds of the fault of an audit's yes holds of the fault of its answer
 fault-of_answer : (P : RunFault → Type 0) (r : Result AuditAnswer RunFault) → IfErr (yes_of r) P
     → IfErr r P
 fault-of_answer P (Ok answer) own = tt
 fault-of_answer P (Err fault) own = own
 
--- the same with the number of unwanted flows beside the answer
+-- what holds of an audit's faults and of `Write` holds of the fault of its answer
 pub fault-of_audit_answer : (P : RunFault → Type 0) (a : Result AuditOutput RunFault)
     (p : Result RunOutput RunFault) (s : Result Bool RunFault) (r : Result AuditAnswer RunFault)
     (old new : Option (List ℕ)) → P Write → IfErr a P → p ≡ output_of a → IsOutputWritten p s old new

@@ -64,12 +64,12 @@ slice_get-listed_flow (Certified entries ∷ xs) zero x all at P holds =
 slice_get-listed_flow (Certified entries ∷ xs) (suc k) x all at P holds = slice_get-listed_flow xs k
     x all at P holds
 
--- if two things hold, the first one does,
+-- if two things hold, the first one does
 pub and-true_left : (a b : Bool) → (a && b) ≡ true → a ≡ true
 and-true_left true b both = refl
 and-true_left false b both = absurd (false≢true both)
 
--- and so does the second one
+-- if two things hold, the second one does
 and-true_right : (a b : Bool) → (a && b) ≡ true → b ≡ true
 and-true_right true b both = both
 and-true_right false b both = absurd (false≢true both)
@@ -130,7 +130,7 @@ each_answer-each_lines P v o answers are holds flow ls printed =
     subst (λ (xs : List ℕ). P flow xs) here.2
     (holds (trees_shown o (take flow answers)) flow here.0 (are.each flow here.0 here.1))
 
--- so the text has lines of each flow of which that holds
+-- what holds of each flow's answer holds of the lines that the whole text has of each flow
 pub has_lines-each_answer : (Holds : ℕ → List ℕ → Type 0) (v : AuditedValue) (o : AuditOptions) (all : Bool)
     (written : List ℕ) → IsAudited v o all written
     → ((printed : List Tree) (flow : ℕ) (a : FlowAnswer) → IsFlowAnswer v o printed flow a

@@ -148,7 +148,8 @@ says_yes_of-certified v o printed flow entries e wanted lines checked wants is =
       right_flow_lines o (is_whole v) (facts v.domain) printed flow entries.items w) wants;
 }
 
--- where a TTL is said from which on packets show the finding, they do
+-- where a TTL is given from which on packets show the finding, each complete run of such a packet without loss
+-- has the fault
 shows_from_ttl-by_flights : (d : DomainValue) (flow : ℕ) (x : Examined) (flights : ExaminedFlights)
     (shown : Option ℕ) → IsDomain d → HasExaminedFlights d flow flights
     → x ≡ without_flights d flow flights → IsShownFromAt255 d flow flights shown
@@ -202,7 +203,7 @@ is_true-behind_if_stray whole d flow (Stray router vif) (Some a) ok is b some =
     is_true-behind whole d flow (router, vif) b ok
     (subst (λ (o : Option Behind). IsBehindIfStray whole d flow (Stray router vif) o) some is)
 
--- so it is at TTL 255
+-- what an examination found behind a stray is true of a run of the flow
 is_true-behind_at_255 : (whole : Bool) (d : DomainValue) (flow : ℕ) (flights : ExaminedFlights)
     (behind : Option Behind) → IsDomain d → IsBehindAt255 whole d flow flights behind → (b : Behind)
     → behind ≡ Some b → IsTrueBehind d flow b

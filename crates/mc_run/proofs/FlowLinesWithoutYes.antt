@@ -101,7 +101,7 @@ no_yes_line-at_flow_ttl_text t ttl (Some found) ok =
     (ap (λ xs. begin ++ xs) (ap (λ xs. decimal ttl ++ xs) (sym (append_assoc colon words (codes "\n")))
     ∙ sym (append_assoc (decimal ttl) (colon ++ words) (codes "\n"))))
 
--- both of these
+-- neither of the lines on the packets that show a finding says yes
 no_yes_line-shown_by_text : (t : TopologyValue) (ttl : ℕ) (shown_by : ShownBy) → IsValidTopology t
     → AreLinesWithoutYes (shown_by_text t ttl shown_by)
 no_yes_line-shown_by_text t ttl shown_by ok =

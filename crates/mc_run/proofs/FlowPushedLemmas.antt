@@ -50,7 +50,7 @@ verdict_yes-accepted_list n es (Err e) exact copies accepted = tt
 verdict_yes-accepted_list n es (Ok (No reason)) exact copies accepted = absurd (false≢true (exact.1 accepted))
 verdict_yes-accepted_list n es (Ok (Yes count)) exact copies accepted = ap Yes copies
 
--- and the headline holds for it
+-- a yes of the checker carries the headline, with the number of entries as the number of copies
 pub headline_holds-verdict_yes : {X Y A : Type 0} (n : Net) (es : List Entry) (answer : Result Verdict X)
     (r : Result A Y) → IfOk answer (YesKeepsHeadline n es)
     → OnOk r (IsOkAnd answer (λ verdict. verdict ≡ Yes (length es)))
@@ -208,7 +208,8 @@ wrong_flow_lines-same_causes v o flow ttl ended seen printed found behind shown_
     puts ∙ ap (λ (ts : List Cause). old ++ wrong_flow_lines o (facts v.domain) v.summary flow ttl
     ended.travel (explanation_in (is_whole v) ended ts found behind shown_by)) same
 
--- with the status that was returned
+-- the lines that were appended for one status were appended for an equal one, which is the one that was
+-- returned
 pub is_flow_pushed-status : {X : Type 0} (v : AuditedValue) (o : AuditOptions) (flow : ℕ)
     (r : Result FlowStatus X) (status : FlowStatus) (old new : List ℕ) → IfOk r (λ s. s ≡ status)
     → OnOk r ((shown_trees : List Tree) → IsFlowPushed v o flow status shown_trees shown_trees old new)
@@ -218,7 +219,7 @@ is_flow_pushed-status v o flow (Ok s) status old new same is = λ shown_trees.
     subst (λ (t : FlowStatus). IsFlowPushed v o flow t shown_trees shown_trees old new) (sym same)
     (is shown_trees)
 
--- and the lines that were written, if any were
+-- if lines were appended at all, they are those of the finding
 pub is_flow_pushed-added : {X : Type 0} (v : AuditedValue) (o : AuditOptions) (flow : ℕ)
     (r : Result FlowStatus X) (status : FlowStatus) (old new lines : List ℕ)
     → ((written : List ℕ) → written ≡ old ++ lines → (shown_trees : List Tree)
@@ -228,7 +229,7 @@ pub is_flow_pushed-added : {X : Type 0} (v : AuditedValue) (o : AuditOptions) (f
 is_flow_pushed-added v o flow (Err e) status old new lines is added = tt
 is_flow_pushed-added v o flow (Ok s) status old new lines is added = is new added
 
--- whichever trees were printed before
+-- lines that print no tree are right after whichever trees were printed before
 pub is_flow_pushed-any_shown_trees : {X : Type 0} (v : AuditedValue) (o : AuditOptions) (flow : ℕ)
     (r : Result FlowStatus X)
     (old new : List ℕ) (shown_trees : List Tree)

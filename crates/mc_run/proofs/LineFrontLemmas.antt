@@ -30,7 +30,7 @@ takes_piece-front_full s b full few = λ more.
     take-append-le 100 s.front.items (line_after_feeds s.before (b ∷ more)) full
     ∙ take_all 100 s.front.items few
 
--- nothing more comes
+-- if nothing more comes, the front is what was taken so far
 pub front_after_more-nothing : (s : LineFront) → length s.front.items ≤ 100 → front_after_more s []
     ≡ s.front.items
 front_after_more-nothing s few = by s.before

@@ -153,7 +153,7 @@ indented_lines (l ∷ ls) feedless =
     (no_feed-from_list_all l (feedless l (inl refl)))) refl)
     (indented_lines ls (λ m h. feedless m (inr h)))
 
--- so a text of such lines has no yes
+-- indented lines begin with a space, so that no text of them says yes
 pub no_yes_line-indented_lines : (text : List ℕ) → AreIndented text → AreLinesWithoutYes text
 no_yes_line-indented_lines text is =
     subst AreLinesWithoutYes (sym is.spelled) (indented_lines is.lines is.feedless)
@@ -170,7 +170,7 @@ lines_indented_by Begins (l ∷ ls) other begins feedless =
     (no_feed-from_list_all l (feedless l (inl refl))) refl)
     (lines_indented_by Begins ls other (λ m h. begins m (inr h)) (λ m h. feedless m (inr h)))
 
--- so a text of such lines has no yes
+-- lines that begin with another byte than a yes make a text that doesn't say yes
 pub no_yes_line-lines : (Begins : List ℕ → Type 0) (text : List ℕ)
     → ((l : List ℕ) → Begins l → BeginsWithOtherByte l) → AreLines Begins text → AreLinesWithoutYes text
 no_yes_line-lines Begins text other are =
@@ -182,7 +182,7 @@ pub begins-row_line : (l : List ℕ) → IsUnlistedLine l → BeginsWithOtherByt
 begins-row_line l (rest, inl begins) = subst BeginsWithOtherByte (sym begins) (refl, refl)
 begins-row_line l (rest, inr begins) = subst BeginsWithOtherByte (sym begins) (refl, refl)
 
--- so does one on an excluded router
+-- a line on an excluded router begins with another byte than a yes
 pub begins-excluded_line : (l : List ℕ) → IsExcludedLine l → BeginsWithOtherByte l
 begins-excluded_line l (rest, begins) = subst BeginsWithOtherByte (sym begins) (refl, refl)
 
@@ -228,7 +228,7 @@ no_yes_line-each_object (l ∷ ls) begins other feedless =
     (no_yes_line-each_object ls (λ m h. begins m (inr h)) (λ m h. other m (inr h))
     (λ m h. feedless m (inr h)))
 
--- so a text of such lines has no yes
+-- objects other than the verdict make a text that doesn't say yes
 pub no_yes_line-objects : (text : List ℕ) → AreObjectLines text → AreLinesWithoutYes text
 no_yes_line-objects text are =
     subst AreLinesWithoutYes (sym are.spelled) (no_yes_line-each_object are.lines are.begins

@@ -116,7 +116,7 @@ are_made_so_far-more d k lists lines f x made at is =
           ∙ sym (found_lines_of_flows-push d.topology d.topology.flows made.examined f x flow);
     }
 
--- it is certified, and its list was added
+-- where the next flow is certified, its list is added and the lines stay as they are
 pub are_made_so_far-certified : (d : DomainValue) (k : ℕ) (old : List Tree) (lists : List Tree)
     (lines : List ℕ) (x : Examined) (entries : Vec Reached Global) → AreMadeSoFar d k old lines
     → k < length d.topology.flows → IsExamined d k x → x ≡ Certified entries
@@ -130,7 +130,7 @@ are_made_so_far-certified d k old lists lines x entries made lt is same grown =
     (subst (λ (ls : List ℕ). AreMadeSoFar d (k + 1) (old ++ entries.items ∷ []) ls)
     (append-nil lines) here)
 
--- a fault was found, and its lines were written
+-- where the next flow has a finding, its lines are added and the lists stay as they are
 pub are_made_so_far-found : (d : DomainValue) (k : ℕ) (lists : List Tree) (old lines : List ℕ) (f : Flow)
     (x : Examined) (ttl : ℕ) (travel : Travel) → AreMadeSoFar d k lists old
     → slice_get d.topology.flows k ≡ Some f → IsExamined d k x → x ≡ Found ttl travel
@@ -150,7 +150,7 @@ certified_lists-at_most_flows [] = omega arith
 certified_lists-at_most_flows (Certified entries ∷ xs) = omega (arith, certified_lists-at_most_flows xs)
 certified_lists-at_most_flows (Found ttl travel ∷ xs) = omega (arith, certified_lists-at_most_flows xs)
 
--- so after k flows there are at most k
+-- each flow adds at most one list, so that the first k flows have at most k
 pub made_lists-at_most_flows : (d : DomainValue) (k : ℕ) (lists : List Tree) (lines : List ℕ)
     → AreMadeSoFar d k lists lines → length lists ≤ k
 made_lists-at_most_flows d k lists lines made =

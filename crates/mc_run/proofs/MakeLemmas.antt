@@ -41,7 +41,8 @@ certified_lists-each P (Certified entries ∷ xs) each =
     (certified_lists-each P xs (λ k x at. each (suc k) x at))
 certified_lists-each P (Found ttl travel ∷ xs) each = certified_lists-each P xs (λ k x at. each (suc k) x at)
 
--- so the lists belong to the topology
+-- if all flows are certified, there is a list for each and a certificate can hold it, so that the lists belong
+-- to the topology
 pub certified_lists-belong : (d : DomainValue) (xs : List Examined) → AreExamined d xs
     → are_certified xs ≡ true → BelongsTo d.topology (certified_lists xs)
 certified_lists-belong d xs are all = record {
@@ -49,10 +50,10 @@ certified_lists-belong d xs are all = record {
   entries = certified_lists-each (All (IsEntryOf d.topology)) xs (λ k x at. (are.each k x at).listed);
 }
 
--- and each can be written
-pub certified_lists-keep_headline : (d : DomainValue) (xs : List Examined) → AreExamined d xs
+-- a certificate can hold each list of a certified flow
+pub certified_lists-writable : (d : DomainValue) (xs : List Examined) → AreExamined d xs
     → All IsWritableTree (certified_lists xs)
-certified_lists-keep_headline d xs are = certified_lists-each IsWritableTree xs
+certified_lists-writable d xs are = certified_lists-each IsWritableTree xs
     (λ k x at. (are.each k x at).writable)
 
 -- no line is written exactly if every flow is certified
@@ -65,7 +66,7 @@ found_lines-none_if_certified t (f ∷ fs) (Certified entries ∷ xs) count none
     found_lines-none_if_certified t fs xs (omega (arith, count)) none
 found_lines-none_if_certified t (f ∷ fs) (Found ttl travel ∷ xs) count none = absurd cc
 
--- and where a line is written, one isn't certified
+-- a flow that isn't certified has lines, and these aren't empty
 pub found_lines-some_if_found : (t : TopologyValue) (fs : List Flow) (xs : List Examined)
     → length xs ≡ length fs
     → length (found_lines_of_flows t fs xs) ≢ 0 → are_certified xs ≡ false
@@ -87,7 +88,7 @@ is_certified-at_flow (y ∷ xs) zero x all at =
     subst (λ (z : Examined). is_certified z ≡ true) same (and_parts _ _ all).0
 is_certified-at_flow (y ∷ xs) (suc k) x all at = is_certified-at_flow xs k x (and_parts _ _ all).1 at
 
--- and if each is, all are
+-- if each flow is certified, all are
 are_certified-each : (xs : List Examined)
     → ((k : ℕ) (x : Examined) → slice_get xs k ≡ Some x → is_certified x ≡ true)
     → are_certified xs ≡ true
@@ -127,7 +128,7 @@ are_certified-no_lines d lists lines made none =
     found_lines-none_if_certified d.topology d.topology.flows made.examined made.are_examined.count
     (ap (λ (ls : List ℕ). length ls) (sym made.lines_are) ∙ none)
 
--- and one isn't if there are lines
+-- if there are lines, some flow isn't certified
 are_certified-some_lines : (d : DomainValue) (lists : List Tree) (lines : List ℕ)
     (made : AreMadeListsAndLines d lists lines)
     → length lines ≢ 0 → are_certified made.examined ≡ false
@@ -167,7 +168,7 @@ is_make_output-certificate d t lists lines written made same none spelled = reco
       ∙ ap (λ ls. certificate_json d.topology ls ++ codes "\n") made.lists_are;
 }
 
--- and what the answer says of the flows
+-- the answer of `make` is whether all flows are right, since a flow is certified exactly if it is right
 pub says_all_right-make_output : (text : List ℕ) (certified : Bool) (written : List ℕ)
     → IsMadeText text certified written → SaysAllRight text certified
 says_all_right-make_output text certified written m = record {

@@ -19,7 +19,7 @@ use Rattle.mc_run.specs.RefusalText.{IsRefusalReason, IsRefusedFileLine, IsRefus
 failures_with-none : (before : ℕ) → before ≡ saturating_failures 0 before
 failures_with-none before = omega arith
 
--- some calls failed, and then some more
+-- calls that failed first and calls that failed later are counted together, up to the greatest number
 failures_with-more : (one more before : ℕ)
     → saturating_failures more (saturating_failures one before) ≡ saturating_failures (one + more) before
 failures_with-more one more before = omega arith
@@ -85,7 +85,8 @@ refused_file_lines-push contents (first ∷ files) file one more text line
       ap (λ t. t ++ line) whole ∙ append_assoc front rest line,
     )
 
--- the same for the files before an index of a list and the one there, with unchanged contents of the source
+-- the lines of the files before an index and the line of the file there are those of one file more, as the
+-- source's contents stay the same
 pub refused_file_lines-more : (contents other : Option (List FileText)) (files : List RefusedFile)
     (i : ℕ) (file : RefusedFile)
     (old between new : List ℕ) (before middle after : ℕ) → other ≡ contents → i < length files

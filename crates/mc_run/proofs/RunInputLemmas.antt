@@ -59,7 +59,7 @@ is_refused_for-source_fault with text (source.Input (input.Reports part f)) is =
     refl
 is_refused_for-source_fault with text (source.Input input.Memory) is = tt
 
--- and the same for the contents of an input
+-- the first fault of a source of parts is that of the input, if the input's contents are known
 pub is_refused_for-source_of_contents : (contents : Option (List ℕ)) (with : Bool) (f : SourceFault)
     → ((text : List ℕ) → contents ≡ Some text → ¬ IsReadOrMemory f
     → map_fault source.Input (input_of_bundle with text) ≡ Err f)
@@ -88,7 +88,7 @@ of_domain-meant Means Holds (Some x) d means holds = record {
   holds = holds;
 }
 
--- the same for the result of a call
+-- what a call's result says of the domain that was read, it says of the one that the input means
 pub of_domain-ok_result : {X A F : Type 0} (Means : X → DomainValue → Type 0)
     (Holds : A → DomainValue → Type 0) (contents : Option X) (d : DomainValue) (r : Result A F)
     → IfSome contents (λ x. Means x d)

@@ -23,7 +23,7 @@ counted_reads-no_device_fault (Ok a) before none = refl
 counted_reads-no_device_fault (Err f) before none =
     subst (λ (b : Bool). before ≡ cond b (before + 1) before) (sym none.0) refl
 
--- and it isn't the output's
+-- a fault that is no device's isn't `Write`
 pub is_write_fault-other_fault : {A : Type 0} (r : Result A RunFault) → IfErr r IsNoDeviceFault
     → IfErr r (λ fault. is_write fault ≡ false)
 is_write_fault-other_fault (Ok a) none = tt
@@ -37,7 +37,8 @@ abbrev pub IsOutputOf : {X : Type 0} → Option X → (X → Bool → List ℕ �
 IsOutputOf contents Says s =
     IfOk s (λ run_output. IfSome contents (λ x. Says x run_output.yes (string_bytes run_output.text)))
 
--- so its answer is right,
+-- the answer is right: it is the one that came with the text, or the fault came before the writing, or is
+-- `Write`
 pub answers-output_written : {X : Type 0} (contents : Option X) (Says : X → Bool → List ℕ → Type 0)
     (Refuses : X → RunFault → Type 0) (s : Result RunOutput RunFault) (r : Result Bool RunFault)
     (old new : Option (List ℕ)) → ((x : X) → Refuses x Write) → IsOutputOf contents Says s
@@ -64,7 +65,7 @@ fault-of_output_or_write P (Ok run_output) (Err fault) old new write own is = su
 fault-of_output_or_write P (Err cause) (Ok answer) old new write own is = absurd is
 fault-of_output_or_write P (Err cause) (Err fault) old new write own is = subst P (sym is.0) own
 
--- so is what follows from the answer,
+-- what follows from each right text and its answer follows from the run's answer
 pub answer-gives : {X : Type 0} (contents : Option X) (Says : X → Bool → List ℕ → Type 0)
     (So : X → Bool → Type 0) (s : Result RunOutput RunFault) (r : Result Bool RunFault)
     (old new : Option (List ℕ))
@@ -91,7 +92,7 @@ writes-output_written (Some x) Says (Ok run_output) (Ok answer) old new says is 
 )
 writes-output_written (Some x) Says (Err cause) (Ok answer) old new says is = absurd is
 
--- and the part that is written if the output fails
+-- no fault before the writing is `Write`, so that with this one a part of a right text was written
 pub writes_part-output_written : {X : Type 0} (contents : Option X) (Says : X → Bool → List ℕ → Type 0)
     (s : Result RunOutput RunFault) (r : Result Bool RunFault) (old new : Option (List ℕ))
     → IfErr s (λ fault. is_write fault ≡ false) → IsOutputOf contents Says s → IsOutputWritten s r old new

@@ -56,7 +56,7 @@ is_behind_in-unique whole t n own g double x y p q = record {
   missed = p.missed ∙ sym q.missed;
 }
 
--- so there is behind a stray
+-- two descriptions of what is behind one stray agree, since the run behind it is determined
 is_behind-unique : (whole : Bool) (d : DomainValue) (flow : ℕ) (own : Interface) (x y : Behind)
     → IsBehind whole d flow own x → IsBehind whole d flow own y → IsSameBehind x y
 is_behind-unique whole d flow own x y p q =

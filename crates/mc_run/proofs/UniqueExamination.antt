@@ -56,7 +56,8 @@ fault_at_255-not_at_flow_ttl : (d : DomainValue) (flow : ℕ) (a b : FinishedTra
 fault_at_255-not_at_flow_ttl d flow a b p q fault none =
     let same = is_finished_travel-unique d flow 255 a b p q in fault (ap finding_value same.finding ∙ none)
 
--- so two examinations of a flow have the same result
+-- two examinations of a flow have the same result, since a flow is right or isn't, and the travels are
+-- determined
 pub examined_flights-unique : (d : DomainValue) (flow : ℕ) (a b : ExaminedFlights)
     → HasExaminedFlights d flow a → HasExaminedFlights d flow b
     → IsExamined d flow (without_flights d flow a) → IsExamined d flow (without_flights d flow b)

@@ -47,7 +47,7 @@ pub record IsSameExplanation (x y : ExplanationValue) : Type 0 where
   pub behind : HaveSameBehind x.behind y.behind
   pub certainty : x.certainty ≡ y.certainty
 
--- by the same search a fault is known or not
+-- by the same search it is known that the flow is wrong, or isn't
 is_known_wrong-same_search : (whole : Bool) (s t : Option LanSearch) → HaveSameSearch s t
     → is_known_wrong whole s ≡ is_known_wrong whole t
 is_known_wrong-same_search true s t same = refl
@@ -80,7 +80,7 @@ is_shown_from_unless-unique : (greatest : Bool) (n : Net) (cs : List Copy) (x : 
 is_shown_from_unless-unique true n cs x s t net p q = p ∙ sym q
 is_shown_from_unless-unique false n cs x s t net p q = is_shown_from_if_any-unique n cs x s t net p q
 
--- so it is for the same flights
+-- by the same flights packets show the finding from the same TTL on
 is_shown_from-unique : (d : DomainValue) (flow : ℕ) (a b : ExaminedFlights) (s t : Option ℕ) → IsDomain d
     → HaveSameFlights a b → IsShownFromAt255 d flow a s → IsShownFromAt255 d flow b t → s ≡ t
 is_shown_from-unique d flow (FoundAtTtl255 a) (FoundAtTtl255 b) s t ok same p q =
@@ -99,7 +99,7 @@ is_shown_from-unique d flow (FoundAtTtl255 a) (FoundAtFlowTtl b c) s t ok same p
 is_shown_from-unique d flow (FoundAtFlowTtl a b) (Certified ys) s t ok same p q = absurd same
 is_shown_from-unique d flow (FoundAtFlowTtl a b) (FoundAtTtl255 c) s t ok same p q = absurd same
 
--- and so is what a packet with the flow's own TTL meets
+-- what is printed of a packet with the flow's own TTL is determined, since its travel is
 is_found_at_flow_ttl-unique : (whole : Bool) (d : DomainValue) (flow : ℕ) (s t : Option Finding)
     → IsFoundAtFlowTtl whole d flow s → IsFoundAtFlowTtl whole d flow t → s ≡ t
 is_found_at_flow_ttl-unique whole d flow s t p q =
@@ -111,20 +111,20 @@ is_found_at_flow_ttl-unique whole d flow s t p q =
     ∙ ap finding_of_value same.2 ∙ finding_value-injective q.travel.finding in
     p.certain ∙ ap (certain_finding whole) finding ∙ sym q.certain
 
--- if it is asked for
+-- so it is where it is printed only if that TTL is less than another
 is_found_at_flow_ttl_if-unique : (less whole : Bool) (d : DomainValue) (flow : ℕ) (s t : Option Finding)
     → IsFoundAtFlowTtlIf less whole d flow s → IsFoundAtFlowTtlIf less whole d flow t → s ≡ t
 is_found_at_flow_ttl_if-unique true whole d flow s t p q = is_found_at_flow_ttl-unique whole d flow s t p q
 is_found_at_flow_ttl_if-unique false whole d flow s t p q = p ∙ sym q
 
--- by the TTL from which on packets show the finding, if there is one
+-- so it is by the TTL from which on packets show the finding, if one is given
 is_found_below-unique : (whole : Bool) (d : DomainValue) (flow : ℕ) (from : Option ℕ) (s t : Option Finding)
     → IsFoundBelow whole d flow from s → IsFoundBelow whole d flow from t → s ≡ t
 is_found_below-unique whole d flow None s t p q = p ∙ sym q
 is_found_below-unique whole d flow (Some k) s t p q =
     is_found_at_flow_ttl_if-unique (nat_lt (ttl_of d flow) k) whole d flow s t p q
 
--- so what is printed of the packets that show it is unique
+-- by the same flights the same packets show the finding
 is_shown_by-unique : (whole : Bool) (d : DomainValue) (flow : ℕ) (a b : ExaminedFlights) (s t : ShownBy)
     → IsDomain d → HaveSameFlights a b → IsShownBy whole d flow a s → IsShownBy whole d flow b t → s ≡ t
 is_shown_by-unique whole d flow a b s t ok same p q =
@@ -137,7 +137,7 @@ is_shown_by-unique whole d flow a b s t ok same p q =
 same_certainty : (x y : Certainty) → x.known ≡ y.known → x.shown_by ≡ y.shown_by → x ≡ y
 same_certainty x y known shown = λ i. record { known = known i; shown_by = shown i }
 
--- so two explanations of a flow are the same
+-- two explanations by the same flights agree in each part
 pub is_explanation-unique : (d : DomainValue) (summary : List SummaryValue) (excluded : List Bool)
     (whole : Bool) (flow : ℕ) (a b : ExaminedFlights) (x y : ExplanationValue) → IsDomain d
     → HaveSameFlights a b → IsExplanation d summary excluded whole flow a x

@@ -121,7 +121,7 @@ known_right-same whole (examined_as.Found ttl travel) (examined_as.Found at othe
     other same is =
     ap (λ (b : Bool). known_right whole (examined_as.Found ttl travel) b) is
 
--- so a flow has one answer, after the same trees
+-- after the same printed trees a flow has one answer, since its flights and its explanation are determined
 same_answer-flow_answers : (v : AuditedValue) (o : AuditOptions) (printed : List Tree) (flow : ℕ)
     (a b : FlowAnswer)
     → IsDomain v.domain → IsFlowAnswer v o printed flow a → IsFlowAnswer v o printed flow b
@@ -186,7 +186,7 @@ are_answers_from-first v o answers each flow a there =
     let place : flow ≡ 0 + flow = omega arith in
     subst (λ (n : ℕ). IsFlowAnswer v o (trees_shown o (take flow answers)) n a) place (each flow a there)
 
--- after an answer come those from the next flow on
+-- without the first answer, the others are those from the next flow on
 are_answers_from-next : (v : AuditedValue) (o : AuditOptions) (k : ℕ) (printed : List Tree) (a : FlowAnswer)
     (answers : List FlowAnswer) → AreAnswersFrom v o k printed (a ∷ answers)
     → AreAnswersFrom v o (suc k) (shown_trees_with o a.net printed a.examined a.wanted) answers
@@ -196,7 +196,7 @@ are_answers_from-next v o k printed a answers from i b there =
     (fold (λ (ts : List Tree) (c : FlowAnswer). shown_trees_with o c.net ts c.examined c.wanted)
     (shown_trees_with o a.net printed a.examined a.wanted) (take i answers)) n b) place (from (suc i) b there)
 
--- so all flows have the same answers
+-- two lists of answers for the flows of one domain agree, flow by flow
 pub have_same_answers-flow_answers : (v : AuditedValue) (o : AuditOptions) (k : ℕ) (printed : List Tree)
     (xs ys : List FlowAnswer) → IsDomain v.domain → length xs ≡ length ys → AreAnswersFrom v o k printed xs
     → AreAnswersFrom v o k printed ys → HaveSameAnswers o xs ys
@@ -224,7 +224,7 @@ lines-same_answers o (a ∷ xs) [] same = absurd same
 lines-same_answers o (a ∷ xs) (b ∷ ys) same =
     ap₂ (λ (xs ys : List ℕ). xs ++ ys) same.0.lines (lines-same_answers o xs ys same.1)
 
--- and are right or not together
+-- the same answers are all right, or in both lists one isn't
 pub are_right-same_answers : (o : AuditOptions) (xs ys : List FlowAnswer) → HaveSameAnswers o xs ys
     → are_right xs ≡ are_right ys
 are_right-same_answers o [] [] same = refl

@@ -113,7 +113,7 @@ missed_besides-same_copies : (d : DomainFacts) (flow : ℕ) (a b : FinishedTrave
 missed_besides-same_copies d flow a b same =
     ap₂ (λ (f : Flight) (x : Finding). missed_besides d flow f.carried x) same.flight same.finding
 
--- so do the same flights
+-- the same flights miss the same other LANs
 pub also_missed-same_flights : (d : DomainFacts) (flow : ℕ) (a b : ExaminedFlights) → HaveSameFlights a b
     → also_missed d flow a ≡ also_missed d flow b
 also_missed-same_flights d flow (Certified xs) (Certified ys) same = refl

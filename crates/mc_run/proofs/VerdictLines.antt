@@ -76,7 +76,7 @@ verdict_text-no_line_feed t (No r) ok = no_feed-append (codes "no ") _
 abbrev pub line_body : TopologyValue → Flow → Verdict → List ℕ
 line_body t f v = flow_words f ++ (codes " " ++ verdict_text t v)
 
--- it has no line feed
+-- the line of a flow and its verdict has no line feed before the one that ends it
 pub flow_line_body : (t : TopologyValue) (f : Flow) (v : Verdict) → IsValidTopology t
     → HasNoByte 10 (line_body t f v)
 flow_line_body t f v ok =
@@ -204,7 +204,7 @@ abbrev pub BeginsWithOtherByte : List ℕ → Type 0
 BeginsWithOtherByte [] = ⊥
 BeginsWithOtherByte (b ∷ xs) = (eqb b 118 ≡ false) × (eqb b 123 ≡ false)
 
--- so the words of a yes don't begin there
+-- a line that begins with another byte than a yes doesn't begin with the words of one
 yes_words-other_first_byte : (xs begin tail rest : List ℕ) → BeginsWithOtherByte xs → AreYesWords begin
     → xs ++ (10 ∷ tail) ≡ begin ++ rest → ⊥
 yes_words-other_first_byte [] begin tail rest other are same = other

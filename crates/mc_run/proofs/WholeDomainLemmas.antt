@@ -46,7 +46,8 @@ found_ttl-flow_ttl_or_255 d flow (FoundAtTtl255 ended) ok lt = (ttl-at_most_255 
 found_ttl-flow_ttl_or_255 d flow (FoundAtFlowTtl greatest least) ok lt =
     (omega arith, ttl-at_most_255 d flow ok lt)
 
--- it is a fault of the whole domain, whatever the excluded routers have
+-- a second copy or a stray that is found without the excluded routers is a fault of the whole domain, since
+-- their tables only add copies
 not_right-whole_domain : (o : AuditOptions) (left : LeftOutValue) (files : List FileText) (v : AuditedValue)
     (flow ttl : ℕ) (travel : Travel) → MeansAudited o left files v → ttl_of v.domain flow ≤ ttl
     → ttl ≤ 255 → IsFirstPickTravel v.domain flow ttl travel
@@ -86,7 +87,7 @@ is_found_in_whole-answer_lines o left files v printed flow (examined.Found ttl t
       wrong = not_right-whole_domain o left files v flow ttl travel audited within.0 within.1 runs;
     })
 
--- so it is for a flow's answer
+-- the lines of a flow's answer say yes, or give a finding that is one of the whole domain
 is_found_in_whole-flow_answer : (o : AuditOptions) (left : LeftOutValue) (files : List FileText)
     (v : AuditedValue)
     (printed : List Tree) (flow : ℕ) (a : FlowAnswer) → MeansAudited o left files v
@@ -101,7 +102,7 @@ is_found_in_whole-flow_answer o left files v printed flow a audited is =
     is_found_in_whole-answer_lines o left files v printed flow a.examined is.explanation
     a.wanted a.lines audited is.checked runs within is.wanted is.spelled
 
--- and for each flow of an audit
+-- the text of an audit has such lines of each flow
 yes_or_found_in_whole-audited : (o : AuditOptions) (left : LeftOutValue) (files : List FileText)
     (v : AuditedValue) (all : Bool) (written : List ℕ)
     → MeansAudited o left files v → IsAudited v o all written
@@ -110,7 +111,7 @@ yes_or_found_in_whole-audited o left files v all written means a =
     has_lines-each_answer (SaysYesOrFoundInWhole v o files) v o all written a
     (λ printed flow b is. is_found_in_whole-flow_answer o left files v printed flow b means is)
 
--- and for the run's output
+-- the output of an audit gives findings of the whole domain, since each text of an audit does
 pub is_output_of-found_in_whole : (contents : Option (List FileText)) (o : AuditOptions)
     (left : LeftOutValue)
     (s : Result RunOutput RunFault) → IsOutputOf contents (IsAuditText o left) s

@@ -94,7 +94,7 @@ headline-wrote_yes_line words (Some x) Says Headline (Err cause) (Err fault) old
     absurd (wrote_at_start-nothing_written words old are
     (subst (λ (o : Option (List ℕ)). WroteAtStart words old o) is.1 wrote))
 
--- and after one that returns true.
+-- the headline holds after a run that returns yes, since the answer is that of its text
 headline-answered_true : (Keeps : Type 0) (s : Result RunOutput RunFault) (r : Result Bool RunFault)
     (old new : Option (List ℕ)) → IfOk s (λ run_output. IsTrue run_output.yes → Keeps)
     → IsOutputWritten s r old new
@@ -106,7 +106,7 @@ headline-answered_true Keeps (Ok run_output) (Err fault) old new keeps is ok = a
 headline-answered_true Keeps (Err cause) (Ok answer) old new keeps is ok = absurd is
 headline-answered_true Keeps (Err cause) (Err fault) old new keeps is ok = absurd cc
 
--- So it holds after a check that says yes,
+-- the headline holds after a check that says yes, by its answer or by a line
 pub headline-check_says_yes : {X : Type 0} (contents : Option X) (Says : X → Bool → List ℕ → Type 0)
     (Headline : X → Type 0) (s : Result RunOutput RunFault) (r : Result Bool RunFault)
     (old new : Option (List ℕ)) → SaysYesByLine (codes "verdict yes") Says → IsOutputOf contents Says s
@@ -118,7 +118,7 @@ headline-check_says_yes contents Says Headline s r old new last says keeps is (i
     headline-wrote_yes_line (codes "verdict yes") contents Says Headline s r old new (inl refl) last
     says keeps is wrote
 
--- and after an audit, which says it in text or in JSON.
+-- the headline holds after an audit that says yes, by its answer or by a line of text or of JSON
 pub headline-audit_says_yes : {X : Type 0} (contents : Option X) (Says : X → Bool → List ℕ → Type 0)
     (Headline : X → Type 0) (s : Result RunOutput RunFault) (r : Result Bool RunFault)
     (old new : Option (List ℕ)) → SaysYesByLine (codes "verdict yes") Says → SaysYesByLine yes_object Says

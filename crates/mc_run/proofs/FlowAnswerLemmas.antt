@@ -1,4 +1,5 @@
--- What an audit prints of each flow: the examinations behind its lines, and where these lines stand in the text.
+-- What an audit prints of each flow: the examinations behind its lines, and where these lines stand in the
+-- text.
 use Rattle.std.proofs.Common.{◌≡◌, ℕ, zero, suc, Bool, true, false, List, [], ◌∷◌, ◌++◌, length, Some}
 use Rattle.std.proofs.Common.{refl, sym, ap, subst, ◌∙◌, arith}
 use Rattle.std.specs.Prelude.{◌&&◌, flat_map, map, slice_get, take}

@@ -1,6 +1,6 @@
--- The lines of an audit after those of the flows (docs/FORMATS.md, the section "The program"): as text or in JSON
--- the unlisted sources and groups of the caches, what hosts ask for and no flow answers, the excluded routers,
--- the numbers of flows, and the verdict.
+-- The lines of an audit after those of the flows (docs/FORMATS.md, the section "The program"): as text or in
+-- JSON the unlisted sources and groups of the caches, what hosts ask for and no flow answers, the excluded
+-- routers, the numbers of flows, and the verdict.
 use Rattle.std.specs.Prelude.{ℕ, ◌==◌, ◌+◌, ◌&&◌, not, Bool, List, [], ◌++◌, codes, decimal, length}
 use Rattle.std.specs.Prelude.{if◌then◌else◌, true, false}
 use Rattle.mc_tables.specs.Summary.{SummaryValue}

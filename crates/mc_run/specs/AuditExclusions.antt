@@ -1,6 +1,6 @@
 -- What an audit with excluded routers says of the whole domain. `AreFoundInWhole` is the relation to trust: a
--- second copy or a stray that is found without the tables of some routers is a fault whatever these have, so that
--- the flow isn't right in the whole domain either.
+-- second copy or a stray that is found without the tables of some routers is a fault whatever these have, so
+-- that the flow isn't right in the whole domain either.
 use Rattle.std.specs.Prelude.{◌≡◌, ◌≤◌, ◌⊎◌, ℕ, Bool, List}
 use Rattle.mc_files.specs.Files.{FileText}
 use Rattle.mc_theory.specs.Certificates.{IsRight}
@@ -16,18 +16,18 @@ use Rattle.mc_run.specs.AuditClaims.{HasLinesOfEachFlow, SaysYesOf, finding_line
 use Rattle.mc_run.specs.AuditedFiles.{AuditedValue, LeftOutValue, MeansAuditedWhere}
 
 -- The lines give the finding of the flow, and a second copy or a stray is a fault of the whole domain.
-pub record IsFoundInWhole (v : AuditedValue) (o : AuditOptions) (files : List FileText) (flow : ℕ)
+pub record IsFoundInWhole (audited : AuditedValue) (options : AuditOptions) (files : List FileText) (flow : ℕ)
     (lines : List ℕ) : Type 0 where
   pub ttl : ℕ
   pub travel : Travel
   pub explanation : ExplanationValue
   -- The finding is that of a packet with a TTL from the flow's own to 255,
-  pub least : ttl_of v.domain flow ≤ ttl
+  pub least : ttl_of audited.domain flow ≤ ttl
   pub greatest : ttl ≤ 255
   -- in whose travel the first waiting copy is handled each time.
-  pub runs : IsFirstPickTravel v.domain flow ttl travel
+  pub runs : IsFirstPickTravel audited.domain flow ttl travel
   -- The lines give it.
-  pub spelled : lines ≡ finding_lines v o flow ttl travel explanation
+  pub spelled : lines ≡ finding_lines audited options flow ttl travel explanation
   -- If it is a second copy on a LAN, or a stray, then the flow isn't right either in the domain that the files
   -- mean without any exclusion, if they mean one.
   pub wrong : IsSecondCopyOrStray (finding_value travel.finding) → (whole : DomainValue)
@@ -36,10 +36,12 @@ pub record IsFoundInWhole (v : AuditedValue) (o : AuditOptions) (files : List Fi
 -- The lines say yes to the flow, or give such a finding.
 abbrev pub SaysYesOrFoundInWhole : AuditedValue → AuditOptions → List FileText → (flow : ℕ) → (lines : List ℕ)
     → Type 0
-SaysYesOrFoundInWhole v o files flow lines = SaysYesOf v o flow lines ⊎ IsFoundInWhole v o files flow lines
+SaysYesOrFoundInWhole audited options files flow lines =
+    SaysYesOf audited options flow lines ⊎ IsFoundInWhole audited options files flow lines
 
 -- The files mean what is audited, and the text has such lines of each flow.
 abbrev pub AreFoundInWhole : AuditOptions → (left : LeftOutValue) → List FileText → (all : Bool)
     → (written : List ℕ) → Type 0
-AreFoundInWhole o left files all written = MeansAuditedWhere o left
-    (λ v. HasLinesOfEachFlow v o.json all (SaysYesOrFoundInWhole v o files) written) files
+AreFoundInWhole options left files all written =
+    MeansAuditedWhere options left (λ audited.
+    HasLinesOfEachFlow audited options.json all (SaysYesOrFoundInWhole audited options files) written) files

@@ -1,6 +1,6 @@
--- What a yes of `audit` promises (docs/PROMISES.md). `AuditSaysYes` and `FilesKeepHeadline` are to be trusted:
--- after a yes, by the answer or by the line that was written, the headline holds for each flow of the domain that
--- the files mean. By `IsYesLineLast` the line of a yes stands nowhere else in a text.
+-- What a yes of `audit` promises (docs/PROMISES.md). `AuditSaysYes` and `FilesKeepHeadline` are to be
+-- trusted: after a yes, by the answer or by the line that was written, the headline holds for each flow of
+-- the domain that the files mean. By `IsYesLineLast` the line of a yes stands nowhere else in a text.
 use Rattle.std.specs.Prelude.{◌≡◌, ◌⊎◌, ℕ, Bool, true, List, ◌++◌, codes, if◌then◌else◌, Option, Result, Ok}
 use Rattle.mc_files.specs.Files.{FileText}
 use Rattle.mc_forward.specs.Domains.{DomainValue}
@@ -13,10 +13,10 @@ use Rattle.mc_run.specs.declared.fault.RunFault.{RunFault}
 -- ---- the headline
 
 -- Each of the domain's flows has a list of entries for which the headline holds.
-pub record KeepsHeadlineByLists (d : DomainValue) : Type 0 where
+pub record KeepsHeadlineByLists (domain : DomainValue) : Type 0 where
   pub examined : List Examined
-  pub are_examined : AreExamined d examined
-  pub keeps : KeepsHeadline d (certified_lists examined)
+  pub are_examined : AreExamined domain examined
+  pub keeps : KeepsHeadline domain (certified_lists examined)
 
 -- The files mean a domain of which this holds.
 abbrev pub FilesKeepHeadline : List FileText → Type 0

@@ -39,25 +39,26 @@ left_out left = record { routers = map (λ name. name.now) left.without.now; gro
 
 -- a mark for each router: whether it is excluded
 abbrev pub excluded : AuditedValue → List Bool
-excluded v = excluded_marks v.domain.topology v.without
+excluded audited = excluded_marks audited.domain.topology audited.without
 
 -- whether no router is excluded
 abbrev pub is_whole : AuditedValue → Bool
-is_whole v = length v.without == 0
+is_whole audited = length audited.without == 0
 
 -- The files mean this domain without what is left out, with these summaries of caches and with what hosts ask
 -- for by their lists. The domain's topology has routers of the names that are excluded.
-pub record MeansAudited (o : AuditOptions) (left : LeftOutValue) (files : List FileText)
-    (v : AuditedValue) : Type 0 where
-  pub means : FilesMeanDomain (files_with_exclusions left.routers files) v.domain
-  pub routers : AreRouterNames v.domain.topology left.routers
-  pub summary : AreSummariesOf o.unlisted (files_with_exclusions left.routers files)
-      v.domain.topology v.summary
-  pub asked : IsAskedOf o.unlisted left.groups (files_with_exclusions left.routers files) v.domain v.asked
-  pub without : v.without ≡ left.routers
-  pub ignored : v.ignored ≡ left.groups
+pub record MeansAudited (options : AuditOptions) (left : LeftOutValue) (files : List FileText)
+    (audited : AuditedValue) : Type 0 where
+  pub means : FilesMeanDomain (files_with_exclusions left.routers files) audited.domain
+  pub routers : AreRouterNames audited.domain.topology left.routers
+  pub summary : AreSummariesOf options.unlisted (files_with_exclusions left.routers files)
+      audited.domain.topology audited.summary
+  pub asked : IsAskedOf options.unlisted left.groups (files_with_exclusions left.routers files)
+      audited.domain audited.asked
+  pub without : audited.without ≡ left.routers
+  pub ignored : audited.ignored ≡ left.groups
 
 -- The files mean what is audited, and this holds of it.
 abbrev pub MeansAuditedWhere : AuditOptions → (left : LeftOutValue) → (Holds : AuditedValue → Type 0)
     → List FileText → Type 0
-MeansAuditedWhere o left Holds = MeansDomainWhere (MeansAudited o left) Holds
+MeansAuditedWhere options left Holds = MeansDomainWhere (MeansAudited options left) Holds

@@ -1,5 +1,5 @@
--- What an audit prints of a flow, and how many flows are right, wrong, unknown and unwanted (docs/FORMATS.md, the
--- section "The program").
+-- What an audit prints of a flow, and how many flows are right, wrong, unknown and unwanted (docs/FORMATS.md,
+-- the section "The program").
 use Rattle.std.specs.Prelude.{ℕ, ◌==◌, ◌+◌, ◌&&◌, not, Bool, List, filter, length, Option, Some, None}
 use Rattle.std.specs.Prelude.{is_none, true, false}
 use Rattle.std.specs.List.{list_all}

@@ -30,7 +30,7 @@ pub record IsSameBehind (x y : Behind) : Type 0 where
 
 abbrev pub HaveSameBehind : Option Behind → Option Behind → Type 0
 HaveSameBehind None None = ⊤
-pub HaveSameBehind (Some x) (Some y) = IsSameBehind x y
+HaveSameBehind (Some x) (Some y) = IsSameBehind x y
 HaveSameBehind _ _ = ⊥
 
 -- a finding is known by its value

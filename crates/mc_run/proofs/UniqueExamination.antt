@@ -23,9 +23,9 @@ use Rattle.mc_run.proofs.UniqueTravel.{is_finished_travel-unique, is_travel_to-u
 
 -- Two examinations have the same result.
 abbrev pub HaveSameFlights : ExaminedFlights → ExaminedFlights → Type 0
-pub HaveSameFlights (Certified xs) (Certified ys) = xs.items ≡ ys.items
-pub HaveSameFlights (FoundAtTtl255 a) (FoundAtTtl255 b) = IsSameFinishedTravel a b
-pub HaveSameFlights (FoundAtFlowTtl a b) (FoundAtFlowTtl c e) = IsSameFinishedTravel a c
+HaveSameFlights (Certified xs) (Certified ys) = xs.items ≡ ys.items
+HaveSameFlights (FoundAtTtl255 a) (FoundAtTtl255 b) = IsSameFinishedTravel a b
+HaveSameFlights (FoundAtFlowTtl a b) (FoundAtFlowTtl c e) = IsSameFinishedTravel a c
     × IsSameFinishedTravel b e
 HaveSameFlights _ _ = ⊥
 

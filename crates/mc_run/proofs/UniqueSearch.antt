@@ -53,7 +53,7 @@ is_explained-same_flights d flow (FoundAtFlowTtl a b) (FoundAtTtl255 c) printed 
 -- Two searches are the same.
 abbrev pub HaveSameSearch : Option LanSearch → Option LanSearch → Type 0
 HaveSameSearch None None = ⊤
-pub HaveSameSearch (Some a) (Some b) =
+HaveSameSearch (Some a) (Some b) =
     (a.lines.items ≡ b.lines.items) × (a.reach.sent_on.items ≡ b.reach.sent_on.items)
     × (a.reach.took_none.items ≡ b.reach.took_none.items)
 HaveSameSearch _ _ = ⊥

@@ -66,8 +66,8 @@ pub entries_by_lan-unique : (xs ys : List Entry) → IsStrictlyIncreasing (map (
     → ((e : Entry) → In e ys → In e xs) → xs ≡ ys
 entries_by_lan-unique [] [] up rises to from = refl
 entries_by_lan-unique [] (y ∷ ys) up rises to from = absurd (from y (inl refl))
-pub entries_by_lan-unique (x ∷ xs) [] up rises to from = absurd (to x (inl refl))
-pub entries_by_lan-unique (x ∷ xs) (y ∷ ys) up rises to from =
+entries_by_lan-unique (x ∷ xs) [] up rises to from = absurd (to x (inl refl))
+entries_by_lan-unique (x ∷ xs) (y ∷ ys) up rises to from =
     let first = strictly_increasing-same_heads x y xs ys up rises (to x (inl refl)) (from y (inl refl)) in
     let more = entries_by_lan-unique xs ys (is_strictly_increasing-rest x.lan
     (map (λ (e : Entry). e.lan) xs) up)
@@ -116,18 +116,18 @@ is_travel_to-unique n lans choices f g h es fs x y p q =
 -- the code's finding by its value
 abbrev pub finding_of_value : FindingValue → Finding
 finding_of_value FindingValue.Clean = Clean
-pub finding_of_value (FindingValue.Duplicate lan) = Duplicate lan
-pub finding_of_value (FindingValue.Loop lan) = Loop lan
-pub finding_of_value (FindingValue.Stray router vif) = Stray router vif
-pub finding_of_value (FindingValue.Missed lan) = Missed lan
+finding_of_value (FindingValue.Duplicate lan) = Duplicate lan
+finding_of_value (FindingValue.Loop lan) = Loop lan
+finding_of_value (FindingValue.Stray router vif) = Stray router vif
+finding_of_value (FindingValue.Missed lan) = Missed lan
 
 -- the finding is got back from its value
 pub finding_value-injective : (x : Finding) → finding_of_value (finding_value x) ≡ x
 finding_value-injective Clean = refl
-pub finding_value-injective (Duplicate lan) = refl
-pub finding_value-injective (Loop lan) = refl
-pub finding_value-injective (Stray router vif) = refl
-pub finding_value-injective (Missed lan) = refl
+finding_value-injective (Duplicate lan) = refl
+finding_value-injective (Loop lan) = refl
+finding_value-injective (Stray router vif) = refl
+finding_value-injective (Missed lan) = refl
 
 -- Two travels have the same events, the same finding, and the same copies.
 pub record IsSameFinishedTravel (a b : FinishedTravel) : Type 0 where

@@ -20,8 +20,8 @@ use Rattle.mc_lines.specs.ExplanationText.{context_of}
 use Rattle.mc_lines.specs.Filled.{joined_sentences}
 use Rattle.mc_lines.specs.FlowContext.{FlowContext, flow_of, row_for_flow}
 use Rattle.mc_lines.specs.Lines.{FactValue, Line}
-use Rattle.mc_lines.specs.Lines.FactValue.{Lan, Router, Device, Interface, IncomingDevice, IncomingVif, Row}
-use Rattle.mc_lines.specs.Lines.FactValue.{EverySourceRow, Flag, Number, Routers}
+use Rattle.mc_lines.specs.Lines.FactValue.{Lan, Router, Device, Interface, IncomingDevice, IncomingVif}
+use Rattle.mc_lines.specs.Lines.FactValue.{Row, EverySourceRow, Flag, Number, Routers}
 use Rattle.mc_lines.specs.SearchLines.{reach_items, reach_lines, search_items, shown_items, shown_line}
 use Rattle.mc_theory.specs.Nets.{Interface as NetInterface}
 use Rattle.mc_topology.specs.Topology.{TopologyValue, flow_at}

@@ -14,24 +14,20 @@ use Rattle.mc_theory.specs.Nets.Row.{Exact, Open, NoRow}
 use Rattle.mc_forward.specs.Domains.{oif_pairs}
 use Rattle.mc_forward.specs.ListedTables.{DomainFacts}
 use Rattle.mc_replay.specs.declared.finding.Finding.{Finding}
-use Rattle.mc_replay.specs.declared.finding.Finding.TheVariants.{Clean, Duplicate, Loop, Stray}
-use Rattle.mc_replay.specs.declared.finding.Finding.TheVariants.{Missed}
-use Rattle.serde_json.specs.Data.{Data}
+use Rattle.mc_replay.specs.declared.finding.Finding.TheVariants.{Clean, Duplicate, Loop, Stray, Missed}
+use Rattle.serde_json.specs.Data.{Data, null}
 use Rattle.serde_json.specs.View.{items_of}
 use Rattle.serde_json.specs.Written.{has_float, items_have_float}
 use Rattle.mc_json.specs.RowData.{device_data_of, entry_data, every_source_row_data, oif_data}
-use Rattle.mc_json.specs.RowData.{flow_row_data, row_data}
-use Rattle.mc_json.specs.RowData.{incoming_device, incoming_vif}
-use Rattle.mc_json.specs.RowData.{count_data, lan_data, router_data}
-use Rattle.mc_json.specs.FlowData.{event_data, finding_data, passed_vifs}
-use Rattle.mc_json.specs.FlowData.{interface_router, interface_vif, outcome_data, reached_data, right_data}
+use Rattle.mc_json.specs.RowData.{flow_row_data, row_data, incoming_device, incoming_vif, count_data}
+use Rattle.mc_json.specs.RowData.{lan_data, router_data}
+use Rattle.mc_json.specs.FlowData.{event_data, finding_data, passed_vifs, interface_router, interface_vif}
+use Rattle.mc_json.specs.FlowData.{outcome_data, reached_data, right_data, optional_finding_data}
+use Rattle.mc_json.specs.FlowData.{shown_from_data, tree_data, wrong_data, wrong_mark}
 use Rattle.mc_json.specs.EndData.{unlisted_data}
-use Rattle.serde_json.specs.Data.{null}
 use Rattle.mc_json.specs.AskedData.{address_data, asked_data_of, service_data, want_source_data}
 use Rattle.mc_asked.specs.ListWants.{Want}
 use Rattle.mc_explain.specs.declared.asked.asked_text.AskedLine.{AskedLine}
-use Rattle.mc_json.specs.FlowData.{optional_finding_data, shown_from_data, tree_data, wrong_data}
-use Rattle.mc_json.specs.FlowData.{wrong_mark}
 use Rattle.mc_json.specs.TreeKey.{taking_interface}
 use Rattle.mc_explain.specs.declared.causes.explanation.Certainty.{Certainty}
 

@@ -1,7 +1,7 @@
 -- The vifs of events: one oif after the other, and one for each copy and each stray.
-use Rattle.std.proofs.Common.{◌≡◌, ℕ, suc, ◌+◌, Bool, true, false, cond, not, ◌&&◌, ◌==◌, nat_lt}
-use Rattle.std.proofs.Common.{List, [], ◌∷◌, ◌++◌, length, flat_map, map, take, get_or, ◌<◌, is_some}
-use Rattle.std.proofs.Common.{refl, ap, ap₂, sym, ◌∙◌, append-nil, arith}
+use Rattle.std.proofs.Common.{◌≡◌, ℕ, suc, ◌+◌, Bool, true, false, cond, not, ◌&&◌, ◌==◌, nat_lt, List}
+use Rattle.std.proofs.Common.{[], ◌∷◌, ◌++◌, length, flat_map, map, take, get_or, ◌<◌, is_some, refl, ap}
+use Rattle.std.proofs.Common.{ap₂, sym, ◌∙◌, append-nil, arith}
 use Rattle.std.proofs.lemmas.Grind.{flat_map-append}
 use Rattle.std.proofs.lemmas.List.{map-append, take_more}
 use Rattle.mc_tables.specs.declared.cache.entry.Oif.{Oif}

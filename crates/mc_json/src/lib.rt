@@ -10,6 +10,7 @@ mod fact_value;
 mod fields;
 mod flow_fields;
 mod found_value;
+mod interface_list;
 pub mod laws;
 mod line;
 mod line_values;

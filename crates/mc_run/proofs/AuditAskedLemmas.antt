@@ -1,7 +1,7 @@
 -- The lines of wants, one after another, and the sources that are listed for a group.
 use Rattle.std.proofs.Common.{◌≡◌, ◌==◌, ◌+◌, ◌<◌, ◌^◌, ℕ, Bool, true, false, cond, List, [], ◌∷◌, ◌++◌}
-use Rattle.std.proofs.Common.{map, filter, take, length, Some, Result, Ok, Err, slice_get, flat_map}
-use Rattle.std.proofs.Common.{ap, sym, subst, ◌∙◌, append_assoc, append-nil, arith}
+use Rattle.std.proofs.Common.{map, filter, take, length, Some, Result, Ok, Err, slice_get, flat_map, ap}
+use Rattle.std.proofs.Common.{sym, subst, ◌∙◌, append_assoc, append-nil, arith}
 use Rattle.std.specs.Prelude.{OnOk}
 use Rattle.std.proofs.lemmas.Grind.{flat_map-append}
 use Rattle.std.proofs.lemmas.List.{length-map, map-append}
@@ -34,7 +34,7 @@ listed_sources-append xs ys group =
     ∙ map-append (λ (f : ℕ × ℕ). f.0) (filter (λ (f : ℕ × ℕ). f.1 == group) xs)
     (filter (λ (f : ℕ × ℕ). f.1 == group) ys)
 
--- and of one flow
+-- one flow lists its source for a group exactly if the group is its own
 listed_sources-one : (pair : ℕ × ℕ) (group : ℕ) (is : Bool) → (pair.1 == group) ≡ is
     → listed_sources (pair ∷ []) group ≡ cond is (pair.0 ∷ []) []
 listed_sources-one pair group true same =
@@ -42,7 +42,7 @@ listed_sources-one pair group true same =
 listed_sources-one pair group false same =
     ap (λ (b : Bool). map (λ (f : ℕ × ℕ). f.0) (cond b (pair ∷ []) [])) same
 
--- with one flow more
+-- the sources listed by one flow more are those of the flows before it, and its own if the group is its own
 pub listed_sources-more : (flows : List Flow) (n : ℕ) (f : Flow) (group : ℕ) (is : Bool)
     → slice_get flows n ≡ Some f → (f.group == group) ≡ is
     → listed_sources (flow_pairs (take (n + 1) flows)) group
@@ -84,7 +84,8 @@ parts-of_line F t u b c line want lans listed none_out forwards star states top 
     none out every =
     λ i. F (top i) (excluded i) (pair i) (own i) (list i) (none i) (out i) (every i)
 
--- so a line with the parts of the one with a number is that one
+-- a line is that of its number if its want, LANs, listed sources and routers are those that the lists have
+-- there
 pub line-by_number : (json : Bool) (t u : TopologyValue) (are_excluded : Bool) (a : UnansweredWantsValue)
     (number : ℕ) (line : Want × List ℕ) (l : AskedLine) → slice_get a.lines number ≡ Some line → t ≡ u
     → l.are_excluded ≡ are_excluded → l.want.now ≡ line.0 → l.lans.now ≡ line.1

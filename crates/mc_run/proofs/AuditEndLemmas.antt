@@ -1,11 +1,11 @@
 -- The lines after those of the flows, part by part.
-use Rattle.std.proofs.Common.{◌≡◌, ℕ, Bool, true, false, List, ◌++◌, length, Result, Ok, Err}
-use Rattle.std.proofs.Common.{ap, ◌∙◌, append_assoc}
+use Rattle.std.proofs.Common.{◌≡◌, ℕ, Bool, true, false, List, ◌++◌, length, Result, Ok, Err, ap, ◌∙◌}
+use Rattle.std.proofs.Common.{append_assoc}
 use Rattle.std.specs.Prelude.{OnOk, flat_map, not}
 use Rattle.mc_tables.specs.Summary.{SummaryValue}
 use Rattle.mc_topology.specs.Topology.{TopologyValue}
-use Rattle.mc_explain.specs.ExcludedText.{excluded_routers, excluded_text, verdict_reason}
-use Rattle.mc_explain.specs.ExcludedText.{excluded_line, excluded_lines}
+use Rattle.mc_explain.specs.ExcludedText.{excluded_routers, excluded_text, verdict_reason, excluded_line}
+use Rattle.mc_explain.specs.ExcludedText.{excluded_lines}
 use Rattle.mc_explain.specs.UnlistedText.{unlisted_text}
 use Rattle.mc_json.specs.EndData.{summary_data, unlisted_lines, without_line, without_line_of}
 use Rattle.mc_json.specs.RowData.{line_of}
@@ -22,7 +22,8 @@ append-two_parts (Ok x) old a b c one two new first second third =
     third ∙ ap (λ xs. xs ++ c) (second ∙ ap (λ xs. xs ++ b) first)
     ∙ append_assoc (old ++ a) b c ∙ append_assoc old a (b ++ c)
 
--- as text, by the domain's topology and the excluded routers
+-- the parts of the text after the flows, appended one after another, are that text: the topology is the
+-- domain's, and the routers are the excluded ones
 pub end_text-parts : {A X : Type 0} (o : AuditOptions) (t u : TopologyValue) (summary : List SummaryValue)
     (asked : UnansweredWantsValue) (marks : List Bool) (routers again : List ℕ) (whole all : Bool)
     (flows right wrong unknown unwanted wants : ℕ) (r : Result A X) (old one two three four five new : List ℕ)

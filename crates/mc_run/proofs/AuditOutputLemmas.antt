@@ -3,11 +3,12 @@ use Rattle.std.proofs.Common.{◌≡◌, ℕ, Bool, false, List, Option, Result,
 use Rattle.std.specs.Prelude.{IfErr, IfOk, IfSome}
 use Rattle.std.specs.String.{string_bytes}
 use Rattle.mc_files.specs.Files.{FileText}
-use Rattle.mc_input.specs.Meaning.{MeansDomainWhere}
 use Rattle.mc_run.specs.AuditPieces.{output_of, yes_of}
-use Rattle.mc_run.specs.AuditRun.{LeftOutValue}
-use Rattle.mc_run.specs.AuditRun.{AreFoundInWhole, AuditSaysYes, HasCounts, FilesKeepHeadline, IsAuditText}
-use Rattle.mc_run.specs.AuditRun.{MeansAudited, SaysOfEach, SaysWhichAreRight}
+use Rattle.mc_run.specs.AuditedFiles.{LeftOutValue, MeansAuditedWhere}
+use Rattle.mc_run.specs.AuditRun.{HasCounts, IsAuditText}
+use Rattle.mc_run.specs.AuditClaims.{SaysOfEach, SaysWhichAreRight}
+use Rattle.mc_run.specs.AuditExclusions.{AreFoundInWhole}
+use Rattle.mc_run.specs.AuditYes.{AuditSaysYes, FilesKeepHeadline}
 use Rattle.mc_run.specs.Failures.{is_write}
 use Rattle.mc_run.specs.InputMeaning.{AreRefusedWithout}
 use Rattle.mc_run.specs.RunOutput.{Answers, IsOutputWritten, Writes, WritesPart}
@@ -18,14 +19,14 @@ use Rattle.mc_run.specs.declared.audit.audit_output.AuditOutput.{AuditOutput}
 use Rattle.mc_run.specs.declared.fault.RunFault.{RunFault}
 use Rattle.mc_run.specs.declared.fault.RunFault.TheVariants.{Write}
 use Rattle.mc_run.specs.declared.run_output.RunOutput.{RunOutput}
-use Rattle.mc_run.proofs.AuditTextLemmas.{audit_answer-gives, is_output_written-parts}
-use Rattle.mc_run.proofs.AuditTextLemmas.{audit_counts-gives, audit_write_fault-gives}
-use Rattle.mc_run.proofs.AuditTextLemmas.{audit_yes-gives}
+use Rattle.mc_run.proofs.AuditTextLemmas.{audit_answer-gives, is_output_written-parts, audit_counts-gives}
+use Rattle.mc_run.proofs.AuditTextLemmas.{audit_write_fault-gives, audit_yes-gives}
 use Rattle.mc_run.proofs.AuditLemmas.{is_output_of-each_flow, headline_of_files-audit_yes}
 use Rattle.mc_run.proofs.AuditLemmas.{is_write_fault-audit_output, is_output_of-which_are_right}
 use Rattle.mc_run.proofs.AuditLemmas.{is_output_of-audit}
-use Rattle.mc_run.proofs.RunLemmas.{IsOutputOf, headline-audit_says_yes, writes_part-output_written}
-use Rattle.mc_run.proofs.RunLemmas.{answers-output_written, writes-output_written}
+use Rattle.mc_run.proofs.RunLemmas.{IsOutputOf, writes_part-output_written, answers-output_written}
+use Rattle.mc_run.proofs.RunLemmas.{writes-output_written}
+use Rattle.mc_run.proofs.YesRunLemmas.{headline-audit_says_yes}
 use Rattle.mc_run.proofs.WholeDomainLemmas.{is_output_of-found_in_whole}
 use Rattle.mc_run.proofs.YesLines.{says_yes_by_line-verdict_yes, says_yes_by_line-yes_object}
 
@@ -79,7 +80,7 @@ writes_part-run contents o left a p s r old new text no_write parts is same =
     (is_write_fault-audit_output a no_write) (is_output_of-audit contents o left a text)
     (is_output_written-parts p (output_of a) s old new parts is))
 
--- what is written says which flows are right,
+-- what is written says which flows are right
 writes_which_are_right-run : (contents : Option (List FileText)) (o : AuditOptions)
     (left : LeftOutValue)
     (a : Result AuditOutput RunFault) (p : Result RunOutput RunFault) (s : Result Bool RunFault)
@@ -92,7 +93,7 @@ writes_which_are_right-run contents o left a p s r old new text parts is same =
     (is_output_of-which_are_right contents o left (output_of a)
     (is_output_of-audit contents o left a text)) parts is same
 
--- what holds of each flow,
+-- what is written truly says yes to each flow or what is found of it
 writes_of_each-run : (contents : Option (List FileText)) (o : AuditOptions) (left : LeftOutValue)
     (a : Result AuditOutput RunFault) (p : Result RunOutput RunFault) (s : Result Bool RunFault)
     (r : Result AuditAnswer RunFault) (old new : Option (List ℕ)) → HasText contents o left a
@@ -103,7 +104,7 @@ writes_of_each-run contents o left a p s r old new text parts is same =
     (is_output_of-each_flow contents o left (output_of a)
     (is_output_of-audit contents o left a text)) parts is same
 
--- and what is found in the whole domain
+-- a second copy or a stray in what is written is a fault of the whole domain
 are_found_in_whole-run : (contents : Option (List FileText)) (o : AuditOptions) (left : LeftOutValue)
     (a : Result AuditOutput RunFault) (p : Result RunOutput RunFault) (s : Result Bool RunFault)
     (r : Result AuditAnswer RunFault) (old new : Option (List ℕ)) → HasText contents o left a
@@ -115,7 +116,7 @@ are_found_in_whole-run contents o left a p s r old new text parts is same =
     (is_output_of-found_in_whole contents o left (output_of a)
     (is_output_of-audit contents o left a text)) parts is same
 
--- a part of it is written if the output fails
+-- a part of such a text is written if the output fails
 writes_of_each_in_part-run : (contents : Option (List FileText)) (o : AuditOptions)
     (left : LeftOutValue)
     (a : Result AuditOutput RunFault) (p : Result RunOutput RunFault) (s : Result Bool RunFault)
@@ -130,7 +131,7 @@ writes_of_each_in_part-run contents o left a p s r old new text no_write parts i
     (is_output_of-each_flow contents o left (output_of a) (is_output_of-audit contents o left a text))
     (is_output_written-parts p (output_of a) s old new parts is))
 
--- and the headline holds after a yes
+-- after a yes, by the answer or by a line that was written, the headline holds for the files
 headline_of_files-run : (contents : Option (List FileText)) (o : AuditOptions) (left : LeftOutValue)
     (a : Result AuditOutput RunFault) (p : Result RunOutput RunFault) (s : Result Bool RunFault)
     (r : Result AuditAnswer RunFault) (old new : Option (List ℕ)) → HasText contents o left a
@@ -148,15 +149,12 @@ headline_of_files-run contents o left a p s r old new text parts is same =
 pub has_counts-run : (contents : Option (List FileText)) (o : AuditOptions) (left : LeftOutValue)
     (a : Result AuditOutput RunFault) (p : Result RunOutput RunFault) (counts : AuditCounts)
     (s : Result Bool RunFault) (r : Result AuditAnswer RunFault) (old new : Option (List ℕ))
-    → IfOk a (λ audit. IfSome contents (MeansDomainWhere (MeansAudited o left) (λ v.
-    HasCounts v o audit.counts)))
+    → IfOk a (λ audit. IfSome contents (MeansAuditedWhere o left (λ v. HasCounts v o audit.counts)))
     → p ≡ output_of a → ((audit : AuditOutput) → a ≡ Ok audit → counts ≡ audit.counts)
     → IsOutputWritten p s old new → yes_of r ≡ s → IfOk r (λ answer. answer.counts ≡ counts)
-    → IfOk r (λ answer. IfSome contents (MeansDomainWhere (MeansAudited o left) (λ v.
-    HasCounts v o answer.counts)))
+    → IfOk r (λ answer. IfSome contents (MeansAuditedWhere o left (λ v. HasCounts v o answer.counts)))
 has_counts-run contents o left a p counts s r old new =
-    audit_counts-gives (λ n. IfSome contents (MeansDomainWhere (MeansAudited o left)
-    (λ v. HasCounts v o n))) a p counts s r old new
+    audit_counts-gives (λ n. IfSome contents (MeansAuditedWhere o left (λ v. HasCounts v o n))) a p counts s r old new
 
 -- ---- all of these
 
@@ -174,7 +172,7 @@ pub record IsRunOf (contents : Option (List FileText)) (o : AuditOptions) (left 
       Writes (AreFoundInWhole o left) files all old new))
   pub headline : AuditSaysYes (yes_of r) old new → IfSome contents FilesKeepHeadline
 
--- by the audit of the files, and how its output was written
+-- all this follows from the audit of the files and from how its output was written
 pub is_run-of_steps : (contents : Option (List FileText)) (o : AuditOptions) (left : LeftOutValue)
     (a : Result AuditOutput RunFault) (p : Result RunOutput RunFault) (s : Result Bool RunFault)
     (r : Result AuditAnswer RunFault) (old new : Option (List ℕ)) → HasText contents o left a

@@ -1,6 +1,6 @@
 -- The whole text of an audit, and what it says of the files.
-use Rattle.std.proofs.Common.{◌≡◌, ℕ, Bool, List, ◌++◌, length, Option, Some, None, Result, Ok, Err}
-use Rattle.std.proofs.Common.{refl, sym, ap, ap₂, subst, ◌∙◌, append_assoc}
+use Rattle.std.proofs.Common.{◌≡◌, ℕ, Bool, List, ◌++◌, length, Option, Some, None, Result, Ok, Err, refl}
+use Rattle.std.proofs.Common.{sym, ap, ap₂, subst, ◌∙◌, append_assoc}
 use Rattle.std.specs.Prelude.{◌==◌, ◌&&◌, IfOk, IfSome, flat_map}
 use Rattle.mc_files.specs.Files.{FileText}
 use Rattle.mc_tables.specs.Summary.{SummaryValue}
@@ -9,13 +9,15 @@ use Rattle.mc_forward.specs.ListedTables.{facts}
 use Rattle.mc_cert.specs.Certificate.{Tree}
 use Rattle.mc_input.specs.AskedOfFiles.{UnansweredWantsValue, IsAskedOf}
 use Rattle.mc_input.specs.ExcludedRouters.{AreRouterNames, files_with_exclusions}
-use Rattle.mc_input.specs.Meaning.{FilesMeanDomain, MeansDomainWhere}
+use Rattle.mc_input.specs.Meaning.{FilesMeanDomain}
 use Rattle.mc_input.specs.SummariesOfFiles.{AreSummariesOf}
-use Rattle.mc_run.specs.AuditEnd.{begin_lines, count as count_of, end_text_or_objects, is_right}
-use Rattle.mc_run.specs.AuditEnd.{is_unknown, is_unwanted, is_wrong, verdict_line}
+use Rattle.mc_run.specs.FlowCounts.{count as count_of, is_right, is_unknown, is_unwanted, is_wrong}
+use Rattle.mc_run.specs.AuditBegin.{begin_lines}
+use Rattle.mc_run.specs.AuditEnd.{end_text_or_objects, verdict_line}
 use Rattle.mc_run.specs.AuditPieces.{AreFlowsPushed, output_of, yes_of}
-use Rattle.mc_run.specs.AuditRun.{AuditSaysYes, AuditedValue, IsAudited, LeftOutValue, MeansAudited, is_whole}
-use Rattle.mc_run.specs.AuditRun.{excluded, is_yes}
+use Rattle.mc_run.specs.AuditedFiles.{AuditedValue, LeftOutValue, MeansAuditedWhere, excluded, is_whole}
+use Rattle.mc_run.specs.AuditRun.{IsAudited, is_yes}
+use Rattle.mc_run.specs.AuditYes.{AuditSaysYes}
 use Rattle.mc_cli.specs.declared.audit_options.AuditOptions.{AuditOptions}
 use Rattle.mc_run.specs.declared.audit.audit_output.AuditAnswer.{AuditAnswer}
 use Rattle.mc_run.specs.declared.audit.audit_output.AuditCounts.{AuditCounts}
@@ -95,7 +97,7 @@ pub of_domain-means_audited : (Holds : AuditedValue → Type 0) (o : AuditOption
       without = left.routers;
       ignored = left.groups;
     })
-    → IfSome contents (MeansDomainWhere (MeansAudited o left) Holds)
+    → IfSome contents (MeansAuditedWhere o left Holds)
 of_domain-means_audited Holds o left None d summary asked means routers summarized wants holds = tt
 of_domain-means_audited Holds o left (Some files) d summary asked means routers summarized wants holds =
     record {
@@ -150,7 +152,8 @@ no_answer-without_output f p s all old new none same is =
     subst (λ (u : Result RunOutput RunFault). IsOutputWritten u s old new) none is in
     subst (λ (t : Result Bool RunFault). IsOutputWritten (Err f) t old new) (sym same) run_output
 
--- and what holds of the counts holds of the returned ones
+-- an answer comes only from an audit's output, so that what holds of the counts of the audit holds of those
+-- that are returned with the answer
 pub audit_counts-gives : (P : AuditCounts → Type 0) (a : Result AuditOutput RunFault)
     (p : Result RunOutput RunFault) (counts : AuditCounts) (s : Result Bool RunFault)
     (r : Result AuditAnswer RunFault) (old new : Option (List ℕ)) → IfOk a (λ audit. P audit.counts)

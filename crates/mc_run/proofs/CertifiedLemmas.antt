@@ -1,7 +1,6 @@
 -- A certificate that `mcaudit make` writes is one that `mcaudit check` says yes to.
-use Rattle.std.proofs.Common.{◌≡◌, ℕ, zero, suc, ◌+◌, ◌<◌, ◌≤◌, ◌==◌, max, All, Bool, true, false}
-use Rattle.std.proofs.Common.{List, [], ◌∷◌, ◌++◌}
-use Rattle.std.proofs.Common.{length, map, Option, Some, None, Ok, refl, sym, ap, subst}
+use Rattle.std.proofs.Common.{◌≡◌, ℕ, zero, suc, ◌+◌, ◌<◌, ◌≤◌, ◌==◌, max, All, Bool, true, false, List}
+use Rattle.std.proofs.Common.{[], ◌∷◌, ◌++◌, length, map, Option, Some, None, Ok, refl, sym, ap, subst}
 use Rattle.std.proofs.Common.{◌∙◌, arith, length-append}
 use Rattle.std.specs.Prelude.{IsSome, slice_get}
 use Rattle.std.specs.List.{AllByRecursion}
@@ -44,7 +43,7 @@ use Rattle.mc_run.specs.CheckRun.{IsVerdictText}
 use Rattle.mc_run.specs.MakeRun.{AreExamined, IsMadeText, are_certified, certified_lists}
 use Rattle.mc_run.specs.VerdictText.{AreVerdicts, IsVerdict, are_yes, check_text}
 use Rattle.mc_run.proofs.MakeLemmas.{certified_lists-each, certified_lists-belong}
-use Rattle.mc_run.proofs.MakeLemmas.{certified_lists-keep_headline}
+use Rattle.mc_run.proofs.MakeLemmas.{certified_lists-writable}
 
 -- ---- the numbers of an accepted list are bytes
 
@@ -130,7 +129,7 @@ denotes_certificate-made_text text written m few =
     ap (λ (bytes : List ℕ). length bytes) m.holds.spelled ∙ length-append body (10 ∷ []) in
     let denotes = certificate_json-denotes t lists m.means.rules.topology
     (certified_lists-belong d m.holds.examined m.holds.are_examined (sym m.holds.answer))
-    (certified_lists-keep_headline d m.holds.examined m.holds.are_examined)
+    (certified_lists-writable d m.holds.examined m.holds.are_examined)
     (certified_lists-bytes d m.holds.examined m.holds.are_examined) (omega (arith, size, few)) in
     subst (λ (bytes : List ℕ). DenotesCertificate t bytes lists) (sym m.holds.spelled)
     (denotes_certificate-line_feed t body lists (omega (
@@ -141,7 +140,7 @@ denotes_certificate-made_text text written m few =
           (10 ∷ []),
     )) denotes)
 
--- so it is read as these
+-- a certificate that `make` writes is read as the lists that it was made of
 pub reading_of-made_text : (text written : List ℕ) (m : IsMadeText text true written)
     → length written ≤ 16777216
     → parse_certificate m.domain.topology written ≡ Ok (certified_lists m.holds.examined)
@@ -177,7 +176,7 @@ is_accepted-made_list text written m =
 abbrev yes_of_list : Tree → Verdict
 yes_of_list es = Yes (length es)
 
--- these are all yes
+-- verdicts that are made yes for each list are all yes
 yes_of_all_lists : (lists : List Tree) → are_yes (map yes_of_list lists) ≡ true
 yes_of_all_lists [] = refl
 yes_of_all_lists (es ∷ lists) = yes_of_all_lists lists
@@ -292,7 +291,8 @@ record AreVerdictsOfLists (d : DomainValue) (certificate : List ℕ) (lists : Li
   pub denoted : DenotesCertificate d.topology certificate lists
   pub are : AreVerdicts d lists vs
 
--- so each text of verdicts on the made bundle says yes
+-- a bundle with the certificate that was made for it has only accepted lists, so that each text of verdicts on
+-- it says yes
 pub is_verdict_text-only_yes : (text written bundle : List ℕ) (parts : List PartText) (all : Bool)
     (printed : List ℕ)
     → IsMadeText text true written → IsBundle text parts

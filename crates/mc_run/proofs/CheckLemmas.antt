@@ -1,6 +1,6 @@
 -- What the text of `mcaudit check` says of the bundle that was read.
-use Rattle.std.proofs.Common.{◌≡◌, ◌≢◌, ℕ, zero, suc, ◌<◌, Bool, true, List, [], ◌∷◌, length, All}
-use Rattle.std.proofs.Common.{Option, Some, Err, refl, sym, ap, subst, ◌∙◌, arith}
+use Rattle.std.proofs.Common.{◌≡◌, ◌≢◌, ℕ, zero, suc, ◌<◌, Bool, true, List, [], ◌∷◌, length, All, Option}
+use Rattle.std.proofs.Common.{Some, Err, refl, sym, ap, subst, ◌∙◌, arith}
 use Rattle.std.specs.Prelude.{unwrap_or, slice_get}
 use Rattle.std.specs.List.{list_all}
 use Rattle.std.proofs.lemmas.Bool.{and_parts}
@@ -17,8 +17,7 @@ use Rattle.mc_cert.specs.declared.fault.CertFault.{CertFault}
 use Rattle.mc_cert.specs.declared.fault.CertFaultKind.{CertFaultKind}
 use Rattle.mc_cert.specs.declared.fault.CertFaultKind.TheVariants as kinds
 use Rattle.mc_check.specs.Verdicts.{is_yes, HoldsForEachFlow, YesIffAccepted, YesCountsEntries}
-use Rattle.mc_check.specs.Verdicts.{NoGivesFirstReason}
-use Rattle.mc_check.specs.Verdicts.{YesKeepsHeadline}
+use Rattle.mc_check.specs.Verdicts.{NoGivesFirstReason, YesKeepsHeadline}
 use Rattle.mc_check.specs.declared.verdict.Verdict.{Verdict}
 use Rattle.mc_check.specs.declared.verdict.Verdict.TheVariants.{Yes, No}
 use Rattle.mc_input.specs.Meaning.{MeansDomain}
@@ -110,7 +109,7 @@ headline_holds-is_yes d flow es (Yes copies) is count keeps =
     subst (λ (n : ℕ). HeadlineHolds (net_of d flow) n) count keeps
 headline_holds-is_yes d flow es (No reason) is count keeps = absurd cc
 
--- so it does for the flow of the list
+-- the headline for a flow's list is that for the list at its place among all lists
 headline_holds-flow_is_yes : (d : DomainValue) (lists : List Tree) (flow : ℕ) (es : List Entry)
     → slice_get lists flow ≡ Some es → HeadlineHolds (net_of d flow) (length es)
     → HeadlineHolds (net_of d flow) (length (tree_at lists flow))

@@ -1,9 +1,8 @@
 -- The explanation of a finding, and its lines.
 use Rattle.std.proofs.Common.{◌≡◌, ℕ, ◌<◌, Bool, true, false, not, filter, List, ◌++◌, length, Option}
-use Rattle.std.proofs.Common.{None, Some, Result, Ok, arith}
-use Rattle.std.proofs.Common.{Err, refl, sym, ap, ap₂, subst, ◌∙◌, append_assoc}
+use Rattle.std.proofs.Common.{None, Some, Result, Ok, arith, Err, refl, sym, ap, ap₂, subst, ◌∙◌}
+use Rattle.std.proofs.Common.{append_assoc, eq-eqb}
 use Rattle.std.specs.Prelude.{◌≢◌, IfOk, OnOk, codes}
-use Rattle.std.proofs.Common.{eq-eqb}
 use Rattle.std.proofs.lemmas.Bool.{lt-ltb, ne_eqb}
 use Rattle.mc_topology.specs.declared.flow.Flow.{Flow}
 use Rattle.mc_topology.specs.Topology.{TopologyValue, flow_at}
@@ -36,16 +35,14 @@ use Rattle.mc_run.specs.AuditFlowText.{wrong_flow_lines}
 use Rattle.mc_cli.specs.declared.audit_options.AuditOptions.{AuditOptions}
 use Rattle.mc_run.specs.AuditPieces.{also_missed_of, explanation_in}
 use Rattle.mc_run.specs.AuditExplanation.{IsExplanation, IsSearchIfMissed, ArePrintedCauses, is_remedy}
+use Rattle.mc_run.specs.AuditExplanation.{IsShownFromAt255, IsShownFromUnless, certain_finding}
+use Rattle.mc_run.specs.AuditExplanation.{is_known_wrong, search_context, without_remedies}
 use Rattle.mc_run.specs.AuditExplanation.{IsBehindIfStray, IsFoundBelow, IsFoundAtFlowTtlIf, IsShownBy}
-use Rattle.mc_run.specs.AuditExplanation.{IsShownFromAt255}
-use Rattle.mc_run.specs.AuditExplanation.{IsShownFromUnless, certain_finding, is_known_wrong}
-use Rattle.mc_run.specs.AuditExplanation.{search_context}
-use Rattle.mc_run.specs.AuditExplanation.{without_remedies}
-use Rattle.mc_run.specs.AuditRun.{AuditedValue, is_whole, excluded}
+use Rattle.mc_run.specs.AuditedFiles.{AuditedValue, excluded, is_whole}
 use Rattle.mc_explain.specs.ExplanationValues.{ExplanationValue}
-use Rattle.mc_run.specs.AuditText.{behind_text, events_if_shown, explanation_lines}
-use Rattle.mc_run.specs.AuditText.{searched_lines, deeper_shown_from_text, found_flow_line}
-use Rattle.mc_run.specs.AuditText.{second_behind_text, shown_by_text, wrong_lines}
+use Rattle.mc_run.specs.AuditText.{behind_text, events_if_shown, explanation_lines, searched_lines}
+use Rattle.mc_run.specs.AuditText.{found_flow_line, second_behind_text, shown_by_text, shown_from_text}
+use Rattle.mc_run.specs.AuditText.{wrong_lines}
 use Rattle.mc_run.proofs.MissedLemmas.{missed_lan-below_count}
 
 -- ---- a search
@@ -71,7 +68,7 @@ pub is_finished_travel-at_255 : (d : DomainValue) (flow : ℕ) (x : ExaminedFlig
 is_finished_travel-at_255 d flow x ended same has_flights =
     subst (λ (y : ExaminedFlights). HasExaminedFlights d flow y) same has_flights
 
--- and so is one with the flow's TTL
+-- the flights of a finding at the flow's own TTL hold a finished travel of a packet with that TTL
 pub is_finished_travel-at_flow_ttl : (d : DomainValue) (flow : ℕ) (x : ExaminedFlights)
     (greatest least : FinishedTravel)
     → x ≡ FoundAtFlowTtl greatest least → HasExaminedFlights d flow x
@@ -92,7 +89,7 @@ missed_besides-domain_flow d flow ttl ended has =
     ap (λ (e : DomainValue). missed_besides (facts e) ended.flight.flow cs x) has.domain
     ∙ ap (λ (n : ℕ). missed_besides (facts d) n cs x) has.flow_of_flight
 
--- with excluded routers, the kept causes are the printed ones
+-- with excluded routers the causes that are no remedies are the ones to print
 pub without_remedies-filtered : (whole : Bool) (printed kept : List Cause) → whole ≡ false
     → kept ≡ filter (λ t. not (is_remedy t)) printed → kept ≡ without_remedies whole printed
 without_remedies-filtered true printed kept part same = absurd cc
@@ -107,7 +104,7 @@ is_shown_from-greatest d flow ttl view ended same is greatest =
     subst (λ (b : Bool). IsShownFromUnless b (net_of d flow) ended.flight.flight.carried
     (finding_value ended.travel.finding) None) (sym (eq-eqb (ttl_of d flow) 255 own)) refl
 
--- and is what was worked out elsewhere
+-- where the flow's own TTL is less than 255, the TTL that was found is the one to print
 pub is_shown_from-less : {X : Type 0} (d : DomainValue) (flow ttl : ℕ) (view : FlowOfDomain)
     (ended : FinishedTravel) (r : Result (Option ℕ) X) → view ≡ record { domain = d; flow = flow }
     → ttl ≡ (net_in view).ttl → ttl ≢ 255
@@ -179,14 +176,15 @@ regrouped_behind : (old begin words feed causes shown : List ℕ)
     ≡ old ++ (begin ++ (words ++ (feed ++ (causes ++ shown))))
 regrouped_behind old begin words feed causes shown = simp append_assoc
 
--- of a second copy behind a stray
+-- the line of a second copy behind a stray, its causes and the packets that show it, appended one after
+-- another, are its text
 pub second_behind-pushed : {A X : Type 0} (d : DomainFacts) (summary : List SummaryValue)
     (flow : ℕ) (b : Behind)
     (t : TopologyValue) (x shown : Finding) (causes : List Cause) (r : Result A X) (old one two new : List ℕ)
     → t ≡ d.topology → shown ≡ x → b.finding ≡ Some x → causes ≡ b.causes.items
     → one ≡ old ++ (codes "  behind it: " ++ (finding_text t shown ++ codes "\n"))
     → two ≡ one ++ deeper_causes_text d summary flow causes
-    → OnOk r (new ≡ two ++ deeper_shown_from_text b.shown_from)
+    → OnOk r (new ≡ two ++ shown_from_text (codes "    ") b.shown_from)
     → OnOk r (new ≡ old ++ second_behind_text d summary flow b.causes.items b.shown_from b.finding)
 second_behind-pushed d summary flow b t x shown causes (Err e) old one two new same is some are first
     second third = tt
@@ -194,7 +192,7 @@ second_behind-pushed d summary flow b t x shown causes (Ok a) old one two new sa
     second third =
     let begin = codes "  behind it: " in
     let feed = codes "\n" in
-    let last = deeper_shown_from_text b.shown_from in
+    let last = shown_from_text (codes "    ") b.shown_from in
     let lines = deeper_causes_text d summary flow b.causes.items in
     let words : finding_text t shown ≡ finding_text d.topology x = ap₂ finding_text same is in
     let line : one ≡ old ++ (begin ++ (finding_text d.topology x ++ feed)) =
@@ -206,7 +204,8 @@ second_behind-pushed d summary flow b t x shown causes (Ok a) old one two new sa
     ∙ ap (λ (o : Option Finding). old ++ second_behind_text d summary flow b.causes.items b.shown_from o)
     (sym some)
 
--- as text
+-- the causes, the search, the other missed LANs and what is behind a stray, appended one after another, are the
+-- explanation
 pub explanation_lines-pushed : {A X : Type 0} (v : AuditedValue) (flow : ℕ) (e : ExplanationValue)
     (t : TopologyValue) (r : Result A X) (old one two three new : List ℕ) → t ≡ v.domain.topology
     → one ≡ old ++ causes_text (facts v.domain) v.summary flow e.printed
@@ -228,7 +227,8 @@ explanation_lines-pushed v flow e t (Ok a) old one two three new same first seco
     ∙ append_assoc (old ++ lines) search (missed ++ past)
     ∙ append_assoc old lines (search ++ (missed ++ past))
 
--- all lines of a flow with a finding
+-- the finding, the packets that show it, the explanation and the events, appended one after another, are the
+-- lines of the flow
 pub wrong_lines-pushed : {A X : Type 0} (v : AuditedValue) (flow : ℕ) (travels : Bool) (travel : Travel)
     (e : ExplanationValue) (t : TopologyValue) (f : Flow) (r : Result A X) (old one two three new : List ℕ)
     → t ≡ v.domain.topology → f ≡ flow_at v.domain.topology flow
@@ -270,7 +270,8 @@ explanation_with causes found also behind known shown_by = record {
   certainty = record { known = known; shown_by = shown_by };
 }
 
--- in both, with the LANs that the travel also missed, and whether the flow is known to be wrong
+-- the lines of a finding are the same by the LANs that its travel also missed, and by whether it is then known
+-- that the flow is wrong
 pub wrong_flow_lines-same_parts : (v : AuditedValue) (o : AuditOptions) (flow ttl : ℕ)
     (ended : FinishedTravel) (causes : List Cause) (found : Option LanSearch) (behind : Option Behind)
     (shown_by : ShownBy) (also : List ℕ) (whole known : Bool) (old new : List ℕ) → also ≡ also_missed_of ended
@@ -287,7 +288,8 @@ wrong_flow_lines-same_parts v o flow ttl ended causes found behind shown_by also
 
 -- ---- what a packet with the flow's own TTL meets
 
--- where that TTL is less than the one from which on packets show the finding
+-- where the flow's own TTL is less than the one from which on packets show the finding, the finding of a packet
+-- with it is printed as far as it is certain
 pub is_found_below-less : (whole part : Bool) (d : DomainValue) (flow ttl k : ℕ) (from : Option ℕ)
     (travel : Travel)
     → ttl ≡ ttl_of d flow → from ≡ Some k → ttl < k → part ≡ whole

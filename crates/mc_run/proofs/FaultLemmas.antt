@@ -1,6 +1,6 @@
 -- The faults that a run returns, by the faults of what it calls.
-use Rattle.std.proofs.Common.{◌≡◌, ◌⊎◌, ℕ, Bool, true, List, inl, inr, Option, Result, Ok, Err}
-use Rattle.std.proofs.Common.{refl, sym, subst}
+use Rattle.std.proofs.Common.{◌≡◌, ◌⊎◌, ℕ, Bool, true, List, inl, inr, Option, Result, Ok, Err, refl, sym}
+use Rattle.std.proofs.Common.{subst}
 use Rattle.std.specs.Prelude.{IfErr}
 use Rattle.std.proofs.lemmas.Bool.{false≢true}
 use Rattle.mc_text.specs.declared.bundle.bundle_fault.BundleFault.TheVariants as bundle
@@ -99,13 +99,13 @@ fault-of_output : (P : RunFault → Type 0) (a : Result AuditOutput RunFault) �
 fault-of_output P (Ok audit) own = tt
 fault-of_output P (Err fault) own = own
 
--- and what holds of a yes's fault holds of the answer's
+-- what holds of the fault of an audit's yes holds of the fault of its answer
 fault-of_answer : (P : RunFault → Type 0) (r : Result AuditAnswer RunFault) → IfErr (yes_of r) P
     → IfErr r P
 fault-of_answer P (Ok answer) own = tt
 fault-of_answer P (Err fault) own = own
 
--- the same with the number of unwanted flows beside the answer
+-- what holds of an audit's faults and of `Write` holds of the fault of its answer
 pub fault-of_audit_answer : (P : RunFault → Type 0) (a : Result AuditOutput RunFault)
     (p : Result RunOutput RunFault) (s : Result Bool RunFault) (r : Result AuditAnswer RunFault)
     (old new : Option (List ℕ)) → P Write → IfErr a P → p ≡ output_of a → IsOutputWritten p s old new

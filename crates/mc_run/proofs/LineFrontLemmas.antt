@@ -1,9 +1,7 @@
 -- How a byte of a text changes the front of a line that is read from it.
-use Rattle.std.proofs.Common.{◌≡◌, ℕ, zero, suc, ◌+◌, ◌-◌, ◌≤◌, true, false, List, [], ◌∷◌, ◌++◌}
-use Rattle.std.proofs.Common.{length, take}
-use Rattle.std.proofs.Common.{Bool, Option, Some, None, Result, Ok, Err, IfOk, IfSome, option_map}
-use Rattle.std.proofs.Common.{ap, ◌∙◌, refl}
-use Rattle.std.proofs.Common.{sym, arith}
+use Rattle.std.proofs.Common.{◌≡◌, ℕ, zero, suc, ◌+◌, ◌-◌, ◌≤◌, true, false, List, [], ◌∷◌, ◌++◌, length}
+use Rattle.std.proofs.Common.{take, Bool, Option, Some, None, Result, Ok, Err, IfOk, IfSome, option_map}
+use Rattle.std.proofs.Common.{ap, ◌∙◌, refl, sym, arith}
 use Rattle.std.proofs.Math.Seq.{take-append-add}
 use Rattle.std.specs.Io.KnownBytes.{Consumes, IsAtEnd}
 use Rattle.std.proofs.lemmas.List.{append-nil, take-append-le, take_all}
@@ -32,7 +30,7 @@ takes_piece-front_full s b full few = λ more.
     take-append-le 100 s.front.items (line_after_feeds s.before (b ∷ more)) full
     ∙ take_all 100 s.front.items few
 
--- nothing more comes
+-- if nothing more comes, the front is what was taken so far
 pub front_after_more-nothing : (s : LineFront) → length s.front.items ≤ 100 → front_after_more s []
     ≡ s.front.items
 front_after_more-nothing s few = by s.before

@@ -6,12 +6,12 @@ use Rattle.mc_theory.specs.Lists.{In, below}
 use Rattle.mc_theory.specs.Nets.{Net, Interface}
 use Rattle.mc_theory.specs.Flights.{Copy, Flight, Waiting, step}
 use Rattle.mc_theory.specs.Findings.{Finding, IsTravel, first_copy_on, first_double, double_finding}
-use Rattle.mc_theory.specs.Findings.{end_finding}
-use Rattle.mc_theory.specs.Findings.{walk_visits, missed, missed_finding, numbers_left, stray_finding}
+use Rattle.mc_theory.specs.Findings.{end_finding, walk_visits, missed, missed_finding, numbers_left}
+use Rattle.mc_theory.specs.Findings.{stray_finding}
 use Rattle.mc_theory.specs.Findings.Finding.{Duplicate, Loop, Missed}
 use Rattle.mc_theory.proofs.ListLemmas.{in-below_cases}
 
--- by whether the first LAN is missed
+-- the first missed LAN of a list is one of the list
 missed-cons : (n : Net) (cs : List Copy) (x l : ℕ) (ls : List ℕ) (w b : Bool)
     → cond w (cond b (missed n cs ls) (Some x)) (missed n cs ls) ≡ Some l
     → (missed n cs ls ≡ Some l → In l ls) → In l (x ∷ ls)
@@ -37,7 +37,7 @@ finding-at_end_missed n count cs [] l h =
     in-below_cases l count (missed-in_lans n cs (below count) l (finding-missed_lan _ l h))
 finding-at_end_missed n count cs (w ∷ ws) l h = absurd cc
 
--- after strays, of which there are none
+-- a LAN is missed only where there are no strays, and it is one of the domain's
 finding-no_strays_missed : (n : Net) (count : ℕ) (cs : List Copy) (ws : List Waiting)
     (is : List Interface) (l : ℕ)
     → stray_finding n count cs ws is ≡ Some (Missed l) → l < count
@@ -50,7 +50,7 @@ finding-other_than_missed : (b : Bool) (m l : ℕ)
 finding-other_than_missed true m l h = absurd cc
 finding-other_than_missed false m l h = absurd cc
 
--- after double copies, of which there are none
+-- a LAN is missed only where no LAN has a second copy, and it is one of the domain's
 finding-no_double_missed : (n : Net) (count : ℕ) (f : Flight) (o : Option Copy) (l : ℕ)
     → double_finding n count f o ≡ Some (Missed l) → l < count
 finding-no_double_missed n count f None l h = finding-no_strays_missed n count f.carried f.waiting
@@ -58,7 +58,7 @@ finding-no_double_missed n count f None l h = finding-no_strays_missed n count f
 finding-no_double_missed n count f (Some c) l h =
     absurd (finding-other_than_missed (walk_visits n f.carried c.lan (length f.carried) c.sender) c.lan l h)
 
--- so is a LAN that a travel misses
+-- only LANs of the domain are looked at, so that a missed one is among these
 pub missed_lan-below_count : (n : Net) (count : ℕ) (numbers : List ℕ) (last : Bool) (picks : List ℕ)
     (f : Flight) (l : ℕ) → IsTravel n count numbers last picks f (Missed l) → l < count
 missed_lan-below_count n count numbers last [] f l is = finding-no_double_missed n count f

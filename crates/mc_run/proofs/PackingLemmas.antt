@@ -2,8 +2,8 @@
 use Rattle.std.proofs.Common.{◌≡◌, ℕ, Bool, List, Option, Some, None, Result, Ok, Err, refl, ap, ◌∙◌}
 use Rattle.std.specs.Prelude.{◌≢◌, IfErr, IfSome, IsErrAnd}
 use Rattle.mc_files.specs.Files.{FileText}
-use Rattle.mc_files.specs.PackRun.{IsPackAnswer, IsIoOrMemory}
-use Rattle.mc_files.specs.PackRun.{is_read as is_file_read, is_write as is_bundle_write}
+use Rattle.mc_files.specs.PackRun.{IsPackAnswer, IsIoOrMemory, is_read as is_file_read}
+use Rattle.mc_files.specs.PackRun.{is_write as is_bundle_write}
 use Rattle.mc_files.specs.declared.fault.PackFault.{PackFault}
 use Rattle.mc_files.specs.declared.fault.PackFault.TheVariants as packing
 use Rattle.mc_run.specs.declared.fault.RunFault.{RunFault}
@@ -36,7 +36,7 @@ is_pack_answer-fault_result certified files packing.Read is = tt
 is_pack_answer-fault_result certified files packing.Write is = tt
 is_pack_answer-fault_result certified files packing.Memory is = tt
 
--- so it is for an answer that is right for the run
+-- if the run returns packing's fault, its answer is right for the files as packing's is
 pub is_pack_answer-of_result : (contents : Option (List FileText)) (certified : Bool) (f : PackFault)
     (r : Result (Unit {0}) RunFault) → IsResultOfFault f r
     → IfSome contents (λ files. IsPackAnswer certified files (Err f))
@@ -53,7 +53,7 @@ is_fault_of_pack-pack_fault packing.Read = tt
 is_fault_of_pack-pack_fault packing.Write = tt
 is_fault_of_pack-pack_fault packing.Memory = tt
 
--- so it is for an answer that is right for the run
+-- if the run returns packing's fault, it is one that `pack` may return
 pub is_fault_of_pack-of_result : (f : PackFault) (r : Result (Unit {0}) RunFault) → IsResultOfFault f r
     → IfErr r IsFaultOfPack
 is_fault_of_pack-of_result f r e = rw (result-of_pack_fault f r e) (is_fault_of_pack-pack_fault f)
@@ -67,7 +67,7 @@ is_device_or_memory_fault-silent packing.Read none = tt
 is_device_or_memory_fault-silent packing.Write none = tt
 is_device_or_memory_fault-silent packing.Memory none = tt
 
--- so it is for an answer that is right for the run
+-- if packing fails by a device or for want of memory, the run returns such a fault
 pub is_device_or_memory_fault-of_result : (f : PackFault) (r : Result (Unit {0}) RunFault)
     → IsResultOfFault f r → IsIoOrMemory f
     → IfErr r IsDeviceOrMemoryFault
@@ -95,7 +95,7 @@ write_fault-of_result f r P e packed write =
     let same : from_pack_fault f ≡ Write = cc in
     packed (ap PackFaultResult (from_pack_fault-write f same))
 
--- and what follows where it is another
+-- what follows from a fault of packing other than `Write` follows from the run's
 pub no_write_fault-of_result : (f : PackFault) (r : Result (Unit {0}) RunFault) (P : Type 0)
     → IsResultOfFault f r
     → (f ≢ packing.Write → P) → IfErr r (λ fault. fault ≢ Write → P)
@@ -122,7 +122,7 @@ counted_writes-pack_fault packing.Read before = refl
 counted_writes-pack_fault packing.Write before = refl
 counted_writes-pack_fault packing.Memory before = refl
 
--- so it is for an answer that is right for the run: reads
+-- a failed read of packing counts as one of the run
 pub counted_reads-of_result : (f : PackFault) (r : Result (Unit {0}) RunFault) (before after : ℕ)
     → IsResultOfFault f r
     → after ≡ failures_after {X = Unit {0}} is_file_read (Err f) before → after
@@ -130,7 +130,7 @@ pub counted_reads-of_result : (f : PackFault) (r : Result (Unit {0}) RunFault) (
 counted_reads-of_result f r before after e is = rw (result-of_pack_fault f r e)
     (is ∙ counted_reads-pack_fault f before)
 
--- and writes
+-- a failed write of packing counts as one of the run
 pub counted_writes-of_result : (f : PackFault) (r : Result (Unit {0}) RunFault) (before after : ℕ)
     → IsResultOfFault f r
     → after ≡ failures_after {X = Unit {0}} is_bundle_write (Err f) before → after

@@ -1,6 +1,7 @@
 -- Texts that are appended one after the other, while some of a source's calls fail.
-use Rattle.std.proofs.Common.{◌≡◌, ℕ, ◌+◌, ◌<◌, List, [], ◌∷◌, ◌++◌, Option, ap, ◌∙◌, refl, sym, subst, arith}
-use Rattle.std.proofs.Common.{◌-◌, Some, Result, IfSome, OnOk, append_assoc, get_or, length, map, min, take}
+use Rattle.std.proofs.Common.{◌≡◌, ℕ, ◌+◌, ◌<◌, List, [], ◌∷◌, ◌++◌, Option, ap, ◌∙◌, refl, sym, subst}
+use Rattle.std.proofs.Common.{arith, ◌-◌, Some, Result, IfSome, OnOk, append_assoc, get_or, length, map}
+use Rattle.std.proofs.Common.{min, take}
 use Rattle.std.proofs.lemmas.List.{append-nil, take_min, take_more}
 use Rattle.mc_text.proofs.StepLemmas.{on_ok_map}
 use Rattle.mc_files.specs.Files.{FileText}
@@ -18,7 +19,7 @@ use Rattle.mc_run.specs.RefusalText.{IsRefusalReason, IsRefusedFileLine, IsRefus
 failures_with-none : (before : ℕ) → before ≡ saturating_failures 0 before
 failures_with-none before = omega arith
 
--- some calls failed, and then some more
+-- calls that failed first and calls that failed later are counted together, up to the greatest number
 failures_with-more : (one more before : ℕ)
     → saturating_failures more (saturating_failures one before) ≡ saturating_failures (one + more) before
 failures_with-more one more before = omega arith
@@ -84,7 +85,8 @@ refused_file_lines-push contents (first ∷ files) file one more text line
       ap (λ t. t ++ line) whole ∙ append_assoc front rest line,
     )
 
--- the same for the files before an index of a list and the one there, with unchanged contents of the source
+-- the lines of the files before an index and the line of the file there are those of one file more, as the
+-- source's contents stay the same
 pub refused_file_lines-more : (contents other : Option (List FileText)) (files : List RefusedFile)
     (i : ℕ) (file : RefusedFile)
     (old between new : List ℕ) (before middle after : ℕ) → other ≡ contents → i < length files

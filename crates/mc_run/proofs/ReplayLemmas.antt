@@ -1,6 +1,6 @@
 -- What the text of `mcaudit replay` says of the bundle that was read.
-use Rattle.std.proofs.Common.{◌≡◌, ℕ, ◌+◌, inl, inr, Bool, List, Option, Some, None, Result}
-use Rattle.std.proofs.Common.{Ok, Err, refl, ap, subst, ◌∙◌}
+use Rattle.std.proofs.Common.{◌≡◌, ℕ, ◌+◌, inl, inr, Bool, List, Option, Some, None, Result, Ok, Err}
+use Rattle.std.proofs.Common.{refl, ap, subst, ◌∙◌}
 use Rattle.std.specs.Prelude.{IfErr, IfSome, slice_get}
 use Rattle.mc_topology.specs.declared.flow.Flow.{Flow}
 use Rattle.mc_topology.specs.Topology.{TopologyValue}
@@ -12,8 +12,7 @@ use Rattle.mc_run.specs.declared.run_output.RunOutput.{RunOutput}
 use Rattle.mc_run.specs.declared.fault.RunFault.{RunFault}
 use Rattle.mc_input.specs.Meaning.{MeansUncertifiedDomain}
 use Rattle.mc_run.specs.Failures.{IsNoDeviceFault}
-use Rattle.mc_run.specs.ReplayRun.{HasNoTravel, IsReplayRefused, IsTextOfTravel, is_clean}
-use Rattle.mc_run.specs.ReplayRun.{replay_text}
+use Rattle.mc_run.specs.ReplayRun.{HasNoTravel, IsReplayRefused, IsTextOfTravel, is_clean, replay_text}
 
 -- the text of a travel through a domain
 pub is_text_of_travel-replayed : (d : DomainValue) (flow ttl : ℕ) (choices : Choices) (place : ℕ)

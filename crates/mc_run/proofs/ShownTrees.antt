@@ -14,7 +14,7 @@ use Rattle.mc_json.specs.RowData.{lan_data, line_of}
 use Rattle.mc_json.specs.TreeKey.{tree_key}
 use Rattle.mc_run.specs.AuditObjects.{key_of_tree, right_objects, tree_line, tree_number}
 use Rattle.mc_run.specs.AuditPieces.{audited_value}
-use Rattle.mc_run.specs.AuditRun.{is_whole}
+use Rattle.mc_run.specs.AuditedFiles.{is_whole}
 use Rattle.mc_run.specs.declared.audit.audited_domain.AuditedDomain.{AuditedDomain}
 
 -- no router is excluded where there are no names

@@ -1,24 +1,22 @@
 -- Lines that don't say yes, as those of flows in a verdict text.
-use Rattle.std.proofs.Common.{◌≡◌, ℕ, Bool, true, false, cond}
-use Rattle.std.proofs.Common.{eqb, List, [], ◌∷◌, ◌++◌, ◌⊎◌, inl, inr}
+use Rattle.std.proofs.Common.{◌≡◌, ℕ, Bool, true, false, cond, eqb, List, [], ◌∷◌, ◌++◌, ◌⊎◌, inl, inr}
 use Rattle.std.proofs.Common.{refl, sym, ap, subst, ◌∙◌, append_assoc, append-nil}
 use Rattle.std.specs.Prelude.{codes, slice_index, decimal}
 use Rattle.std.proofs.lemmas.Bool.{eq-eqb, false≢true}
 use Rattle.mc_text.specs.Addr.{dotted}
 use Rattle.mc_text.proofs.BundleWords.{HasNoByte}
 use Rattle.mc_explain.proofs.LineFeedLemmas.{no_feed-dotted, no_feed-lan_name, number}
-use Rattle.mc_explain.proofs.LineFeedLemmas.{no_feed-from_list_all, no_feed-router_name}
-use Rattle.mc_explain.proofs.LineFeedLemmas.{no_feed-append}
+use Rattle.mc_explain.proofs.LineFeedLemmas.{no_feed-from_list_all, no_feed-router_name, no_feed-append}
 use Rattle.mc_topology.specs.declared.flow.Flow.{Flow}
 use Rattle.mc_topology.specs.Topology.{TopologyValue, IsValidTopology, lan_name, router_name}
 use Rattle.mc_check.specs.ReasonText.{reason_text, verdict_text}
 use Rattle.mc_check.specs.declared.verdict.Reason.{Reason}
-use Rattle.mc_check.specs.declared.verdict.Reason.TheVariants.{TwoEntries, BadSource, Wildcard}
-use Rattle.mc_check.specs.declared.verdict.Reason.TheVariants.{Stray, Extra, WrongRank, WrongNeed}
-use Rattle.mc_check.specs.declared.verdict.Reason.TheVariants.{Unfed, Missed, Low}
+use Rattle.mc_check.specs.declared.verdict.Reason.TheVariants.{TwoEntries, BadSource, Wildcard, Stray}
+use Rattle.mc_check.specs.declared.verdict.Reason.TheVariants.{Extra, WrongRank, WrongNeed, Unfed, Missed}
+use Rattle.mc_check.specs.declared.verdict.Reason.TheVariants.{Low}
 use Rattle.mc_check.specs.declared.verdict.Verdict.{Verdict}
 use Rattle.mc_check.specs.declared.verdict.Verdict.TheVariants.{Yes, No}
-use Rattle.mc_run.specs.AuditRun.{AreYesWords}
+use Rattle.mc_run.specs.AuditYes.{AreYesWords}
 use Rattle.mc_run.specs.CheckRun.{IsLineStart}
 use Rattle.mc_run.specs.VerdictText.{flow_words, flow_line, flow_lines}
 
@@ -78,7 +76,7 @@ verdict_text-no_line_feed t (No r) ok = no_feed-append (codes "no ") _
 abbrev pub line_body : TopologyValue → Flow → Verdict → List ℕ
 line_body t f v = flow_words f ++ (codes " " ++ verdict_text t v)
 
--- it has no line feed
+-- the line of a flow and its verdict has no line feed before the one that ends it
 pub flow_line_body : (t : TopologyValue) (f : Flow) (v : Verdict) → IsValidTopology t
     → HasNoByte 10 (line_body t f v)
 flow_line_body t f v ok =
@@ -206,7 +204,7 @@ abbrev pub BeginsWithOtherByte : List ℕ → Type 0
 BeginsWithOtherByte [] = ⊥
 BeginsWithOtherByte (b ∷ xs) = (eqb b 118 ≡ false) × (eqb b 123 ≡ false)
 
--- so the words of a yes don't begin there
+-- a line that begins with another byte than a yes doesn't begin with the words of one
 yes_words-other_first_byte : (xs begin tail rest : List ℕ) → BeginsWithOtherByte xs → AreYesWords begin
     → xs ++ (10 ∷ tail) ≡ begin ++ rest → ⊥
 yes_words-other_first_byte [] begin tail rest other are same = other

@@ -1,12 +1,9 @@
 -- The answer of a run by a list's fault.
-use Rattle.std.proofs.Common.{◌≡◌, ℕ, List, ◌⊎◌, inl}
-use Rattle.std.proofs.Common.{inr}
-use Rattle.std.proofs.Common.{Err, sym, subst}
+use Rattle.std.proofs.Common.{◌≡◌, ℕ, List, ◌⊎◌, inl, inr, Err, sym, subst}
 use Rattle.mc_igmp.specs.declared.fault.ListFault.{ListFault}
 use Rattle.mc_igmp.specs.declared.fault.ListFaultKind.{ListFaultKind}
 use Rattle.mc_igmp.specs.declared.fault.ListFaultKind.TheVariants as list
-use Rattle.mc_igmp.specs.ReadingList.{oom_fault}
-use Rattle.mc_igmp.specs.ReadingList.{read_list}
+use Rattle.mc_igmp.specs.ReadingList.{oom_fault, read_list}
 use Rattle.mc_run.specs.RunFault.{from_list_fault, from_list_fault_kind}
 use Rattle.mc_run.specs.WantsRun.{AnswersWants}
 

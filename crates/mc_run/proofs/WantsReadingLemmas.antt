@@ -1,7 +1,6 @@
 -- A report list that is read piece by piece.
-use Rattle.std.proofs.Common.{◌≡◌, ℕ, Bool, false, ◌||◌, List, [], ◌++◌, refl, sym, ap, ◌∙◌}
-use Rattle.std.proofs.Common.{append_assoc, arith, ◌+◌, ◌<◌, ◌⊎◌, ◌≢◌, inl, inr, length, Ok, Err}
-use Rattle.std.proofs.Common.{Option, Some, None}
+use Rattle.std.proofs.Common.{◌≡◌, ℕ, Bool, false, ◌||◌, List, [], ◌++◌, refl, sym, ap, ◌∙◌, append_assoc}
+use Rattle.std.proofs.Common.{arith, ◌+◌, ◌<◌, ◌⊎◌, ◌≢◌, inl, inr, length, Ok, Err, Option, Some, None}
 use Rattle.std.specs.Prelude.{IsTrue, ◌↔◌, IfSome}
 use Rattle.std.specs.Io.KnownBytes.{IsAtEnd}
 use Rattle.std.proofs.lemmas.Bool.{cases_lt, lt-ltb}
@@ -53,7 +52,7 @@ reads_piece-none so_far group source = record {
   wants = wants-no_records group source;
 }
 
--- some bytes came, and then others
+-- if a piece was read and then another, the records of both were read
 pub reads_piece-more : (old mid new : ListSoFar) (bytes more : List ℕ) (group source : ℕ) (v w : Bool)
     → ReadsPiece old mid bytes group source v → ReadsPiece mid new more group source w
     → ReadsPiece old new (bytes ++ more) group source (v || w)
@@ -74,7 +73,7 @@ list_if-past_limit : (so_far : ListSoFar) (more : List ℕ) → 16777216 < so_fa
 list_if-past_limit so_far more past =
     rw (lt-ltb 16777216 (so_far.size + length more) (omega arith)) refl
 
--- so reading ends as if nothing more came, if the input is at its end or past the limit
+-- at the end of the input, or past the greatest size, reading ends as if nothing more came
 list_if-at_end_or_past_limit : (so_far : ListSoFar) (rest : List ℕ) → (so_far.size < 16777217 → rest ≡ [])
     → list_if so_far rest ≡ list_if so_far []
 list_if-at_end_or_past_limit so_far rest end = elim (cases_lt so_far.size 16777217) [
@@ -116,7 +115,7 @@ is_wants_answer-reads_pieces (Some text) left old new group source w v last read
       wants-append known.0 last group source w v known.2 wants,
     )
 
--- and if it ends with a fault
+-- if reading the list ends with a fault, that is the answer
 pub answers_wants-list_refused : (contents left : Option (List ℕ)) (old new : ListSoFar) (group source : ℕ)
     (w : Bool) (fault : ListFault) → ((text : List ℕ) → list_if old text ≡ read_list text)
     → ReadsPieces contents left old new group source w → (new.size < 16777217 → IsAtEnd left)
@@ -135,7 +134,7 @@ answers_wants-failed_run None group source fault why = tt
 answers_wants-failed_run (Some text) group source fault (inl is) = rw is tt
 answers_wants-failed_run (Some text) group source fault (inr is) = rw is tt
 
--- and the output didn't fail
+-- neither a failed read nor want of memory is a failed write
 pub is_not_write-read_or_memory : (fault : RunFault) → (fault ≡ Read) ⊎ (fault ≡ Memory) → fault ≢ Write
 is_not_write-read_or_memory fault why = grind arith
 

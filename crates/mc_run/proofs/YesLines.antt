@@ -1,6 +1,6 @@
 -- A text has a line that says yes exactly if the verdict is yes, and it is the last line.
-use Rattle.std.proofs.Common.{◌≡◌, ℕ, Bool, true, false, List, [], ◌∷◌, ◌++◌, inl, inr, Some, refl}
-use Rattle.std.proofs.Common.{sym, ap, ◌∙◌, append_assoc, arith, Option, Result}
+use Rattle.std.proofs.Common.{◌≡◌, ℕ, Bool, true, false, List, [], ◌∷◌, ◌++◌, inl, inr, Some, refl, sym}
+use Rattle.std.proofs.Common.{ap, ◌∙◌, append_assoc, arith, Option, Result}
 use Rattle.std.specs.Prelude.{◌==◌, codes, drop, flat_map, length, slice_index, IfOk, IfSome, IsTrue}
 use Rattle.std.proofs.lemmas.Bool.{and_parts, false≢true, ne_eqb}
 use Rattle.json.specs.Print.{escape_byte}
@@ -8,9 +8,11 @@ use Rattle.mc_text.proofs.BundleWords.{HasNoByte}
 use Rattle.mc_explain.proofs.LineFeedLemmas.{no_feed-from_list_all}
 use Rattle.mc_files.specs.Files.{FileText}
 use Rattle.mc_forward.specs.ListedTables.{facts}
-use Rattle.mc_run.specs.AuditEnd.{begin_lines, end_lines, verdict_line}
-use Rattle.mc_run.specs.AuditRun.{AreYesWords, IsAuditText, LeftOutValue, excluded, is_whole, is_yes}
-use Rattle.mc_run.specs.AuditRun.{yes_object, yes_words}
+use Rattle.mc_run.specs.AuditBegin.{begin_lines}
+use Rattle.mc_run.specs.AuditEnd.{end_lines, verdict_line}
+use Rattle.mc_run.specs.AuditedFiles.{LeftOutValue, excluded, is_whole}
+use Rattle.mc_run.specs.AuditRun.{IsAuditText, is_yes}
+use Rattle.mc_run.specs.AuditYes.{AreYesWords, yes_object, yes_words}
 use Rattle.mc_run.specs.CheckRun.{BundleKeepsHeadline, IsLineStart, IsVerdictText, SaysYes, WroteAtStart}
 use Rattle.mc_run.specs.CheckRun.{WroteYes}
 use Rattle.mc_run.specs.RunOutput.{IsOutputWritten}
@@ -19,7 +21,8 @@ use Rattle.mc_cli.specs.declared.audit_options.AuditOptions.{AuditOptions}
 use Rattle.mc_run.specs.declared.fault.RunFault.{RunFault}
 use Rattle.mc_run.specs.declared.run_output.RunOutput.{RunOutput}
 use Rattle.mc_run.proofs.AuditLines.{no_yes_line-text_before_verdict, text_before_verdict}
-use Rattle.mc_run.proofs.RunLemmas.{IsOutputOf, SaysYesByLine, headline-check_says_yes}
+use Rattle.mc_run.proofs.RunLemmas.{IsOutputOf}
+use Rattle.mc_run.proofs.YesRunLemmas.{SaysYesByLine, headline-check_says_yes}
 use Rattle.mc_run.proofs.VerdictLines.{AreLinesWithoutYes, words_at_line_start-cases, no_yes_line-flow_lines}
 
 -- ---- the last line
@@ -58,7 +61,7 @@ words-byte_in_line : (place : ℕ) (line words rest other : List ℕ) → words 
 words-byte_in_line place line words rest other is same =
     ap (λ (xs : List ℕ). slice_index xs place) (same ∙ ap (λ xs. xs ++ rest) is)
 
--- where the words of a yes begin the last line
+-- if the words of a yes begin the last line, it is the line of a yes in this form
 yes_words-begin_last_line : (json all : Bool) (words rest : List ℕ) → AreYesWords words
     → last_words_of_verdict json all ++ codes "\n" ≡ words ++ rest → IsLastLineYes json all words rest
 yes_words-begin_last_line true true words rest (inl is) same =
@@ -144,7 +147,8 @@ has_line-check_text text written old v =
     (v.holds.spelled
     ∙ ap (λ all. flow_lines t t.flows verdicts ++ verdict_line false all) (sym v.holds.answer))
 
--- where it has the line, it says yes, and the line is the last one
+-- if a text of verdicts has the words of a yes at the start of a line, all verdicts are yes, and the line is
+-- the last one
 pub is_last_line_yes-check_text : (text written front rest : List ℕ) (all : Bool)
     → IsVerdictText text all written
     → IsLineStart front → written ≡ front ++ (codes "verdict yes" ++ rest)
@@ -158,12 +162,12 @@ is_last_line_yes-check_text text written front rest all v starts is =
     starts (sym v.holds.spelled ∙ is) in
     (v.holds.answer ∙ run_output.all_are, run_output.last)
 
--- so a text of verdicts with these words says yes
+-- a text of verdicts with such a line belongs to the answer yes
 pub says_yes_by_line-verdict_text : SaysYesByLine (codes "verdict yes") IsVerdictText
 says_yes_by_line-verdict_text text all written v (front, rest, starts, is) =
     (is_last_line_yes-check_text text written front rest all v starts is).0
 
--- and the headline holds after a check that says yes
+-- the headline holds after a check that says yes, by its answer or by that line
 pub headline_of_bundle-check_yes : (contents : Option (List ℕ)) (s : Result RunOutput RunFault)
     (r : Result Bool RunFault)
     (old new : Option (List ℕ)) → IsOutputOf contents IsVerdictText s
@@ -211,7 +215,7 @@ has_line-audit_text left files o written old a =
     (no_yes_line-before_verdict left files o true written a)
     (audit_text-lines_and_verdict left files o true written a)
 
--- where it has the words of a yes, they begin its last line
+-- if the text of an audit has the words of a yes at the start of a line, they begin its last line
 is_last_line_yes-audit_line : (left : LeftOutValue) (files : List FileText) (o : AuditOptions) (all : Bool)
     (words written front rest : List ℕ) → IsAuditText o left files all written → IsLineStart front
     → AreYesWords words → written ≡ front ++ (words ++ rest) → IsLastLineYes o.json all words rest
@@ -220,7 +224,7 @@ is_last_line_yes-audit_line left files o all words written front rest a starts a
     (no_yes_line-before_verdict left files o all written a) are starts
     (sym (audit_text-lines_and_verdict left files o all written a) ∙ is)
 
--- so it says yes in its own form, and the line is the last one
+-- such a text belongs to the answer yes, has the words in its own form, and the line is the last one
 pub is_last_line_yes-audit_text : (left : LeftOutValue) (files : List FileText) (o : AuditOptions)
     (all : Bool)
     (words written front rest : List ℕ) → IsAuditText o left files all written → IsLineStart front
@@ -230,7 +234,7 @@ is_last_line_yes-audit_text left files o all words written front rest a starts a
     let line = is_last_line_yes-audit_line left files o all words written front rest a starts are is in
     (line.all_are, line.these, line.last)
 
--- so an audit's text with such a line says yes
+-- a text of an audit with such a line belongs to the answer yes
 says_yes_by_line-audit_text : (o : AuditOptions) (left : LeftOutValue) (words : List ℕ) → AreYesWords words
     → SaysYesByLine words (IsAuditText o left)
 says_yes_by_line-audit_text o left words are files all written a (front, rest, starts, is) =

@@ -1,95 +1,21 @@
--- The lines of an audit before and after those of the flows (docs/FORMATS.md, the section "The program"): in
--- JSON first the domain and the options; then, as text or in JSON, the unlisted sources and groups of the
--- caches, what hosts ask for and no flow answers, the excluded routers, the numbers of flows, and the
--- verdict.
-use Rattle.std.specs.Prelude.{ℕ, ◌==◌, ◌+◌, ◌&&◌, not, Bool, List, [], ◌∷◌, ◌++◌, codes, decimal, filter}
-use Rattle.std.specs.Prelude.{flat_map, length, map, if◌then◌else◌, Option, Some, None, is_none, true, false}
-use Rattle.std.specs.List.{list_all, list_any}
-use Rattle.std.specs.Str.{bytes_eq}
+-- The lines of an audit after those of the flows (docs/FORMATS.md, the section "The program"): as text or in
+-- JSON the unlisted sources and groups of the caches, what hosts ask for and no flow answers, the excluded
+-- routers, the numbers of flows, and the verdict.
+use Rattle.std.specs.Prelude.{ℕ, ◌==◌, ◌+◌, ◌&&◌, not, Bool, List, [], ◌++◌, codes, decimal, length}
+use Rattle.std.specs.Prelude.{if◌then◌else◌, true, false}
 use Rattle.mc_tables.specs.Summary.{SummaryValue}
-use Rattle.mc_topology.specs.Topology.{TopologyValue, router_name}
-use Rattle.mc_theory.specs.Lists.{below}
-use Rattle.mc_theory.specs.Nets.{Net}
-use Rattle.mc_forward.specs.ListedTables.{DomainFacts}
-use Rattle.mc_maker.specs.Examined.{is_certified}
-use Rattle.mc_maker.specs.declared.examination.Examined.{Examined}
-use Rattle.mc_explain.specs.ExcludedText.{excluded_routers, excluded_text, excluded_lines}
+use Rattle.mc_topology.specs.Topology.{TopologyValue}
+use Rattle.mc_explain.specs.ExcludedText.{excluded_text, excluded_lines}
 use Rattle.mc_explain.specs.UnlistedText.{unlisted_text}
-use Rattle.mc_json.specs.DomainData.{domain_data}
 use Rattle.mc_json.specs.EndData.{summary_data, unlisted_lines, verdict_data, without_line}
 use Rattle.mc_json.specs.RowData.{line_of}
-use Rattle.mc_cli.specs.AuditOptionWords.{faults_word, json_word, strict_word, travel_word, unlisted_word}
-use Rattle.mc_cli.specs.AuditOptionWords.{ignore_word, without_word}
-use Rattle.mc_text.specs.GroupRange.{range_text}
 use Rattle.mc_input.specs.AskedOfFiles.{UnansweredWantsValue}
 use Rattle.mc_run.specs.AuditAsked.{asked_lines}
 use Rattle.mc_run.specs.VerdictText.{last_line}
 use Rattle.mc_cli.specs.declared.audit_options.AuditOptions.{AuditOptions}
-use Rattle.mc_run.specs.declared.audit.flow_status.FlowStatus.{FlowStatus}
-use Rattle.mc_run.specs.declared.audit.flow_status.FlowCounts.{FlowCounts}
+use Rattle.mc_run.specs.FlowCounts.{FlowAnswer, count, is_right, is_unknown, is_unwanted, is_wrong}
 
--- What an audit prints of a flow, and by what.
-pub record FlowAnswer : Type 0 where
-  -- the flow's net
-  pub net : Net
-  -- the result of examining the flow
-  pub examined : Examined
-  -- whether the flow is right (`true`) or not (`false`), if that is known
-  pub right : Option Bool
-  -- the LANs that want the flow
-  pub wanted : List ℕ
-  -- the flow's lines
-  pub lines : List ℕ
-
--- whether every flow is certified
-abbrev pub are_right : List FlowAnswer → Bool
-are_right answers = list_all (λ answer. is_certified answer.examined) answers
-
--- ---- the counts of flows
-
--- whether a flow is known to be right
-abbrev pub says_right : Option Bool → Bool
-says_right None = false
-says_right (Some right) = right
-
--- whether it is known that a flow isn't right
-abbrev pub says_wrong : Option Bool → Bool
-says_wrong None = false
-says_wrong (Some right) = not right
-
--- 1 where the fact holds, and otherwise 0
-abbrev pub one_if_true : Bool → ℕ
-one_if_true true = 1
-one_if_true false = 0
-
--- the counts with one flow more, of this status
-abbrev pub with_status : FlowCounts → FlowStatus → FlowCounts
-with_status flow_counts status = record {
-  right = flow_counts.right + one_if_true (says_right status.right);
-  wrong = flow_counts.wrong + one_if_true (says_wrong status.right);
-  unknown = flow_counts.unknown + one_if_true (is_none status.right);
-  unwanted = flow_counts.unwanted + one_if_true status.unwanted;
-}
-
--- whether it is known of this flow that it is right
-abbrev pub is_right : FlowAnswer → Bool
-is_right answer = says_right answer.right
-
--- whether it is known of this flow that it isn't right
-abbrev pub is_wrong : FlowAnswer → Bool
-is_wrong answer = says_wrong answer.right
-
--- whether neither is known of this flow
-abbrev pub is_unknown : FlowAnswer → Bool
-is_unknown answer = is_none answer.right
-
--- whether nothing is found of this flow and no LAN wants it
-abbrev pub is_unwanted : FlowAnswer → Bool
-is_unwanted answer = is_certified answer.examined && (length answer.wanted == 0)
-
--- how many of the flows pass the test
-abbrev pub count : (FlowAnswer → Bool) → List FlowAnswer → ℕ
-count p answers = length (filter p answers)
+-- ---- one line
 
 -- the line `summary` as far as the numbers of flows go
 abbrev pub summary_of_flows : (flows right wrong unknown unwanted : ℕ) → List ℕ
@@ -120,52 +46,7 @@ strict_lines strict all unwanted asked =
     strict_line (strict && all) unwanted (codes " flows that nobody wants")
     ++ strict_line (strict && all) asked (codes " wants that no flow answers")
 
--- ---- excluded routers
-
--- whether the name is one of these
-abbrev pub is_among : (names : List (List ℕ)) → (name : List ℕ) → Bool
-is_among names name = list_any (λ other. bytes_eq other name) names
-
--- a mark for each router, in order: whether it has one of the names
-abbrev pub excluded_marks : TopologyValue → (names : List (List ℕ)) → List Bool
-excluded_marks topology names = map (λ router. is_among names (router_name topology router))
-    (below (length topology.routers))
-
--- ---- before the lines of the flows
-
--- the word of an option, if that is asked for
-abbrev pub word_if_asked : Bool → (word : List ℕ) → List (List ℕ)
-word_if_asked asked word = if asked then word ∷ [] else []
-
--- the words that exclude a router
-abbrev pub without_words : TopologyValue → (router : ℕ) → List (List ℕ)
-without_words topology router = without_word ∷ router_name topology router ∷ []
-
--- the words that ignore a range of groups
-abbrev pub ignore_words : (range : ℕ × ℕ) → List (List ℕ)
-ignore_words range = ignore_word ∷ range_text range ∷ []
-
--- the words of these options, then those that exclude the marked routers, and those that ignore the ranges of
--- groups
-abbrev pub option_words : AuditOptions → TopologyValue → (excluded : List Bool) → (ignored : List (ℕ × ℕ))
-    → List (List ℕ)
-option_words options topology excluded ignored =
-    word_if_asked options.travels travel_word
-    ++ (word_if_asked options.faults faults_word
-    ++ (word_if_asked options.unlisted unlisted_word
-    ++ (word_if_asked options.strict strict_word
-    ++ (word_if_asked options.json json_word
-    ++ (flat_map (without_words topology) (excluded_routers topology excluded)
-    ++ flat_map ignore_words ignored)))))
-
--- in JSON the line of the domain and of the options' words; as text nothing
-abbrev pub begin_lines : AuditOptions → DomainFacts → (excluded : List Bool) → (ignored : List (ℕ × ℕ))
-    → List ℕ
-begin_lines options domain excluded ignored =
-    if options.json then line_of (domain_data domain
-    (option_words options domain.topology excluded ignored)) else []
-
--- ---- after the lines of the flows
+-- ---- all lines
 
 -- the lines after the flows as text: `flows` is how many flows there are, `whole` is true where no router is
 -- excluded, and `all` where the verdict is yes

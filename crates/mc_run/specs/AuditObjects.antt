@@ -1,6 +1,7 @@
 -- The lines of a flow in the JSON of an audit (docs/FORMATS.md, "What `audit --json` writes"). `printed` are
 -- the keys of the trees that earlier lines have printed.
-use Rattle.std.specs.Prelude.{ℕ, Bool, List, [], ◌++◌, map, length, is_some, if◌then◌else◌, Option, Some, None}
+use Rattle.std.specs.Prelude.{ℕ, Bool, List, [], ◌++◌, map, length, is_some, if◌then◌else◌, Option, Some}
+use Rattle.std.specs.Prelude.{None}
 use Rattle.mc_tables.specs.Summary.{SummaryValue}
 use Rattle.mc_topology.specs.Topology.{flow_at}
 use Rattle.mc_forward.specs.ListedTables.{DomainFacts}

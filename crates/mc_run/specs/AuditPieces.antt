@@ -15,17 +15,18 @@ use Rattle.mc_explain.specs.declared.causes.behind.Behind.{Behind}
 use Rattle.mc_explain.specs.declared.causes.explanation.Certainty.{Certainty}
 use Rattle.mc_explain.specs.declared.causes.explanation.ShownBy.{ShownBy}
 use Rattle.mc_input.specs.declared.domain.FolderDomain.{FolderDomain}
-use Rattle.mc_run.specs.AuditEnd.{FlowAnswer, count, end_objects, end_text, end_text_or_objects}
-use Rattle.mc_run.specs.AuditEnd.{is_right, is_unknown, is_unwanted, is_wrong}
+use Rattle.mc_run.specs.FlowCounts.{FlowAnswer, count, is_right, is_unknown, is_unwanted, is_wrong}
+use Rattle.mc_run.specs.AuditEnd.{end_objects, end_text, end_text_or_objects}
 use Rattle.mc_run.specs.AuditObjects.{key_of_tree, right_objects, wrong_object}
 use Rattle.mc_run.specs.AuditExplanation.{is_known_wrong, search_context}
-use Rattle.mc_run.specs.AuditRun.{IsFlowAnswer, AuditedValue, LeftOutValue, excluded, is_whole}
-use Rattle.mc_run.specs.AuditRun.{trees_shown}
+use Rattle.mc_run.specs.AuditedFiles.{AuditedValue, LeftOutValue, excluded, is_whole}
+use Rattle.mc_run.specs.AuditRun.{IsFlowAnswer, trees_shown}
 use Rattle.mc_explain.specs.ExplanationValues.{ExplanationValue}
-use Rattle.mc_run.specs.AuditText.{behind_text, second_behind_text}
-use Rattle.mc_run.specs.AuditText.{explanation_lines, right_lines, searched_lines, wrong_lines}
+use Rattle.mc_run.specs.AuditText.{behind_text, second_behind_text, explanation_lines, right_lines}
+use Rattle.mc_run.specs.AuditText.{searched_lines, wrong_lines}
 use Rattle.mc_run.specs.AuditFlowText.{is_hidden, right_flow_lines, shown_trees_with, status_of}
-use Rattle.mc_run.specs.AuditFlowText.{status_of_right, status_of_wrong, with_shown_tree, wrong_flow_lines}
+use Rattle.mc_run.specs.AuditFlowText.{status_of_right, status_of_wrong, with_shown_tree}
+use Rattle.mc_run.specs.AuditFlowText.{wrong_flow_lines}
 use Rattle.mc_cli.specs.declared.audit_options.AuditOptions.{AuditOptions}
 use Rattle.mc_run.specs.declared.audit.audited_domain.AuditedDomain.{AuditedDomain}
 use Rattle.mc_run.specs.declared.audit.audit_output.AuditAnswer.{AuditAnswer}
@@ -96,12 +97,18 @@ pub record IsFlowPushed (audited : AuditedValue) (options : AuditOptions) (flow 
   pub shown_trees : new_printed ≡ shown_trees_with options answer.net printed answer.examined answer.wanted
   pub spelled : new ≡ old ++ answer.lines
 
--- The lines of this number of flows, from the first on, were appended; these are the counts of these flows,
--- and the trees that they have printed.
-pub record AreFlowsPushed (audited : AuditedValue) (options : AuditOptions) (pushed : ℕ)
+-- The lines of the flow with this number and its finding were appended, and this is its status. They print no
+-- tree, whichever trees the lines of earlier flows have printed.
+abbrev pub IsFindingPushed : AuditedDomain → (flow : ℕ) → FlowStatus → (old new : List ℕ) → Type 0
+IsFindingPushed audited flow flow_status old new = (printed : List Tree)
+    → IsFlowPushed (audited_value audited) audited.options flow flow_status printed printed old new
+
+-- The lines of the first k flows were appended; these are the counts of these flows, and the trees that they
+-- have printed.
+pub record AreFlowsPushed (audited : AuditedValue) (options : AuditOptions) (k : ℕ)
     (flow_counts : FlowCounts) (printed : List Tree) (old new : List ℕ) : Type 0 where
   pub answers : List FlowAnswer
-  pub count_is : length answers ≡ pushed
+  pub count_is : length answers ≡ k
   pub each : (flow : ℕ) (answer : FlowAnswer) → slice_get answers flow ≡ Some answer
       → IsFlowAnswer audited options (trees_shown options (take flow answers)) flow answer
   pub right : flow_counts.right ≡ count is_right answers

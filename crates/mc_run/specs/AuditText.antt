@@ -10,8 +10,7 @@ use Rattle.mc_check.specs.declared.verdict.Verdict.TheVariants.{Yes}
 use Rattle.mc_replay.specs.TravelText.{finding_text}
 use Rattle.mc_replay.specs.declared.finding.Finding.{Finding}
 use Rattle.mc_replay.specs.declared.travel.Travel.{Travel}
-use Rattle.mc_lines.specs.ExplanationText.{causes_text, deeper_causes_text}
-use Rattle.mc_lines.specs.ExplanationText.{search_text}
+use Rattle.mc_lines.specs.ExplanationText.{causes_text, deeper_causes_text, search_text}
 use Rattle.mc_explain.specs.BehindText.{leaks_behind_text}
 use Rattle.mc_explain.specs.ExplanationValues.{ExplanationValue}
 use Rattle.mc_explain.specs.WantedText.{also_missed_text, wanted_text}
@@ -48,11 +47,12 @@ abbrev pub found_flow_line : TopologyValue → Flow → (known : Bool) → Findi
 found_flow_line topology flow known finding = flow_words flow
     ++ (codes " " ++ (known_word known ++ (codes ": " ++ (finding_text topology finding ++ codes "\n"))))
 
--- the line that gives the TTL from which on packets show the finding; nothing where none is given
-abbrev pub shown_from_text : Option ℕ → List ℕ
-shown_from_text None = []
-shown_from_text (Some ttl) =
-    codes "  shown by packets sent with ttl " ++ (decimal ttl ++ codes " or more\n")
+-- the line that gives the TTL from which on packets show the finding, after this indent; nothing where none is
+-- given
+abbrev pub shown_from_text : (indent : List ℕ) → Option ℕ → List ℕ
+shown_from_text indent None = []
+shown_from_text indent (Some ttl) =
+    indent ++ (codes "shown by packets sent with ttl " ++ (decimal ttl ++ codes " or more\n"))
 
 -- the line that gives what is found of a packet with the flow's own TTL; nothing where none is given
 abbrev pub at_flow_ttl_text : TopologyValue → (ttl : ℕ) → Option Finding → List ℕ
@@ -63,17 +63,12 @@ at_flow_ttl_text topology ttl (Some finding) = codes "  with this flow's ttl "
 -- these two lines, of a flow with this TTL
 abbrev pub shown_by_text : TopologyValue → (ttl : ℕ) → ShownBy → List ℕ
 shown_by_text topology ttl shown_by =
-    shown_from_text shown_by.from ++ at_flow_ttl_text topology ttl shown_by.at_flow_ttl
+    shown_from_text (codes "  ") shown_by.from ++ at_flow_ttl_text topology ttl shown_by.at_flow_ttl
 
 -- the lines of the search, if there was one
 abbrev pub searched_lines : DomainFacts → List SummaryValue → (flow : ℕ) → Option LanSearch → List ℕ
 searched_lines domain summary flow None = []
 searched_lines domain summary flow (Some found) = search_text domain summary flow found
-
--- the line `shown by` after four spaces; nothing where no TTL is given
-abbrev pub deeper_shown_from_text : Option ℕ → List ℕ
-deeper_shown_from_text None = []
-deeper_shown_from_text (Some ttl) = codes "  " ++ shown_from_text (Some ttl)
 
 -- the lines of a second copy behind a stray, if there is one: its finding, and after four spaces its causes
 -- and the line `shown by`
@@ -82,7 +77,7 @@ abbrev pub second_behind_text : DomainFacts → List SummaryValue → (flow : �
 second_behind_text domain summary flow causes shown_from None = []
 second_behind_text domain summary flow causes shown_from (Some finding) =
     codes "  behind it: " ++ (finding_text domain.topology finding ++ (codes "\n"
-    ++ (deeper_causes_text domain summary flow causes ++ deeper_shown_from_text shown_from)))
+    ++ (deeper_causes_text domain summary flow causes ++ shown_from_text (codes "    ") shown_from)))
 
 -- the lines of what is behind a stray, if the finding is one
 abbrev pub behind_text : DomainFacts → List SummaryValue → (flow : ℕ) → Option Behind → List ℕ

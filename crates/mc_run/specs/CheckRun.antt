@@ -1,7 +1,7 @@
 -- The answer and the text of `check`, and what its yes promises (docs/FORMATS.md, "The program";
 -- docs/PROMISES.md).
-use Rattle.std.specs.Prelude.{◌≡◌, ℕ, ◌<◌, Bool, true, List, [], ◌∷◌, ◌++◌, codes, length, ◌⊎◌}
-use Rattle.std.specs.Prelude.{Option, Some, Result, Ok}
+use Rattle.std.specs.Prelude.{◌≡◌, ℕ, ◌<◌, Bool, true, List, [], ◌∷◌, ◌++◌, codes, length, ◌⊎◌, Option}
+use Rattle.std.specs.Prelude.{Some, Result, Ok}
 use Rattle.mc_theory.specs.Headline.{HeadlineHolds}
 use Rattle.mc_forward.specs.Domains.{DomainValue, net_of}
 use Rattle.mc_cert.specs.Certificate.{Tree, tree_at}

@@ -13,8 +13,8 @@ use Rattle.mc_topology.specs.declared.fault.TopologyFault.{TopologyFault}
 use Rattle.mc_topology.specs.declared.fault.TopologyFaultKind.{TopologyFaultKind}
 use Rattle.mc_topology.specs.declared.fault.TopologyFaultKind.TheVariants as topology
 use Rattle.mc_input.specs.declared.fault.InputFault.{InputFault}
-use Rattle.mc_input.specs.declared.fault.InputFault.TheVariants.{Bundle, Parts, Topology, Vif}
-use Rattle.mc_input.specs.declared.fault.InputFault.TheVariants.{Cache, Reports, Memory}
+use Rattle.mc_input.specs.declared.fault.InputFault.TheVariants.{Bundle, Parts, Topology, Vif, Cache}
+use Rattle.mc_input.specs.declared.fault.InputFault.TheVariants.{Reports, Memory}
 
 -- ---- the kinds of faults by their names
 

@@ -1,7 +1,6 @@
 -- The answer and the text of `make` (docs/FORMATS.md, "The program" and "Certificate").
 use Rattle.std.specs.Prelude.{◌≡◌, ◌↔◌, ℕ, ◌<◌, Bool, true, false, All, IsTrue, List, [], ◌∷◌, ◌++◌}
-use Rattle.std.specs.Prelude.{codes, decimal}
-use Rattle.std.specs.Prelude.{length, map, slice_get, Some}
+use Rattle.std.specs.Prelude.{codes, decimal, length, map, slice_get, Some}
 use Rattle.std.specs.List.{list_all}
 use Rattle.std.specs.List.Sorted.{IsStrictlyIncreasing}
 use Rattle.mc_text.specs.Bundle.{IsBundle, PartText}
@@ -16,8 +15,7 @@ use Rattle.mc_cert.specs.CertificateText.{certificate_json}
 use Rattle.mc_replay.specs.TravelText.{finding_text}
 use Rattle.mc_replay.specs.declared.finding.Finding.{Finding}
 use Rattle.mc_maker.specs.Examined.{FindsFault, IfCertified, IfFound, AreEntriesOfCleanTravel}
-use Rattle.mc_maker.specs.Examined.{IsFirstPickTravel}
-use Rattle.mc_maker.specs.Examined.{IsTtlOfFault, is_certified}
+use Rattle.mc_maker.specs.Examined.{IsFirstPickTravel, IsTtlOfFault, is_certified}
 use Rattle.mc_maker.specs.declared.examination.Examined.{Examined}
 use Rattle.mc_maker.specs.declared.examination.Examined.TheVariants.{Certified, Found}
 use Rattle.mc_run.specs.VerdictText.{flow_words}

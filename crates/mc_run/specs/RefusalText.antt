@@ -2,17 +2,15 @@
 -- for each, with its first fault and the front of the line that has the fault. `lost` is how many calls of
 -- the source failed meanwhile.
 use Rattle.std.specs.Prelude.{◌≡◌, ℕ, zero, suc, ◌+◌, ◌-◌, ◌/◌, ◌%◌, ◌==◌, ◌≤◌, ◌&&◌, not, nat_le, Bool}
-use Rattle.std.specs.Prelude.{List, [], ◌∷◌, ◌++◌, length, take, flat_map, map, codes, decimal}
-use Rattle.std.specs.Prelude.{Option, Some, None, IfSome, unwrap_or, Result, Ok, Err}
-use Rattle.std.specs.Prelude.{if◌then◌else◌, string_bytes}
+use Rattle.std.specs.Prelude.{List, [], ◌∷◌, ◌++◌, length, take, flat_map, map, codes, decimal, Option}
+use Rattle.std.specs.Prelude.{Some, None, IfSome, unwrap_or, Result, Ok, Err, if◌then◌else◌, string_bytes}
 use Rattle.std.specs.Io.KnownBytes.{Appends}
 use Rattle.mc_text.specs.Lines.{max_text}
 use Rattle.mc_text.specs.Device.{AppendsProperPrefix}
 use Rattle.mc_files.specs.Files.{FileText, file_named}
 use Rattle.mc_files.specs.FilePart.{unread_text}
 use Rattle.mc_input.specs.RefusedFiles.{AreUnreadFilesMissing, AreRefusedFiles, saturating_failures}
-use Rattle.mc_input.specs.RefusedFiles.{refused_files_of, as_judged_file}
-use Rattle.mc_input.specs.RefusedFiles.{unread_count}
+use Rattle.mc_input.specs.RefusedFiles.{refused_files_of, as_judged_file, unread_count}
 use Rattle.mc_input.specs.declared.refused_file.RefusedFile.{RefusedFile}
 use Rattle.mc_input.specs.declared.refused_file.Refusal.{Refusal}
 use Rattle.mc_input.specs.declared.refused_file.Refusal.TheVariants.{Unread, Fault}

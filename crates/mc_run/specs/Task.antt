@@ -4,8 +4,8 @@ use Rattle.std.specs.Prelude.{ℕ, Bool, true, false, List, [], ⊤}
 use Rattle.std.specs.String.{string_bytes}
 use Rattle.mc_cli.specs.declared.audit_words.AuditWords.{AuditWords}
 use Rattle.mc_cli.specs.declared.task.Task.{Task}
-use Rattle.mc_cli.specs.declared.task.Task.TheVariants.{Wants, Check, Make, Replay, Pack, Audit}
-use Rattle.mc_cli.specs.declared.task.Task.TheVariants.{Help, Version}
+use Rattle.mc_cli.specs.declared.task.Task.TheVariants.{Wants, Check, Make, Replay, Pack, Audit, Help}
+use Rattle.mc_cli.specs.declared.task.Task.TheVariants.{Version}
 
 -- ---- facts of a task's arguments, by the kind of the task
 

@@ -11,11 +11,13 @@ use Rattle.mc_theory.specs.Findings.{Choices}
 use Rattle.mc_files.specs.Files.{FileText}
 use Rattle.mc_files.specs.Packing.{IsPacked}
 use Rattle.mc_files.specs.PackRun.{WritesPackedBundle, WritesPackedPrefix}
-use Rattle.mc_input.specs.Meaning.{MeansDomainWhere}
 use Rattle.mc_cli.specs.declared.audit_words.AuditWords.{AuditWords}
 use Rattle.mc_run.specs.AuditPieces.{yes_of}
-use Rattle.mc_run.specs.AuditRun.{AreFoundInWhole, AuditSaysYes, FilesKeepHeadline, HasCounts}
-use Rattle.mc_run.specs.AuditRun.{IsAuditText, LeftOutValue, MeansAudited, SaysOfEach, SaysWhichAreRight}
+use Rattle.mc_run.specs.AuditedFiles.{LeftOutValue, MeansAuditedWhere}
+use Rattle.mc_run.specs.AuditRun.{HasCounts, IsAuditText}
+use Rattle.mc_run.specs.AuditClaims.{SaysOfEach, SaysWhichAreRight}
+use Rattle.mc_run.specs.AuditExclusions.{AreFoundInWhole}
+use Rattle.mc_run.specs.AuditYes.{AuditSaysYes, FilesKeepHeadline}
 use Rattle.mc_run.specs.CheckRun.{BundleKeepsHeadline, IsVerdictText, SaysYes}
 use Rattle.mc_run.specs.Faults.{IsFaultOfAudit, IsFaultOfCheck, IsFaultOfMake, IsFaultOfPack}
 use Rattle.mc_run.specs.Faults.{IsFaultOfReplay, IsFaultOfWants}
@@ -24,8 +26,7 @@ use Rattle.mc_run.specs.MakeRun.{IsMadeText, SaysAllRight}
 use Rattle.mc_run.specs.PackingRun.{IsPackRunAnswer, IsDeviceOrMemoryFault}
 use Rattle.mc_run.specs.ReplayRun.{IsReplayRefused, IsTravelText}
 use Rattle.mc_run.specs.RunOutput.{Answers, IsWrittenWhole, WritesPart}
-use Rattle.mc_run.specs.WantsRun.{answer_line, AnswersWants}
-use Rattle.mc_run.specs.WantsRun.{WritesPartOfLine}
+use Rattle.mc_run.specs.WantsRun.{answer_line, AnswersWants, WritesPartOfLine}
 use Rattle.mc_cli.specs.declared.audit_options.AuditOptions.{AuditOptions}
 use Rattle.mc_run.specs.declared.audit.audit_output.AuditAnswer.{AuditAnswer}
 use Rattle.mc_run.specs.declared.fault.RunFault.{RunFault}
@@ -132,7 +133,7 @@ pub record IsAuditResult (options : AuditOptions) (left : LeftOutValue) (content
   pub right : IsWrittenWhole (SaysWhichAreRight options left) contents (yes_of audited) old new
   -- The counts are those of the audited flows and wants.
   pub counts : IfOk audited (λ answer. IfSome contents
-      (MeansDomainWhere (MeansAudited options left) (λ audited. HasCounts audited options answer.counts)))
+      (MeansAuditedWhere options left (λ audited. HasCounts audited options answer.counts)))
   -- The text says yes to each flow, or gives what is found of it, and what it says is true;
   pub each : IsWrittenWhole (SaysOfEach options left) contents (yes_of audited) old new
   -- a part of such a text was written where the output failed.

@@ -1,7 +1,7 @@
 -- The text of `check` (docs/FORMATS.md, the section "The program"): a line for each flow, and the verdict on
 -- all flows.
-use Rattle.std.specs.Prelude.{◌≡◌, ℕ, Bool, true, false, List, [], ◌∷◌, ◌++◌, codes, length}
-use Rattle.std.specs.Prelude.{decimal, slice_get, Some}
+use Rattle.std.specs.Prelude.{◌≡◌, ℕ, Bool, true, false, List, [], ◌∷◌, ◌++◌, codes, length, decimal}
+use Rattle.std.specs.Prelude.{slice_get, Some}
 use Rattle.std.specs.List.{list_all}
 use Rattle.mc_text.specs.Addr.{dotted}
 use Rattle.mc_topology.specs.declared.flow.Flow.{Flow}

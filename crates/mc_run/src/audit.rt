@@ -2,25 +2,30 @@
 //! other flow what a packet of it meets, and why.
 
 mod audit_asked;
+mod audit_begin;
 mod audit_end;
+mod audit_explanation;
 mod audit_flow;
 pub(crate) mod audit_output;
 mod audit_right;
+mod audit_right_object;
+mod audit_shown_by;
 mod audit_wrong;
+mod audit_wrong_text;
 mod audited_domain;
 mod flow_status;
 pub(crate) mod left_out;
 mod reasons;
 
-ghost use Rattle.std.specs.Prelude.{◌≡◌, ◌≢◌, ◌<◌, ◌==◌, ◌&&◌, IfErr, IfOk, IfSome, Err, false};
-ghost use Rattle.std.specs.Prelude.{length};
+ghost use Rattle.std.specs.Prelude.{◌≡◌, ◌≢◌, ◌<◌, ◌==◌, ◌&&◌, IfErr, IfOk, IfSome, Err, false, length};
 ghost use Rattle.std.specs.String.{string_bytes};
 ghost use Rattle.mc_run.specs.AuditPieces.{AreAllFlowsPushed, HasItsMarksAndInterfaces, audited_value};
 ghost use Rattle.mc_run.specs.AuditPieces.{audited_without, yes_of};
-ghost use Rattle.mc_run.specs.AuditRun.{AreFoundInWhole, AuditSaysYes, HasCounts, FilesKeepHeadline};
-ghost use Rattle.mc_run.specs.AuditRun.{IsAudited, IsAuditText, left_out};
-ghost use Rattle.mc_run.specs.AuditRun.{MeansAudited, SaysOfEach, SaysWhichAreRight};
-ghost use Rattle.mc_input.specs.Meaning.{MeansDomainWhere};
+ghost use Rattle.mc_run.specs.AuditedFiles.{MeansAuditedWhere, left_out};
+ghost use Rattle.mc_run.specs.AuditRun.{HasCounts, IsAuditText, IsAudited};
+ghost use Rattle.mc_run.specs.AuditClaims.{SaysOfEach, SaysWhichAreRight};
+ghost use Rattle.mc_run.specs.AuditExclusions.{AreFoundInWhole};
+ghost use Rattle.mc_run.specs.AuditYes.{AuditSaysYes, FilesKeepHeadline};
 ghost use Rattle.mc_text.specs.Device.{failures_after};
 ghost use Rattle.mc_run.specs.Failures.{is_read, is_write};
 ghost use Rattle.mc_run.specs.Faults.{IsFaultOfAudit};
@@ -28,7 +33,8 @@ ghost use Rattle.mc_run.specs.InputMeaning.{AreRefusedWithout};
 ghost use Rattle.mc_run.specs.RunOutput.{Answers, IsWrittenWhole, WritesPart};
 
 use crate::audit::audit_asked::count_asked;
-use crate::audit::audit_end::{begin_lines, push_end};
+use crate::audit::audit_begin::begin_lines;
+use crate::audit::audit_end::push_end;
 use crate::audit::audit_flow::push_flow;
 pub use crate::audit::audit_output::{AuditAnswer, AuditCounts};
 use crate::audit::audit_output::{AuditOutput, with_counts};
@@ -43,7 +49,7 @@ use mc_cli::AuditOptions;
 use mc_explain::InterfacesOfLans;
 use mc_files::PieceSource;
 use mc_input::{FolderDomain, FolderOptions, read_folder_domain};
-use mc_text::{Memory as NoMemory, Output};
+use mc_text::{Memory, Output};
 use std::alloc::Global;
 
 /// Appends the lines of each flow of a domain, in order, and counts the flows by their status.
@@ -51,7 +57,7 @@ fn push_flows(
     alloc: Global,
     audited: &AuditedDomain<'_>,
     text: &mut String,
-) -> Result<FlowCounts, NoMemory>
+) -> Result<FlowCounts, Memory>
     requires valid { HasItsMarksAndInterfaces audited.now }
     ensures appended { IfOk result (λ flow_counts. AreAllFlowsPushed audited.now flow_counts
         (string_bytes text.old) (string_bytes text.new)) }
@@ -75,7 +81,7 @@ fn is_yes(audited: &AuditedDomain<'_>, flow_counts: FlowCounts) -> bool
 
 /// The text of a domain's audit: its flows, the unlisted sources and groups of the caches, and the
 /// verdict, which is no where routers are excluded.
-fn audit_all(alloc: Global, audited: &AuditedDomain<'_>) -> Result<AuditOutput, NoMemory>
+fn audit_all(alloc: Global, audited: &AuditedDomain<'_>) -> Result<AuditOutput, Memory>
     requires valid { HasItsMarksAndInterfaces audited.now }
     ensures text { IfOk result (λ audit. IsAudited (audited_value audited.now) audited.now.options
         audit.run_output.yes (string_bytes audit.run_output.text)) }
@@ -103,7 +109,7 @@ fn audit_domain(
     read: &FolderDomain,
     options: AuditOptions,
     left: &LeftOut<'_>,
-) -> Result<AuditOutput, NoMemory>
+) -> Result<AuditOutput, Memory>
     ensures text { IfOk result (λ audit.
         IsAudited (audited_without (left_out left.now) read.now) options
         audit.run_output.yes (string_bytes audit.run_output.text)) }
@@ -138,7 +144,7 @@ fn audit_files<F: PieceSource>(
         IsAuditText options (left_out left.now) files audit.run_output.yes
         (string_bytes audit.run_output.text))) }
     ensures counts { IfOk result (λ audit. IfSome (F.contents files.old)
-        (MeansDomainWhere (MeansAudited options (left_out left.now))
+        (MeansAuditedWhere options (left_out left.now)
         (λ audited. HasCounts audited options audit.counts))) }
     ensures refused { IfErr result (λ fault. IfSome (F.contents files.old) (λ files.
         AreRefusedWithout (left_out left.now).routers files fault)) }
@@ -214,7 +220,7 @@ pub fn run_audit<F: PieceSource, W: Output>(
     // The answer has the number of flows without a finding that are wanted by no LAN, and that of the wants
     // of LANs that no flow answers.
     ensures counts { IfOk result (λ answer. IfSome (F.contents files.old)
-        (MeansDomainWhere (MeansAudited options (left_out left.now))
+        (MeansAuditedWhere options (left_out left.now)
         (λ audited. HasCounts audited options answer.counts))) }
     // After a `Write` fault, a proper part of a right text was written, from its front.
     ensures part { result ≡ Err RunFault.Write → IfSome (F.contents files.old) (λ contents.

@@ -2,10 +2,10 @@
 
 ghost use Rattle.std.specs.Prelude.{◌≡◌, ◌<◌, IfOk, length, map};
 ghost use Rattle.mc_topology.specs.Topology.{router_name};
-ghost use Rattle.mc_run.specs.AuditEnd.{is_among, excluded_marks};
+ghost use Rattle.mc_run.specs.AuditBegin.{is_among, excluded_marks};
 
 use mc_input::is_excluded;
-use mc_text::Memory as NoMemory;
+use mc_text::Memory;
 use mc_topology::{RouterNo, Topology};
 use std::alloc::Global;
 
@@ -22,7 +22,7 @@ pub(crate) fn excluded_marks(
     alloc: Global,
     topology: &Topology,
     without: &[&str],
-) -> Result<Vec<bool>, NoMemory>
+) -> Result<Vec<bool>, Memory>
     ensures { IfOk result (λ marks.
         marks.items ≡ excluded_marks topology.now (map (λ name. name.now) without.now)) }
 {

@@ -4,8 +4,7 @@ ghost use Rattle.std.specs.Prelude.{◌≡◌};
 ghost use Rattle.mc_run.specs.declared.fault.RunFault.TheVariants.{Memory};
 ghost use Rattle.mc_run.specs.PackingRun.{from_pack_fault};
 ghost use Rattle.mc_run.specs.RunFault.{from_cert_fault, from_source_fault, from_input_fault};
-ghost use Rattle.mc_run.specs.RunFault.{from_list_fault, from_read_fault};
-ghost use Rattle.mc_run.specs.RunFault.{from_exclusion_fault};
+ghost use Rattle.mc_run.specs.RunFault.{from_list_fault, from_read_fault, from_exclusion_fault};
 
 use mc_cert::{CertFault, CertFaultKind};
 use mc_files::PackFault;

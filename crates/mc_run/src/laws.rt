@@ -1,14 +1,16 @@
 //! Laws on the texts of the runs, which follow from their definitions alone.
 
-ghost use Rattle.std.specs.Prelude.{◌≡◌, ◌≤◌, ◌++◌, ℕ, Bool, true, List, [], Ok, Option, Some};
-ghost use Rattle.std.specs.Prelude.{codes, is_some, length, slice_get};
+ghost use Rattle.std.specs.Prelude.{◌≡◌, ◌≤◌, ◌++◌, ℕ, Bool, true, List, [], Ok, Option, Some, codes};
+ghost use Rattle.std.specs.Prelude.{is_some, length, slice_get};
 ghost use Rattle.mc_text.specs.Lines.{max_text};
 ghost use Rattle.mc_theory.specs.Certificates.{IsAccepted};
 ghost use Rattle.mc_files.specs.Files.{FileText};
 ghost use Rattle.mc_forward.specs.Domains.{DomainValue, net_of};
 ghost use Rattle.mc_cert.specs.Certificate.{Tree};
 ghost use Rattle.mc_cert.specs.Reading.{parse_certificate};
-ghost use Rattle.mc_run.specs.AuditRun.{IsAuditText, IsYesLineLast, LeftOutValue, yes_words};
+ghost use Rattle.mc_run.specs.AuditedFiles.{LeftOutValue};
+ghost use Rattle.mc_run.specs.AuditRun.{IsAuditText};
+ghost use Rattle.mc_run.specs.AuditYes.{IsYesLineLast, yes_words};
 ghost use Rattle.mc_cli.specs.declared.audit_options.AuditOptions.{AuditOptions};
 ghost use Rattle.mc_input.specs.Meaning.{MeansDomain, FilesMeanDomain};
 ghost use Rattle.mc_run.specs.InputMeaning.{MeansCertified};

@@ -1,14 +1,13 @@
 //! Writes the lines of what hosts ask for and no flow answers.
 
-ghost use Rattle.std.specs.Prelude.{◌≡◌, ◌<◌, ◌++◌, IfOk, OnOk, flat_map, length, not};
+ghost use Rattle.std.specs.Prelude.{◌≡◌, ◌<◌, ◌++◌, IfOk, OnOk, length, not, slice_get};
 ghost use Rattle.std.specs.String.{string_bytes};
 ghost use Rattle.mc_explain.specs.AskedText.{listed_sources};
 ghost use Rattle.mc_forward.specs.ListedTables.{flow_pairs};
 ghost use Rattle.mc_run.specs.AuditAsked.{asked_end, asked_lines, line_written, numbered_asked_line};
 ghost use Rattle.mc_run.specs.AuditAsked.{state_at, states_of_line};
 ghost use Rattle.mc_run.specs.AuditPieces.{audited_value};
-ghost use Rattle.mc_run.specs.AuditRun.{is_whole};
-ghost use Rattle.std.specs.Prelude.{slice_get};
+ghost use Rattle.mc_run.specs.AuditedFiles.{is_whole};
 
 use crate::audit::audited_domain::AuditedDomain;
 use mc_asked::RouterState;
@@ -16,7 +15,7 @@ use mc_explain::{AskedLine, RoutersByState, push_asked, push_asked_more, push_as
 use mc_forward::Items;
 use mc_input::UnansweredWants;
 use mc_json::{push_asked_line, push_asked_more_line, push_asked_services_line};
-use mc_text::{Addr, Memory as NoMemory};
+use mc_text::{Addr, Memory};
 use mc_topology::Topology;
 use std::alloc::Global;
 
@@ -25,12 +24,12 @@ use std::alloc::Global;
 /// # Errors
 ///
 /// `Memory` for more than `u64::MAX`, which no memory holds.
-pub(crate) fn count_asked(asked: &UnansweredWants) -> Result<u64, NoMemory>
+pub(crate) fn count_asked(asked: &UnansweredWants) -> Result<u64, Memory>
     ensures { IfOk result (λ count. count ≡ asked.now.count) }
 {
     match u64::try_from(asked.count()) {
         Ok(count) => Ok(count),
-        Err(_) => Err(NoMemory),
+        Err(_) => Err(Memory),
     }
 }
 
@@ -53,7 +52,7 @@ fn states_of_line(
     topology: &Topology,
     states: &[Items<RouterState>],
     number: usize,
-) -> Result<Vec<RouterState>, NoMemory>
+) -> Result<Vec<RouterState>, Memory>
     ensures { IfOk result (λ own. own.items ≡ states_of_line topology.now states.now number) }
 {
     let mut own = Vec::new(alloc);
@@ -64,7 +63,7 @@ fn states_of_line(
 }
 
 /// The sources of the flows that are listed for a group, in the topology's order.
-fn listed_sources(alloc: Global, topology: &Topology, group: Addr) -> Result<Vec<Addr>, NoMemory>
+fn listed_sources(alloc: Global, topology: &Topology, group: Addr) -> Result<Vec<Addr>, Memory>
     ensures { IfOk result (λ sources.
         sources.items ≡ listed_sources (flow_pairs topology.now.flows) group) }
 {
@@ -85,7 +84,7 @@ fn push_line(
     topology: &Topology,
     line: &AskedLine<'_>,
     json: bool,
-) -> Result<(), NoMemory>
+) -> Result<(), Memory>
     ensures { OnOk result (string_bytes text.new ≡ string_bytes text.old
         ++ line_written json topology.now line.now) }
 {
@@ -103,11 +102,11 @@ fn push_numbered_line(
     audited: &AuditedDomain<'_>,
     json: bool,
     number: usize,
-) -> Result<(), NoMemory>
-    requires within { number < length (audited_value audited.now).asked.lines }
+) -> Result<(), Memory>
+    requires within { number < length audited.now.asked.now.lines }
     ensures { OnOk result (string_bytes text.new ≡ string_bytes text.old
-        ++ numbered_asked_line json (audited_value audited.now).domain.topology
-        (not (is_whole (audited_value audited.now))) (audited_value audited.now).asked number) }
+        ++ numbered_asked_line json audited.now.domain.now.topology
+        (not (is_whole (audited_value audited.now))) audited.now.asked.now number) }
 {
     let topology = audited.domain.topology();
     let shared = &audited.asked.lines()[number];
@@ -130,9 +129,9 @@ fn push_asked_end(
     text: &mut String,
     audited: &AuditedDomain<'_>,
     json: bool,
-) -> Result<(), NoMemory>
+) -> Result<(), Memory>
     ensures { OnOk result (string_bytes text.new ≡ string_bytes text.old
-        ++ asked_end json (audited_value audited.now).domain.topology (audited_value audited.now).asked) }
+        ++ asked_end json audited.now.domain.now.topology audited.now.asked.now) }
 {
     let (further, services) = (audited.asked.further(), audited.asked.services());
     if json {
@@ -150,10 +149,10 @@ pub(crate) fn push_asked_lines(
     text: &mut String,
     audited: &AuditedDomain<'_>,
     json: bool,
-) -> Result<(), NoMemory>
+) -> Result<(), Memory>
     ensures { OnOk result (string_bytes text.new ≡ string_bytes text.old
-        ++ asked_lines json (audited_value audited.now).domain.topology
-        (not (is_whole (audited_value audited.now))) (audited_value audited.now).asked) }
+        ++ asked_lines json audited.now.domain.now.topology
+        (not (is_whole (audited_value audited.now))) audited.now.asked.now) }
 {
     for number in 0..audited.asked.lines().len() {
         push_numbered_line(alloc, text, audited, json, number)?;

@@ -1,4 +1,4 @@
-//! Writes the lines of a flow that is right.
+//! Writes the lines of a flow that is right, as text or in JSON.
 
 ghost use Rattle.std.specs.Prelude.{◌≡◌, ◌<◌, ◌++◌, All, IfOk, OnOk, length};
 ghost use Rattle.std.specs.Result.{IsOkAnd};
@@ -6,30 +6,22 @@ ghost use Rattle.std.specs.String.{string_bytes};
 ghost use Rattle.mc_theory.specs.Certificates.{IsAccepted};
 ghost use Rattle.mc_theory.specs.Headline.{HeadlineHolds};
 ghost use Rattle.mc_forward.specs.Domains.{net_of};
-ghost use Rattle.mc_forward.specs.FlightsInDomain.{net_in};
-ghost use Rattle.mc_forward.specs.ListedTables.{facts};
-ghost use Rattle.mc_cert.specs.Distinct.{tree_number_of, with_tree};
 ghost use Rattle.mc_check.specs.declared.verdict.Verdict.TheVariants.{Yes as is_yes};
-ghost use Rattle.mc_json.specs.TreeKey.{tree_key};
-ghost use Rattle.mc_run.specs.AuditObjects.{tree_line};
-ghost use Rattle.mc_run.specs.AuditPieces.{audited_value, key_of_shown_tree, lans_wanting_flow};
-ghost use Rattle.mc_run.specs.AuditPieces.{right_flow_lines_of, right_lines_of, right_objects_of};
+ghost use Rattle.mc_run.specs.AuditPieces.{lans_wanting_flow, right_flow_lines_of, right_lines_of};
 ghost use Rattle.mc_run.specs.AuditPieces.{shown_trees_with_right, status_of_right_flow};
 ghost use Rattle.mc_run.specs.AuditText.{right_line};
 
+use crate::audit::audit_right_object::push_right_objects;
 use crate::audit::audited_domain::AuditedDomain;
-use crate::audit::flow_status::FlowStatus;
+use crate::audit::flow_status::{FlowStatus, MAX_FLOWS};
 use crate::shown::verdict_text::{FlowWords, push_flow_verdict};
 use mc_cert::{DistinctTrees, Reached};
 use mc_check::{Verdict, check_flow};
 use mc_explain::{lans_wanting, push_wanted};
 use mc_forward::FlowView;
-use mc_json::{RightFlow, push_right_line, push_tree_line, tree_key};
-use mc_text::Memory as NoMemory;
+use mc_text::Memory;
 use mc_topology::{Flow, LanNo, Topology};
 use std::alloc::Global;
-
-// ---- as text
 
 /// Writes the checker's yes with the number of copies; without the whole domain, that no fault is known.
 fn push_certified_line(
@@ -38,7 +30,7 @@ fn push_certified_line(
     flow: &Flow,
     copies: u32,
     whole: bool,
-) -> Result<(), NoMemory>
+) -> Result<(), Memory>
     ensures { OnOk result (string_bytes text.new ≡
         string_bytes text.old ++ right_line whole topology.now flow.now copies) }
 {
@@ -46,7 +38,7 @@ fn push_certified_line(
         return push_flow_verdict(text, topology, flow, Verdict::Yes { copies });
     }
     let words = FlowWords { flow };
-    writeln!(text, "{words} no fault known copies {copies}").map_err(|_| NoMemory)
+    writeln!(text, "{words} no fault known copies {copies}").map_err(|_| Memory)
 }
 
 /// Writes the line of a flow that is right, and the LANs that want it.
@@ -56,8 +48,8 @@ fn push_right_lines(
     flow: u32,
     copies: u32,
     wanted: &[LanNo],
-) -> Result<(), NoMemory>
-    requires known { flow < length (audited_value audited.now).domain.topology.flows }
+) -> Result<(), Memory>
+    requires known { flow < length audited.now.domain.now.topology.flows }
     ensures lines { OnOk result (string_bytes text.new ≡ string_bytes text.old
         ++ right_lines_of audited.now flow copies wanted.now) }
 {
@@ -69,73 +61,13 @@ fn push_right_lines(
     push_wanted(text, topology, wanted)
 }
 
-// ---- in JSON
-
-/// Writes the tree of a flow unless it was printed before, and returns the tree's number.
-fn push_tree_once(
-    alloc: Global,
-    text: &mut String,
-    view: &FlowView<'_>,
-    shown_trees: &mut DistinctTrees,
-    entries: &[Reached],
-) -> Result<u32, NoMemory>
-    requires room { length shown_trees.old < 4096 }
-    ensures shown_trees { OnOk result
-        (shown_trees.new ≡ with_tree shown_trees.old (tree_key (net_in view.now) entries.now)) }
-    ensures number { IfOk result (λ number.
-        number ≡ tree_number_of shown_trees.new (tree_key (net_in view.now) entries.now)) }
-    ensures line { OnOk result (string_bytes text.new ≡ string_bytes text.old
-        ++ tree_line (facts view.now.domain) shown_trees.old view.now.flow entries.now) }
-{
-    let printed = shown_trees.trees().len();
-    let number = shown_trees.number_of(tree_key(alloc, view, entries)?)?;
-    if shown_trees.trees().len() > printed {
-        push_tree_line(alloc, text, view, entries, printed as u32)?;
-    }
-    Ok(number)
-}
-
-/// Writes the tree of a flow, unless it was printed before, and the flow with its number of copies and
-/// the LANs that want it.
-fn push_right_objects(
-    alloc: Global,
-    text: &mut String,
-    audited: &AuditedDomain<'_>,
-    flow: u32,
-    entries: &[Reached],
-    wanted: &[LanNo],
-    shown_trees: &mut DistinctTrees,
-) -> Result<(), NoMemory>
-    requires flow { flow < length (audited_value audited.now).domain.topology.flows }
-    requires room { length shown_trees.old < 4096 }
-    ensures shown_trees { OnOk result
-        (shown_trees.new ≡ with_tree shown_trees.old (key_of_shown_tree audited.now flow entries.now)) }
-    ensures lines { OnOk result (string_bytes text.new ≡ string_bytes text.old
-        ++ right_objects_of audited.now shown_trees.old flow entries.now wanted.now) }
-{
-    let topology = audited.domain.topology();
-    let view = FlowView::new(audited.domain, flow);
-    let whole = audited.without.is_empty();
-    let copies = entries.len();
-    let tree = push_tree_once(alloc, text, &view, shown_trees, entries)?;
-    let right = RightFlow {
-        flow,
-        copies,
-        tree,
-        wanted,
-    };
-    push_right_line(alloc, text, topology, whole, &right)
-}
-
-// ---- both
-
 /// The LANs that want a flow.
 fn lans_wanting_flow(
     alloc: Global,
     audited: &AuditedDomain<'_>,
     flow: u32,
-) -> Result<Vec<LanNo>, NoMemory>
-    requires known { flow < length (audited_value audited.now).domain.topology.flows }
+) -> Result<Vec<LanNo>, Memory>
+    requires known { flow < length audited.now.domain.now.topology.flows }
     ensures lans { IfOk result (λ lans. lans.items ≡ lans_wanting_flow audited.now flow) }
 {
     let view = FlowView::new(audited.domain, flow);
@@ -153,10 +85,10 @@ fn push_right(
     copies: u32,
     shown_trees: &mut DistinctTrees,
     text: &mut String,
-) -> Result<FlowStatus, NoMemory>
-    requires flow { flow < length (audited_value audited.now).domain.topology.flows }
+) -> Result<FlowStatus, Memory>
+    requires flow { flow < length audited.now.domain.now.topology.flows }
     requires copies { copies ≡ length entries.now }
-    requires room { length shown_trees.old < 4096 }
+    requires room { length shown_trees.old < MAX_FLOWS }
     ensures flow_status { IfOk result (λ flow_status.
         flow_status ≡ status_of_right_flow audited.now flow) }
     ensures shown_trees { OnOk result
@@ -184,12 +116,12 @@ fn push_with_verdict(
     audited: &AuditedDomain<'_>,
     flow: u32,
     entries: &[Reached],
-    answer: Result<Verdict, NoMemory>,
+    answer: Result<Verdict, Memory>,
     shown_trees: &mut DistinctTrees,
     text: &mut String,
-) -> Result<FlowStatus, NoMemory>
-    requires flow { flow < length (audited_value audited.now).domain.topology.flows }
-    requires room { length shown_trees.old < 4096 }
+) -> Result<FlowStatus, Memory>
+    requires flow { flow < length audited.now.domain.now.topology.flows }
+    requires room { length shown_trees.old < MAX_FLOWS }
     requires accepted { IfOk answer (λ verdict. verdict ≡ is_yes (length entries.now)) }
     ensures answered { OnOk result (IsOkAnd answer (λ verdict. verdict ≡ is_yes (length entries.now))) }
     ensures flow_status { IfOk result (λ flow_status.
@@ -204,7 +136,7 @@ fn push_with_verdict(
             push_right(alloc, audited, flow, entries, copies, shown_trees, text)
         }
         Ok(Verdict::No(_)) => Ok(FlowStatus::of_wrong(true)),
-        Err(_) => Err(NoMemory),
+        Err(_) => Err(Memory),
     }
 }
 
@@ -216,14 +148,13 @@ pub(crate) fn push_checked(
     entries: &[Reached],
     shown_trees: &mut DistinctTrees,
     text: &mut String,
-) -> Result<FlowStatus, NoMemory>
-    requires flow { flow < length (audited_value audited.now).domain.topology.flows }
-    requires room { length shown_trees.old < 4096 }
-    requires lans { All (λ entry. entry.lan < length (audited_value audited.now).domain.topology.lans)
-        entries.now }
-    requires accepted { IsAccepted (net_of (audited_value audited.now).domain flow) entries.now }
+) -> Result<FlowStatus, Memory>
+    requires flow { flow < length audited.now.domain.now.topology.flows }
+    requires room { length shown_trees.old < MAX_FLOWS }
+    requires lans { All (λ entry. entry.lan < length audited.now.domain.now.topology.lans) entries.now }
+    requires accepted { IsAccepted (net_of audited.now.domain.now flow) entries.now }
     ensures headline { OnOk result
-        (HeadlineHolds (net_of (audited_value audited.now).domain flow) (length entries.now)) }
+        (HeadlineHolds (net_of audited.now.domain.now flow) (length entries.now)) }
     ensures flow_status { IfOk result (λ flow_status.
         flow_status ≡ status_of_right_flow audited.now flow) }
     ensures shown_trees { OnOk result

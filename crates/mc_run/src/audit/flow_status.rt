@@ -1,10 +1,13 @@
 //! The status of a flow, and counts of flows by status.
 
 ghost use Rattle.std.specs.Prelude.{◌≡◌, ◌<◌, ◌==◌};
-ghost use Rattle.mc_run.specs.AuditEnd.{one_if_true, with_status};
+ghost use Rattle.mc_run.specs.FlowCounts.{one_if_true, with_status};
 ghost use Rattle.mc_run.specs.AuditFlowText.{status_of_right, status_of_wrong};
 
 use mc_topology::LanNo;
+
+/// The greatest number of flows of a topology.
+pub(crate) const MAX_FLOWS: u32 = 4096;
 
 /// The status of a flow.
 #[derive(Clone, Copy)]
@@ -76,10 +79,10 @@ impl FlowCounts {
 
     /// These counts, with one more flow of this status.
     pub(crate) fn with(self, flow_status: FlowStatus) -> FlowCounts
-        requires right { self.right < 4096 }
-        requires wrong { self.wrong < 4096 }
-        requires unknown { self.unknown < 4096 }
-        requires unwanted { self.unwanted < 4096 }
+        requires right { self.right < MAX_FLOWS }
+        requires wrong { self.wrong < MAX_FLOWS }
+        requires unknown { self.unknown < MAX_FLOWS }
+        requires unwanted { self.unwanted < MAX_FLOWS }
         ensures value { result ≡ with_status self flow_status }
     {
         let FlowCounts {

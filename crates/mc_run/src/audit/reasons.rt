@@ -4,16 +4,16 @@ ghost use Rattle.std.specs.Prelude.{◌≡◌, ◌<◌, IfOk, length};
 ghost use Rattle.mc_maker.specs.ExaminedFlights.{IsFinishedTravelOf};
 ghost use Rattle.mc_maker.specs.declared.examined_flights.ExaminedFlights.TheVariants.{FoundAtTtl255};
 ghost use Rattle.mc_run.specs.AuditPieces.{HasItsMarksAndInterfaces, audited_value, search_context_of};
-ghost use Rattle.mc_run.specs.AuditExplanation.{IsBehindIfStray, IsFoundBelow, IsSearchIfMissed, IsShownBy};
-ghost use Rattle.mc_run.specs.AuditExplanation.{IsShownFromAt255};
-ghost use Rattle.mc_run.specs.AuditExplanation.{certain_finding, is_known_wrong as says_known_wrong};
-ghost use Rattle.mc_run.specs.AuditRun.{is_whole};
+ghost use Rattle.mc_run.specs.AuditExplanation.{IsBehindIfStray, IsFoundBelow, IsSearchIfMissed};
+ghost use Rattle.mc_run.specs.AuditExplanation.{IsShownBy, IsShownFromAt255, certain_finding};
+ghost use Rattle.mc_run.specs.AuditExplanation.{is_known_wrong as says_known_wrong};
+ghost use Rattle.mc_run.specs.AuditedFiles.{is_whole};
 
 use crate::audit::audited_domain::AuditedDomain;
 use mc_explain::{Behind, Cause, LanSearch, ShownBy, behind_stray, search, shown_from};
 use mc_forward::{FlowView, Stray};
 use mc_replay::{Finding, FinishedTravel, First, replay};
-use mc_text::Memory as NoMemory;
+use mc_text::Memory;
 use std::alloc::Global;
 
 /// Why a flow has the finding of a packet, and which packets show it.
@@ -47,10 +47,10 @@ pub(crate) fn search_if_missed(
     audited: &AuditedDomain<'_>,
     flow: u32,
     ended: &FinishedTravel<'_>,
-) -> Result<Option<LanSearch>, NoMemory>
-    requires flow { flow < length (audited_value audited.now).domain.topology.flows }
+) -> Result<Option<LanSearch>, Memory>
+    requires flow { flow < length audited.now.domain.now.topology.flows }
     requires ready { HasItsMarksAndInterfaces audited.now }
-    requires ended { IsFinishedTravelOf (audited_value audited.now).domain flow 255 ended.now }
+    requires ended { IsFinishedTravelOf audited.now.domain.now flow 255 ended.now }
     ensures search { IfOk result (IsSearchIfMissed (search_context_of audited.now flow ended.now)
         ended.now.travel.events.items ended.now.travel.finding) }
 {
@@ -76,10 +76,10 @@ fn shown_from_if_less(
     audited: &AuditedDomain<'_>,
     flow: u32,
     ended: &FinishedTravel<'_>,
-) -> Result<Option<u8>, NoMemory>
-    requires flow { flow < length (audited_value audited.now).domain.topology.flows }
-    requires ended { IsFinishedTravelOf (audited_value audited.now).domain flow 255 ended.now }
-    ensures shown { IfOk result (λ shown_from. IsShownFromAt255 (audited_value audited.now).domain flow
+) -> Result<Option<u8>, Memory>
+    requires flow { flow < length audited.now.domain.now.topology.flows }
+    requires ended { IsFinishedTravelOf audited.now.domain.now flow 255 ended.now }
+    ensures shown { IfOk result (λ shown_from. IsShownFromAt255 audited.now.domain.now flow
         (FoundAtTtl255 ended.now) shown_from) }
 {
     let view = FlowView::new(audited.domain, flow);
@@ -108,10 +108,10 @@ fn found_below(
     audited: &AuditedDomain<'_>,
     flow: u32,
     shown_from: Option<u8>,
-) -> Result<Option<Finding>, NoMemory>
-    requires flow { flow < length (audited_value audited.now).domain.topology.flows }
+) -> Result<Option<Finding>, Memory>
+    requires flow { flow < length audited.now.domain.now.topology.flows }
     ensures found { IfOk result (IsFoundBelow (is_whole (audited_value audited.now))
-        (audited_value audited.now).domain flow shown_from) }
+        audited.now.domain.now flow shown_from) }
 {
     let ttl = audited.domain.topology().flow(flow).ttl;
     let Some(from) = shown_from else {
@@ -130,11 +130,11 @@ pub(crate) fn shown_by(
     audited: &AuditedDomain<'_>,
     flow: u32,
     ended: &FinishedTravel<'_>,
-) -> Result<ShownBy, NoMemory>
-    requires flow { flow < length (audited_value audited.now).domain.topology.flows }
-    requires ended { IsFinishedTravelOf (audited_value audited.now).domain flow 255 ended.now }
+) -> Result<ShownBy, Memory>
+    requires flow { flow < length audited.now.domain.now.topology.flows }
+    requires ended { IsFinishedTravelOf audited.now.domain.now flow 255 ended.now }
     ensures shown { IfOk result (IsShownBy (is_whole (audited_value audited.now))
-        (audited_value audited.now).domain flow (FoundAtTtl255 ended.now)) }
+        audited.now.domain.now flow (FoundAtTtl255 ended.now)) }
 {
     let from = shown_from_if_less(alloc, audited, flow, ended)?;
     let at_flow_ttl = found_below(alloc, audited, flow, from)?;
@@ -147,10 +147,10 @@ pub(crate) fn behind_if_stray(
     audited: &AuditedDomain<'_>,
     flow: u32,
     finding: Finding,
-) -> Result<Option<Behind>, NoMemory>
-    requires flow { flow < length (audited_value audited.now).domain.topology.flows }
+) -> Result<Option<Behind>, Memory>
+    requires flow { flow < length audited.now.domain.now.topology.flows }
     ensures behind { IfOk result (IsBehindIfStray (is_whole (audited_value audited.now))
-        (audited_value audited.now).domain flow finding) }
+        audited.now.domain.now flow finding) }
 {
     match finding {
         Finding::Stray(router, vif) => {

@@ -25,7 +25,7 @@ use mc_cert::Certificate;
 use mc_check::check_all;
 use mc_forward::Domain;
 use mc_input::{BundleDomain, read_bundle_domain};
-use mc_text::{Input, Memory as NoMemory, Output};
+use mc_text::{Input, Memory, Output};
 use std::alloc::Global;
 
 /// A domain, and a certificate of its topology.
@@ -64,7 +64,7 @@ fn with_certificate(alloc: Global, read: BundleDomain) -> Result<DomainWithCerti
 }
 
 /// The text of the verdicts on a domain's flows, by its certificate, and whether all verdicts are yes.
-fn verdicts_of_domain(alloc: Global, read: &DomainWithCertificate) -> Result<RunOutput, NoMemory>
+fn verdicts_of_domain(alloc: Global, read: &DomainWithCertificate) -> Result<RunOutput, Memory>
     requires valid { BelongsTo read.now.domain.topology read.now.certificate }
     ensures text { IfOk result (λ run_output. IsTextOfVerdicts read.now.domain read.now.certificate
         run_output.yes (string_bytes run_output.text)) }

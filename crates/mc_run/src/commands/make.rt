@@ -20,7 +20,7 @@ use crate::shown::found_text::push_found_lines;
 use mc_cert::Trees;
 use mc_forward::Domain;
 use mc_maker::{Examined, examine};
-use mc_text::{Input, Memory as NoMemory, Output};
+use mc_text::{Input, Memory, Output};
 use mc_topology::Topology;
 use std::alloc::Global;
 
@@ -32,7 +32,7 @@ struct MadeLists {
 }
 
 /// Examines each flow of a domain, in order.
-fn examine_all(alloc: Global, domain: &Domain) -> Result<MadeLists, NoMemory>
+fn examine_all(alloc: Global, domain: &Domain) -> Result<MadeLists, Memory>
     ensures { IfOk result (λ made. AreMadeListsAndLines domain.now made.lists (string_bytes made.lines)) }
 {
     let topology = domain.topology();
@@ -56,18 +56,18 @@ fn examine_all(alloc: Global, domain: &Domain) -> Result<MadeLists, NoMemory>
 }
 
 /// The text of the certificate with these lists, one for each flow of the topology, and a line feed.
-fn certificate_json(alloc: Global, topology: &Topology, lists: Trees) -> Result<String, NoMemory>
+fn certificate_json(alloc: Global, topology: &Topology, lists: Trees) -> Result<String, Memory>
     requires valid { BelongsTo topology.now lists }
     ensures ok { IfOk result (λ text. string_bytes text ≡
         text_of_certificate topology.now lists ++ codes "\n") }
 {
     let mut text = lists.to_json(alloc, topology)?;
-    text.push_str("\n").map_err(|_| NoMemory)?;
+    text.push_str("\n").map_err(|_| Memory)?;
     Ok(text)
 }
 
 /// The text for a domain, and whether it is a certificate.
-fn make_for_domain(alloc: Global, domain: &Domain) -> Result<RunOutput, NoMemory>
+fn make_for_domain(alloc: Global, domain: &Domain) -> Result<RunOutput, Memory>
     ensures { IfOk result (λ run_output. IsMakeOutput domain.now run_output.yes
         (string_bytes run_output.text)) }
 {

@@ -1,7 +1,6 @@
 //! `mcaudit wants`: whether the LAN whose reports are read wants what a source sends to a group.
 
-ghost use Rattle.std.specs.Prelude.{◌≡◌, ◌≢◌, ◌⊎◌, ◌+◌, ◌<◌, IfOk, IfErr, IfSome, OnOk, Err};
-ghost use Rattle.std.specs.Prelude.{length, min};
+ghost use Rattle.std.specs.Prelude.{◌≡◌, ◌≢◌, ◌⊎◌, ◌+◌, ◌<◌, IfOk, IfErr, IfSome, OnOk, Err, length, min};
 ghost use Rattle.std.specs.Io.KnownBytes.{Appends, IsAtEnd};
 ghost use Rattle.mc_text.specs.Lines.{max_text};
 ghost use Rattle.mc_text.specs.ReadFault.{ConsumesUpTo};
@@ -14,7 +13,7 @@ ghost use Rattle.mc_run.specs.WantsSoFar.{ReadsPiece, ReadsPieces};
 use crate::fault::RunFault;
 use mc_filter::is_wanted;
 use mc_igmp::ListReader;
-use mc_text::{Addr, Input, Memory as NoMemory, Output, write_all};
+use mc_text::{Addr, Input, Memory, Output, write_all};
 use std::alloc::Global;
 
 /// The number of bytes that are read from the input at once.
@@ -27,7 +26,7 @@ fn wanted_in_piece(
     piece: &[u8],
     group: Addr,
     source: Addr,
-) -> Result<bool, NoMemory>
+) -> Result<bool, Memory>
     ensures pieces_read { IfOk result (λ wanted.
         ReadsPiece reader.old reader.new piece.now group source wanted) }
     ensures size { OnOk result

@@ -1,81 +1,16 @@
 //! Prints the fault of a file's contents, with its place in the file.
 
 ghost use Rattle.std.specs.Prelude.{◌≡◌, Some};
-ghost use Rattle.mc_run.specs.FaultText.{fault_text, line_or_none, line_of_fault, list_fault_text};
-ghost use Rattle.mc_run.specs.FaultText.{list_word as word_of_list, table_fault_text};
-ghost use Rattle.mc_run.specs.FaultText.{table_word as word_of_table, topology_fault_text};
-ghost use Rattle.mc_run.specs.FaultText.{topology_word as word_of_topology};
+ghost use Rattle.mc_run.specs.FaultText.{fault_text, line_of_fault, line_or_none, list_fault_text};
+ghost use Rattle.mc_run.specs.FaultText.{table_fault_text, topology_fault_text};
 
-use mc_igmp::{ListFault, ListFaultKind};
+use crate::refusals::fault_words::{list_word, table_word, topology_word};
+use mc_igmp::ListFault;
 use mc_input::InputFault;
-use mc_tables::{TableFault, TableFaultKind};
+use mc_tables::TableFault;
 use mc_text::MAX_PART;
-use mc_topology::{TopologyFault, TopologyFaultKind};
+use mc_topology::TopologyFault;
 use std::fmt;
-
-/// The word for a fault of a kernel's table.
-fn table_word(kind: TableFaultKind) -> &'static str
-    ensures { result.now ≡ word_of_table kind }
-{
-    match kind {
-        TableFaultKind::NoHeader => "NoHeader",
-        TableFaultKind::Unended => "Unended",
-        TableFaultKind::WordCount => "WordCount",
-        TableFaultKind::BadIndex => "BadIndex",
-        TableFaultKind::BadDevice => "BadDevice",
-        TableFaultKind::BadCounter => "BadCounter",
-        TableFaultKind::BadFlags => "BadFlags",
-        TableFaultKind::BadAddress => "BadAddress",
-        TableFaultKind::RepeatedIndex => "RepeatedIndex",
-        TableFaultKind::RepeatedDevice => "RepeatedDevice",
-        TableFaultKind::BadIif => "BadIif",
-        TableFaultKind::BadOif => "BadOif",
-        TableFaultKind::BadThreshold => "BadThreshold",
-        TableFaultKind::RepeatedOif => "RepeatedOif",
-        TableFaultKind::RepeatedEntry => "RepeatedEntry",
-        TableFaultKind::TooLarge => "TooLarge",
-        TableFaultKind::Memory => "Memory",
-    }
-}
-
-/// The word for a fault of a report list.
-fn list_word(kind: ListFaultKind) -> &'static str
-    ensures { result.now ≡ word_of_list kind }
-{
-    match kind {
-        ListFaultKind::BadHex => "BadHex",
-        ListFaultKind::Short => "Short",
-        ListFaultKind::BadChecksum => "BadChecksum",
-        ListFaultKind::Truncated => "Truncated",
-        ListFaultKind::StateChange => "StateChange",
-        ListFaultKind::TooLarge => "TooLarge",
-        ListFaultKind::Unended => "Unended",
-        ListFaultKind::Memory => "Memory",
-    }
-}
-
-/// The word for a fault of a topology.
-fn topology_word(kind: TopologyFaultKind) -> &'static str
-    ensures { result.now ≡ word_of_topology kind }
-{
-    match kind {
-        TopologyFaultKind::NotToml => "NotToml",
-        TopologyFaultKind::BadVersion => "BadVersion",
-        TopologyFaultKind::MissingKey => "MissingKey",
-        TopologyFaultKind::UnknownKey => "UnknownKey",
-        TopologyFaultKind::BadKind => "BadKind",
-        TopologyFaultKind::BadName => "BadName",
-        TopologyFaultKind::RepeatedName => "RepeatedName",
-        TopologyFaultKind::UnknownName => "UnknownName",
-        TopologyFaultKind::RepeatedInterface => "RepeatedInterface",
-        TopologyFaultKind::BadAddress => "BadAddress",
-        TopologyFaultKind::BadTtl => "BadTtl",
-        TopologyFaultKind::NoFlow => "NoFlow",
-        TopologyFaultKind::RepeatedFlow => "RepeatedFlow",
-        TopologyFaultKind::TooMany => "TooMany",
-        TopologyFaultKind::Memory => "Memory",
-    }
-}
 
 /// A table's first fault, as `line 3: BadIif`.
 #[derive(Clone, Copy, Drop)]
@@ -144,7 +79,10 @@ impl<'f> fmt::Display for ShownFault<'f> {
                 ShownTableFault { fault: *fault }.fmt(f)
             }
             InputFault::Reports(_, fault) => ShownListFault { fault: *fault }.fmt(f),
-            _ => write!(f, "larger than {MAX_PART} bytes"),
+            // Of the other faults, a file alone has only that it is larger than a part of a bundle may be.
+            InputFault::Bundle(_) | InputFault::Parts(_) | InputFault::Memory => {
+                write!(f, "larger than {MAX_PART} bytes")
+            }
         }
     }
 }
@@ -163,6 +101,9 @@ pub(crate) fn line_of_fault(fault: &InputFault) -> Option<u32>
     match fault {
         InputFault::Vif(_, fault) | InputFault::Cache(_, fault) => line_or_none(fault.line),
         InputFault::Reports(_, fault) => line_or_none(fault.line),
-        _ => None,
+        InputFault::Topology(_)
+        | InputFault::Bundle(_)
+        | InputFault::Parts(_)
+        | InputFault::Memory => None,
     }
 }

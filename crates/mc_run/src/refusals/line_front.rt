@@ -9,7 +9,7 @@ ghost use Rattle.mc_run.specs.LineFront.{TakesPiece, front_after_more, line_fron
 ghost use Rattle.mc_run.specs.RefusalText.{IsFrontInFile, lost_calls};
 
 use mc_files::{FileFault, PieceSource};
-use mc_text::{MAX_PART, Memory as NoMemory};
+use mc_text::{MAX_PART, Memory};
 use std::alloc::Global;
 
 /// The most bytes of a line that are printed.
@@ -37,7 +37,7 @@ impl LineFront {
     }
 
     /// Takes the next byte of the line itself, and returns whether the front is complete.
-    fn take_shown(&mut self, byte: u8) -> Result<bool, NoMemory>
+    fn take_shown(&mut self, byte: u8) -> Result<bool, Memory>
         requires here { self.old.before ≡ 0 }
         requires bounded { vec_len self.old.front ≤ MAX_SHOWN }
         ensures bounded { vec_len self.new.front ≤ MAX_SHOWN }
@@ -54,7 +54,7 @@ impl LineFront {
     }
 
     /// Takes the next byte of the text, and returns whether the front is complete.
-    fn take_byte(&mut self, byte: u8) -> Result<bool, NoMemory>
+    fn take_byte(&mut self, byte: u8) -> Result<bool, Memory>
         requires bounded { vec_len self.old.front ≤ MAX_SHOWN }
         ensures bounded { vec_len self.new.front ≤ MAX_SHOWN }
         ensures takes { IfOk result (TakesPiece self.old self.new (byte ∷ [])) }
@@ -69,7 +69,7 @@ impl LineFront {
     }
 
     /// Takes the next piece of the text, and returns whether the front is complete.
-    fn take(&mut self, piece: &[u8]) -> Result<bool, NoMemory>
+    fn take(&mut self, piece: &[u8]) -> Result<bool, Memory>
         requires bounded { vec_len self.old.front ≤ MAX_SHOWN }
         ensures bounded { vec_len self.new.front ≤ MAX_SHOWN }
         ensures takes { IfOk result (TakesPiece self.old self.new piece.now) }
@@ -118,7 +118,7 @@ fn seek_front<F: PieceSource>(
                 match sought.take(&buffer[..count]) {
                     Ok(false) => {}
                     Ok(true) => return Ok(()),
-                    Err(NoMemory) => return Err(FileFault::Memory),
+                    Err(Memory) => return Err(FileFault::Memory),
                 }
             }
             Err(fault) => return Err(fault),
@@ -133,7 +133,7 @@ fn front_in_open_file<F: PieceSource>(
     files: &mut F,
     buffer: &mut [u8],
     line: u32,
-) -> Result<Option<Vec<u8>>, NoMemory>
+) -> Result<Option<Vec<u8>>, Memory>
     requires reads { F.failed files.old < u64.MAX }
     requires room { 0 < length buffer.old }
     ensures same { F.borrows files.new ≡ F.borrows files.old }
@@ -149,7 +149,7 @@ fn front_in_open_file<F: PieceSource>(
     files.close();
     match found {
         Ok(()) => Ok(Some(sought.into_front())),
-        Err(FileFault::Memory) => Err(NoMemory),
+        Err(FileFault::Memory) => Err(Memory),
         Err(_) => Ok(None),
     }
 }
@@ -166,7 +166,7 @@ pub(crate) fn front_of_line<F: PieceSource>(
     buffer: &mut [u8],
     name: &str,
     line: u32,
-) -> Result<Option<Vec<u8>>, NoMemory>
+) -> Result<Option<Vec<u8>>, Memory>
     requires room { 0 < length buffer.old }
     ensures same { F.borrows files.new ≡ F.borrows files.old }
     ensures kept { F.contents files.new ≡ F.contents files.old }
@@ -180,7 +180,7 @@ pub(crate) fn front_of_line<F: PieceSource>(
     }
     match files.open(alloc, name) {
         Ok(()) => front_in_open_file(alloc, files, buffer, line),
-        Err(FileFault::Memory) => Err(NoMemory),
+        Err(FileFault::Memory) => Err(Memory),
         Err(_) => Ok(None),
     }
 }

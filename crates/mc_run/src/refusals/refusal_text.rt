@@ -1,16 +1,16 @@
 //! Prints all refused files of a folder, with the fault of each and the front of the line that has it.
 
-ghost use Rattle.std.specs.Prelude.{◌≡◌, ◌≢◌, ◌<◌, ◌++◌, ℕ, List, [], IfErr, IfOk, IfSome, OnOk};
-ghost use Rattle.std.specs.Prelude.{codes, length, map, option_map, unwrap_or};
+ghost use Rattle.std.specs.Prelude.{◌≡◌, ◌≢◌, ◌<◌, ◌++◌, ℕ, List, [], IfErr, IfOk, IfSome, OnOk, codes};
+ghost use Rattle.std.specs.Prelude.{length, map, option_map, unwrap_or};
 ghost use Rattle.std.specs.String.{string_bytes};
 ghost use Rattle.mc_text.specs.Device.{failures_after};
 ghost use Rattle.mc_files.specs.FilePart.{unread_text};
 ghost use Rattle.mc_input.specs.declared.refused_file.Refusal.TheVariants.{Fault};
 ghost use Rattle.mc_run.specs.Failures.{is_write};
 ghost use Rattle.mc_run.specs.RefusalText.{AppendsWithFailures, AreFirst50Lines, AreRefusedFileLines};
-ghost use Rattle.mc_run.specs.RefusalText.{IsFrontText, IsReasonOfFile, IsRefusalReason, IsRefusedFileLine};
-ghost use Rattle.mc_run.specs.RefusalText.{IsRefusalText, IsTextWritten};
-ghost use Rattle.mc_run.specs.RefusalText.{more_line, quoted};
+ghost use Rattle.mc_run.specs.RefusalText.{IsFrontText, IsReasonOfFile, IsRefusalReason};
+ghost use Rattle.mc_run.specs.RefusalText.{IsRefusedFileLine, IsRefusalText, IsTextWritten, more_line};
+ghost use Rattle.mc_run.specs.RefusalText.{quoted};
 
 use crate::fault::RunFault;
 use crate::refusals::fault_text::{ShownFault, line_of_fault};
@@ -18,23 +18,23 @@ use crate::refusals::line_front::front_of_line;
 use crate::refusals::quoted::Quoted;
 use mc_files::{PieceSource, Unread};
 use mc_input::{InputFault, PIECE, Refusal, RefusedFile, refused_files};
-use mc_text::{Memory as NoMemory, Output, write_all};
+use mc_text::{Memory, Output, write_all};
 use std::alloc::Global;
 
 /// The most files that are printed.
 const MAX_SHOWN_FILES: usize = 50;
 
 /// Writes the front of a line in quotes; none is written as an empty one.
-fn push_quoted(text: &mut String, front: &Option<Vec<u8>>) -> Result<(), NoMemory>
+fn push_quoted(text: &mut String, front: &Option<Vec<u8>>) -> Result<(), Memory>
     ensures { OnOk result (string_bytes text.new ≡ string_bytes text.old ++ (codes ": \""
         ++ (quoted (unwrap_or (option_map (λ front. front.items) front.now) []) ++ codes "\""))) }
 {
     match front {
         Some(front) => {
             let quoted = Quoted { bytes: front };
-            write!(text, ": \"{quoted}\"").map_err(|_| NoMemory)
+            write!(text, ": \"{quoted}\"").map_err(|_| Memory)
         }
-        None => text.push_str(": \"\"").map_err(|_| NoMemory),
+        None => text.push_str(": \"\"").map_err(|_| Memory),
     }
 }
 
@@ -46,7 +46,7 @@ fn push_line_front<F: PieceSource>(
     name: &str,
     line: Option<u32>,
     text: &mut String,
-) -> Result<(), NoMemory>
+) -> Result<(), Memory>
     requires room { 0 < length buffer.old }
     ensures same { F.borrows files.new ≡ F.borrows files.old }
     ensures kept { F.contents files.new ≡ F.contents files.old }
@@ -68,7 +68,7 @@ fn push_fault<F: PieceSource>(
     name: &str,
     fault: &InputFault,
     text: &mut String,
-) -> Result<(), NoMemory>
+) -> Result<(), Memory>
     requires room { 0 < length buffer.old }
     ensures same { F.borrows files.new ≡ F.borrows files.old }
     ensures kept { F.contents files.new ≡ F.contents files.old }
@@ -82,7 +82,7 @@ fn push_fault<F: PieceSource>(
 }
 
 /// Writes why a file couldn't be read.
-fn push_unread(alloc: Global, text: &mut String, unread: &Unread) -> Result<(), NoMemory>
+fn push_unread(alloc: Global, text: &mut String, unread: &Unread) -> Result<(), Memory>
     ensures { OnOk result ((words : List ℕ)
         × IfSome (unread_text unread.now) (λ known. words ≡ known)
         × (string_bytes text.new ≡ string_bytes text.old ++ words)) }
@@ -99,7 +99,7 @@ fn push_refusal<F: PieceSource>(
     buffer: &mut [u8],
     refused: &RefusedFile,
     text: &mut String,
-) -> Result<(), NoMemory>
+) -> Result<(), Memory>
     requires room { 0 < length buffer.old }
     ensures same { F.borrows files.new ≡ F.borrows files.old }
     ensures kept { F.contents files.new ≡ F.contents files.old }
@@ -120,7 +120,7 @@ fn push_refused_file<F: PieceSource>(
     buffer: &mut [u8],
     refused: &RefusedFile,
     text: &mut String,
-) -> Result<(), NoMemory>
+) -> Result<(), Memory>
     requires room { 0 < length buffer.old }
     ensures same { F.borrows files.new ≡ F.borrows files.old }
     ensures kept { F.contents files.new ≡ F.contents files.old }
@@ -141,7 +141,7 @@ fn push_refused_files<F: PieceSource>(
     buffer: &mut [u8],
     refused: &[RefusedFile],
     text: &mut String,
-) -> Result<(), NoMemory>
+) -> Result<(), Memory>
     requires room { 0 < length buffer.old }
     ensures same { F.borrows files.new ≡ F.borrows files.old }
     ensures kept { F.contents files.new ≡ F.contents files.old }
@@ -155,13 +155,13 @@ fn push_refused_files<F: PieceSource>(
 }
 
 /// Writes how many further files are refused, if there are any.
-fn push_more_files(text: &mut String, more: usize) -> Result<(), NoMemory>
+fn push_more_files(text: &mut String, more: usize) -> Result<(), Memory>
     ensures { OnOk result (string_bytes text.new ≡ string_bytes text.old ++ more_line more) }
 {
     if more == 0 {
         return Ok(());
     }
-    writeln!(text, "  and {more} more").map_err(|_| NoMemory)
+    writeln!(text, "  and {more} more").map_err(|_| Memory)
 }
 
 /// Writes a line for each of the first 50 files, and how many further ones there are.
@@ -170,7 +170,7 @@ fn push_first_files<F: PieceSource>(
     files: &mut F,
     refused: &[RefusedFile],
     text: &mut String,
-) -> Result<(), NoMemory>
+) -> Result<(), Memory>
     ensures same { F.borrows files.new ≡ F.borrows files.old }
     ensures kept { F.contents files.new ≡ F.contents files.old }
     ensures adds { OnOk result (AppendsWithFailures (AreFirst50Lines (F.contents files.old) refused.now)
@@ -194,7 +194,7 @@ pub fn refusal_lines<F: PieceSource>(
     alloc: Global,
     files: &mut F,
     without: &[&str],
-) -> Result<String, NoMemory>
+) -> Result<String, Memory>
     ensures same { F.borrows files.new ≡ F.borrows files.old }
     ensures kept { F.contents files.new ≡ F.contents files.old }
     // The text has a line for each refused file, with its own first fault and the front of the fault's

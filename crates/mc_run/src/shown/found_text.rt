@@ -6,16 +6,16 @@ ghost use Rattle.mc_run.specs.MakeRun.{found_line, found_lines, no_certificate_l
 
 use crate::shown::verdict_text::FlowWords;
 use mc_replay::Finding;
-use mc_text::Memory as NoMemory;
+use mc_text::Memory;
 use mc_topology::{Flow, Topology};
 
 /// Writes the line that says that a flow has no certificate.
-fn push_no_certificate(text: &mut String, flow: &Flow) -> Result<(), NoMemory>
+fn push_no_certificate(text: &mut String, flow: &Flow) -> Result<(), Memory>
     ensures { OnOk result (string_bytes text.new ≡
         string_bytes text.old ++ no_certificate_line flow.now) }
 {
     let words = FlowWords { flow };
-    writeln!(text, "{words} no certificate").map_err(|_| NoMemory)
+    writeln!(text, "{words} no certificate").map_err(|_| Memory)
 }
 
 /// Writes the line with the finding of a packet with this time to live.
@@ -24,12 +24,12 @@ fn push_finding(
     topology: &Topology,
     ttl: u8,
     finding: Finding,
-) -> Result<(), NoMemory>
+) -> Result<(), Memory>
     ensures { OnOk result (string_bytes text.new ≡
         string_bytes text.old ++ found_line topology.now ttl finding) }
 {
     let finding = finding.shown(topology);
-    writeln!(text, "found ttl {ttl} {finding}").map_err(|_| NoMemory)
+    writeln!(text, "found ttl {ttl} {finding}").map_err(|_| Memory)
 }
 
 /// Writes the two lines of a flow without a certificate: that it has none, and the finding of a packet
@@ -40,7 +40,7 @@ pub(crate) fn push_found_lines(
     flow: &Flow,
     ttl: u8,
     finding: Finding,
-) -> Result<(), NoMemory>
+) -> Result<(), Memory>
     ensures { OnOk result (string_bytes text.new ≡
         string_bytes text.old ++ found_lines topology.now flow.now ttl finding) }
 {

@@ -7,7 +7,7 @@ ghost use Rattle.mc_run.specs.ReplayRun.{replay_line, replay_text};
 
 use mc_forward::Event;
 use mc_replay::{Finding, Travel, shown_event};
-use mc_text::Memory as NoMemory;
+use mc_text::Memory;
 use mc_topology::{Flow, Topology};
 use std::alloc::Global;
 
@@ -19,19 +19,19 @@ pub(crate) fn is_clean(finding: Finding) -> bool
 }
 
 /// The first line of a travel's text.
-fn first_line(alloc: Global, flow: &Flow, ttl: u8) -> Result<String, NoMemory>
+fn first_line(alloc: Global, flow: &Flow, ttl: u8) -> Result<String, Memory>
     ensures { IfOk result (λ text. string_bytes text ≡ replay_line flow.now ttl) }
 {
-    format!(in alloc; "replay {} {} ttl {ttl}\n", flow.source, flow.group).map_err(|_| NoMemory)
+    format!(in alloc; "replay {} {} ttl {ttl}\n", flow.source, flow.group).map_err(|_| Memory)
 }
 
 /// Writes the line of an event.
-fn push_event(text: &mut String, topology: &Topology, event: Event) -> Result<(), NoMemory>
+fn push_event(text: &mut String, topology: &Topology, event: Event) -> Result<(), Memory>
     ensures { OnOk result (string_bytes text.new ≡
         string_bytes text.old ++ event_line topology.now event) }
 {
     let event = shown_event(event, topology);
-    writeln!(text, "event {event}").map_err(|_| NoMemory)
+    writeln!(text, "event {event}").map_err(|_| Memory)
 }
 
 /// Writes the lines of events, in order.
@@ -39,7 +39,7 @@ pub(crate) fn push_events(
     text: &mut String,
     topology: &Topology,
     events: &[Event],
-) -> Result<(), NoMemory>
+) -> Result<(), Memory>
     ensures { OnOk result (string_bytes text.new ≡
         string_bytes text.old ++ event_lines topology.now events.now) }
 {
@@ -50,12 +50,12 @@ pub(crate) fn push_events(
 }
 
 /// Writes the line of the finding.
-fn push_finding(text: &mut String, topology: &Topology, finding: Finding) -> Result<(), NoMemory>
+fn push_finding(text: &mut String, topology: &Topology, finding: Finding) -> Result<(), Memory>
     ensures { OnOk result (string_bytes text.new ≡
         string_bytes text.old ++ finding_line topology.now finding) }
 {
     let finding = finding.shown(topology);
-    writeln!(text, "finding {finding}").map_err(|_| NoMemory)
+    writeln!(text, "finding {finding}").map_err(|_| Memory)
 }
 
 /// The text of the travel of a flow's packet with this time to live.
@@ -65,7 +65,7 @@ pub(crate) fn travel_text(
     flow: &Flow,
     ttl: u8,
     travel: &Travel,
-) -> Result<String, NoMemory>
+) -> Result<String, Memory>
     ensures { IfOk result (λ text.
         string_bytes text ≡ replay_text topology.now flow.now ttl travel.now) }
 {

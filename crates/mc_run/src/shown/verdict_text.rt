@@ -2,11 +2,11 @@
 
 ghost use Rattle.std.specs.Prelude.{◌≡◌, ◌++◌, IfOk, OnOk, Some, length};
 ghost use Rattle.std.specs.String.{string_bytes};
-ghost use Rattle.mc_run.specs.VerdictText.{are_yes as all_yes, check_text as text_of_check};
-ghost use Rattle.mc_run.specs.VerdictText.{flow_words, flow_line, last_line};
+ghost use Rattle.mc_run.specs.VerdictText.{are_yes as all_yes, check_text as text_of_check, flow_words};
+ghost use Rattle.mc_run.specs.VerdictText.{flow_line, last_line};
 
 use mc_check::Verdict;
-use mc_text::Memory as NoMemory;
+use mc_text::Memory;
 use mc_topology::{Flow, Topology};
 use std::alloc::Global;
 use std::fmt;
@@ -42,21 +42,21 @@ pub(crate) fn push_flow_verdict(
     topology: &Topology,
     flow: &Flow,
     verdict: Verdict,
-) -> Result<(), NoMemory>
+) -> Result<(), Memory>
     ensures { OnOk result (string_bytes text.new ≡
         string_bytes text.old ++ flow_line topology.now flow.now verdict) }
 {
     let words = FlowWords { flow };
     let verdict = verdict.shown(topology);
-    writeln!(text, "{words} {verdict}").map_err(|_| NoMemory)
+    writeln!(text, "{words} {verdict}").map_err(|_| Memory)
 }
 
 /// Writes the last line, the verdict on all flows.
-pub(crate) fn push_overall_verdict(text: &mut String, yes: bool) -> Result<(), NoMemory>
+pub(crate) fn push_overall_verdict(text: &mut String, yes: bool) -> Result<(), Memory>
     ensures { OnOk result (string_bytes text.new ≡ string_bytes text.old ++ last_line yes) }
 {
     let last = if yes { "verdict yes\n" } else { "verdict no\n" };
-    text.push_str(last).map_err(|_| NoMemory)
+    text.push_str(last).map_err(|_| Memory)
 }
 
 /// A line for each flow of the topology, and the verdict on all flows.
@@ -64,7 +64,7 @@ pub(crate) fn check_text(
     alloc: Global,
     topology: &Topology,
     verdicts: &[Verdict],
-) -> Result<String, NoMemory>
+) -> Result<String, Memory>
     requires lengths { length verdicts.now ≡ length topology.now.flows }
     ensures ok { IfOk result (λ text. string_bytes text ≡ text_of_check topology.now verdicts.now) }
 {

@@ -3,6 +3,7 @@ use Rattle.serde_json.specs.Written.{has_float}
 use Rattle.mc_json.proofs.NoFloatLemmas.{no_float-asked_data}
 use Rattle.mc_json.proofs.asked_lines.push_asked_line.Goals as goal
 
+-- The object holds texts, lists and nulls, and no float, so that the printer's text of it is fixed.
 pub push_line-requires : goal.push_line-requires
 push_line-requires c = record {
   no_float = (

@@ -13,6 +13,7 @@ spelled wants = ap (λ (end : List ℕ). codes "{\"asked_more\":{\"wants\":" ++ 
     (append_assoc (decimal wants ++ codes "}") (codes "}") (codes "\n")
     ∙ append_assoc (decimal wants) (codes "}") (codes "}\n"))
 
+-- There are further wants, since the test for none failed; the line that is written is that of their object.
 pub returns : goal.returns
 returns c =
     let some : (c.args.wants == 0) ≡ false = ne_eqb c.args.wants 0 c.if-wants-eq0.false in

@@ -5,6 +5,8 @@ use Rattle.mc_forward.specs.ListedTables.{facts}
 use Rattle.mc_json.proofs.DomainNoFloatLemmas.{no_float-domain_data}
 use Rattle.mc_json.proofs.domain_line.push_domain_line.Goals as goal
 
+-- The object holds texts, lists, nulls and whole numbers, and no float, so that the printer's text of it is
+-- fixed.
 pub push_line-requires : goal.push_line-requires
 push_line-requires c = record {
   no_float = (

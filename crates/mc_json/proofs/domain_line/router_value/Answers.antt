@@ -4,6 +4,8 @@ use Rattle.mc_text.specs.declared.text.addr.Order.{Order}
 use Rattle.mc_text.specs.declared.text.addr.Order.TheVariants.{Little}
 use Rattle.mc_json.proofs.domain_line.router_value.Goals as goal
 
+-- The two members are added one by one; a listed router has an order of bytes, and the word is that of this
+-- order.
 pub returns : goal.returns
 returns c = record {
   value = (

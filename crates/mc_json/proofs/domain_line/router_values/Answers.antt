@@ -7,10 +7,12 @@ use Rattle.serde_json.specs.View.{view as data_of}
 use Rattle.mc_json.specs.DomainData.{router_with_order}
 use Rattle.mc_json.proofs.domain_line.router_values.Goals as goal
 
+-- No router is below 0, and the list is empty.
 pub loop-number-init : goal.loop-number-init
 unfolding below
 loop-number-init c = ap (map data_of) c.new-values.ensures.items
 
+-- The object of the next router is appended to those of the routers below it.
 pub loop-number-preserved : goal.loop-number-preserved
 loop-number-preserved c =
     let of = router_with_order c.args.topology.now in

@@ -6,6 +6,7 @@ use Rattle.mc_json.specs.DomainData.{source_data}
 use Rattle.mc_json.proofs.LoopStepLemmas.{map-take_more}
 use Rattle.mc_json.proofs.domain_line.source_values.Goals as goal
 
+-- The object of the source at this place is appended to those of the sources before it.
 pub loop-number-preserved : goal.loop-number-preserved
 loop-number-preserved c =
     let t = c.args.topology.now in

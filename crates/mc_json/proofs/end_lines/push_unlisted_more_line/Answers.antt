@@ -13,6 +13,7 @@ spelled rows = ap (λ (end : List ℕ). codes "{\"unlisted_more\":{\"rows\":" ++
     (append_assoc (decimal rows ++ codes "}") (codes "}") (codes "\n")
     ∙ append_assoc (decimal rows) (codes "}") (codes "}\n"))
 
+-- There are further rows, since the test for none failed; the line that is written is that of their object.
 pub returns : goal.returns
 returns c =
     let some : (c.args.rows == 0) ≡ false = ne_eqb c.args.rows 0 c.if-rows-eq0.false in

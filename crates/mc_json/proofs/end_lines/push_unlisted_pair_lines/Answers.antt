@@ -5,6 +5,7 @@ use Rattle.mc_json.specs.EndData.{unlisted_line}
 use Rattle.mc_json.proofs.LoopStepLemmas.{flat_map-take_more}
 use Rattle.mc_json.proofs.end_lines.push_unlisted_pair_lines.Goals as goal
 
+-- The line of the pair at this place is appended to those of the pairs before it.
 pub loop-pair-preserved : goal.loop-pair-preserved
 loop-pair-preserved c =
     let shown = c.args.shown.now in

@@ -1,4 +1,5 @@
--- Line by line.
+-- Each line is the compact text of an object and a line feed, and has no other line feed: strings escape
+-- theirs, and the texts of numbers, names and words have none.
 use Rattle.mc_json.proofs.EachLineLemmas.{are_object_lines-domain, are_object_lines-right}
 use Rattle.mc_json.proofs.EachLineLemmas.{are_object_lines-summary, are_object_lines-tree}
 use Rattle.mc_json.proofs.EachLineLemmas.{are_object_lines-all_unlisted, are_object_lines-without}

@@ -1,4 +1,4 @@
--- They are computed.
+-- The object of a verdict has no part that varies, so that printing it computes to the letters.
 use Rattle.std.proofs.Common.{refl}
 use Rattle.json.specs.Print.{escape_byte}
 use Rattle.mc_json.proofs.laws.the_verdict_is_a_line.Goals as goal

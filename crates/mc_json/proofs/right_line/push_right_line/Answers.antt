@@ -4,6 +4,7 @@ use Rattle.serde_json.specs.Written.{has_float}
 use Rattle.mc_json.proofs.NoFloatLemmas.{HaveNoFloat, no_float-lans, no_float-right_data}
 use Rattle.mc_json.proofs.right_line.push_right_line.Goals as goal
 
+-- The object holds texts, a list of names, a boolean or null, and whole numbers; none is a float.
 pub push_line-requires : goal.push_line-requires
 push_line-requires c = record {
   no_float = (

@@ -21,6 +21,7 @@ wrong_line-of_view d summary found x view value old new same is puts =
     puts ∙ ap (λ (y : Data). old ++ line_of y) is
     ∙ ap (λ (v : FlowOfDomain). old ++ line_of (found_flow_data (facts v.domain) summary found x)) same
 
+-- Whatever was found and explains it is shown by texts, whole numbers, booleans and nulls, and by no float.
 pub push_line-requires : goal.push_line-requires
 push_line-requires c = record {
   no_float = ap has_float c.in_ok-value.ensures.value ∙ no_float-found_flow_data
@@ -28,6 +29,7 @@ push_line-requires c = record {
       (explanation_value c.args.explanation.now);
 }
 
+-- The line of this view is that of the domain's flow.
 pub returns : goal.returns
 returns c = record {
   line = wrong_line-of_view c.args.domain.now c.args.summary.now (found_travel_value c.args.found.now)

@@ -1,6 +1,7 @@
 use Rattle.std.proofs.Common.{refl}
 use Rattle.mc_json.proofs.wrong_line.wrong_value.Goals as goal
 
+-- No events are asked for, and the object has the members of a finding without them.
 pub returns-in_ok-object-in-None : goal.returns-in_ok-object-in-None
 returns-in_ok-object-in-None c = record {
   value = rw c.in-None.is
@@ -17,6 +18,7 @@ returns-in_ok-object-in-None c = record {
       c.finding_value.ensures)));
 }
 
+-- The events are added as one more member.
 pub returns-in_ok-object-in-Some : goal.returns-in_ok-object-in-Some
 returns-in_ok-object-in-Some c = record {
   value = rw c.in-Some.is

@@ -3,12 +3,15 @@ use Rattle.std.specs.Prelude.{IfSome}
 use Rattle.mc_input.specs.AskedOfFiles.{IsAskedOf}
 use Rattle.mc_input.specs.ExcludedRouters.{files_with_exclusions}
 use Rattle.std.specs.String.{string_bytes}
-use Rattle.mc_run.specs.AuditRun.{HasCounts, IsAudited, left_out}
+use Rattle.mc_run.specs.AuditedFiles.{left_out}
+use Rattle.mc_run.specs.AuditRun.{HasCounts, IsAudited}
 use Rattle.mc_run.proofs.AuditTextLemmas.{of_domain-means_audited}
 use Rattle.std.proofs.lemmas.Result.{err_from_is_err_and}
 use Rattle.mc_run.proofs.FaultLemmas.{is_fault_of_audit-exclusion_fault}
 use Rattle.mc_run.proofs.audit.audit_files.Goals as goal
 
+-- The domain, the summaries and the wants were read from the files without what is left out, and the ignored
+-- ranges are a copy of the caller's. So the files mean what was audited.
 pub returns-in-Ok-audit-clause-text : goal.returns-in-Ok-audit-clause-text
 returns-in-Ok-audit-clause-text g c =
     let o = c.args.options in
@@ -24,6 +27,7 @@ returns-in-Ok-audit-clause-text g c =
     IsAskedOf o.unlisted groups (files_with_exclusions left.routers files) read.domain read.asked))
     c.in-Ok.ensures.items c.in_ok-read.ensures.asked) c.in-Ok-audit.ensures.text
 
+-- The counts are of the same audited value.
 pub returns-in-Ok-audit-clause-counts : goal.returns-in-Ok-audit-clause-counts
 returns-in-Ok-audit-clause-counts g c =
     let o = c.args.options in
@@ -38,6 +42,7 @@ returns-in-Ok-audit-clause-counts g c =
     IsAskedOf o.unlisted groups (files_with_exclusions left.routers files) read.domain read.asked))
     c.in-Ok.ensures.items c.in_ok-read.ensures.asked) c.in-Ok-audit.ensures.counts
 
+-- The fault of reading becomes the run's, and an audit may return each of these.
 pub returns-in_err-read-clause-faults : goal.returns-in_err-read-clause-faults
 returns-in_err-read-clause-faults g c =
     let p = err_from_is_err_and c.from_residual.result c.from_residual.ensures.1 in

@@ -1,4 +1,4 @@
-use Rattle.mc_run.specs.AuditRun.{left_out}
+use Rattle.mc_run.specs.AuditedFiles.{left_out}
 use Rattle.mc_run.specs.Faults.{IsFaultOfAudit}
 use Rattle.mc_run.proofs.AuditOutputLemmas.{IsRunOf, has_counts-run, is_run-of_steps}
 use Rattle.mc_run.proofs.FaultLemmas.{fault-of_audit_answer}

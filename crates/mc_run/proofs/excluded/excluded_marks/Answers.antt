@@ -3,13 +3,15 @@ use Rattle.std.proofs.lemmas.List.{map-append}
 use Rattle.mc_topology.specs.Topology.{router_name}
 use Rattle.mc_theory.specs.Lists.{below}
 use Rattle.mc_forward.proofs.BelowLemmas.{below-more}
-use Rattle.mc_run.specs.AuditEnd.{is_among}
+use Rattle.mc_run.specs.AuditBegin.{is_among}
 use Rattle.mc_run.proofs.excluded.excluded_marks.Goals as goal
 
+-- No router is below 0, and no mark was made.
 pub loop-number-init : goal.loop-number-init
 unfolding below
 loop-number-init c = c.new-marks.ensures.items
 
+-- The mark of the next router is appended to those below it.
 pub loop-number-preserved : goal.loop-number-preserved
 loop-number-preserved c =
     let n = c.loop-number.number in

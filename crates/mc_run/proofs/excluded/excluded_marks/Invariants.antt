@@ -1,7 +1,7 @@
 use Rattle.std.proofs.Common.{◌≡◌, map}
 use Rattle.mc_topology.specs.Topology.{router_name}
 use Rattle.mc_theory.specs.Lists.{below}
-use Rattle.mc_run.specs.AuditEnd.{is_among}
+use Rattle.mc_run.specs.AuditBegin.{is_among}
 use Rattle.mc_run.proofs.excluded.excluded_marks.Given as goal
 
 -- the marks so far

@@ -4,7 +4,7 @@ use Rattle.std.specs.String.{string_bytes}
 use Rattle.mc_theory.specs.Lists.{below}
 use Rattle.mc_run.specs.AuditAsked.{numbered_asked_line}
 use Rattle.mc_run.specs.AuditPieces.{audited_value}
-use Rattle.mc_run.specs.AuditRun.{is_whole}
+use Rattle.mc_run.specs.AuditedFiles.{is_whole}
 use Rattle.mc_run.proofs.audit.audit_asked.push_asked_lines.Given as goal
 
 -- the lines so far

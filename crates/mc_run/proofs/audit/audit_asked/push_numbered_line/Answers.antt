@@ -8,11 +8,12 @@ use Rattle.mc_forward.proofs.IndexLemmas.{slice_get-from_read}
 use Rattle.mc_forward.specs.ListedTables.{flow_pairs}
 use Rattle.mc_run.specs.AuditAsked.{states_of_line}
 use Rattle.mc_run.specs.AuditPieces.{audited_value}
-use Rattle.mc_run.specs.AuditRun.{is_whole}
+use Rattle.mc_run.specs.AuditedFiles.{is_whole}
 use Rattle.mc_run.proofs.AuditAskedLemmas.{appended-same, few-states_of_line, line-by_number}
 use Rattle.mc_run.proofs.ShownTrees.{is_whole-no_names}
 use Rattle.mc_run.proofs.audit.audit_asked.push_numbered_line.Goals as goal
 
+-- A line has at most as many states as the topology has routers.
 pub of-requires : goal.of-requires
 of-requires c = record {
   few = few-states_of_line c.topology-topology.result.now c.args.audited.now.domain.now.topology
@@ -21,6 +22,8 @@ of-requires c = record {
       c.in_ok-states.ensures;
 }
 
+-- What is written is the line at this number: its want and LANs as the list has them, the sources that the
+-- flows list for its group, and the routers by their states.
 pub returns : goal.returns
 returns c =
     let v = audited_value c.args.audited.now in

@@ -6,10 +6,12 @@ use Rattle.mc_forward.proofs.BelowLemmas.{map_below-more}
 use Rattle.mc_run.specs.AuditAsked.{state_at}
 use Rattle.mc_run.proofs.audit.audit_asked.states_of_line.Goals as goal
 
+-- No router is below 0, and the list is empty.
 pub loop-router-init : goal.loop-router-init
 unfolding below
 loop-router-init c = c.new-own.ensures.items
 
+-- The state of the next router is appended to those of the routers below it.
 pub loop-router-preserved : goal.loop-router-preserved
 loop-router-preserved c =
     let state = λ (r : ℕ). state_at c.args.number (slice_get c.args.states.now r) in

@@ -1,9 +1,11 @@
 use Rattle.std.proofs.Common.{◌∙◌}
 use Rattle.mc_run.specs.AuditPieces.{audited_value}
-use Rattle.mc_run.specs.AuditRun.{is_whole}
+use Rattle.mc_run.specs.AuditedFiles.{is_whole}
 use Rattle.mc_run.proofs.AuditEndLemmas.{end_objects-parts}
 use Rattle.mc_run.proofs.audit.audit_end.push_end_objects.Goals as goal
 
+-- The parts are appended in the order of the definition; the topology is the domain's, and the count of wants
+-- is that of the caller.
 pub returns : goal.returns
 returns c =
     end_objects-parts c.args.audited.now.options c.topology-topology.result.now

@@ -4,6 +4,7 @@ use Rattle.std.specs.String.{string_bytes}
 use Rattle.mc_run.specs.AuditEnd.{summary_of_flows}
 use Rattle.mc_run.proofs.audit.audit_end.push_summary.Goals as goal
 
+-- The line is written in two parts, which are one text.
 pub returns : goal.returns
 returns c =
     let counts = c.args.flow_counts in

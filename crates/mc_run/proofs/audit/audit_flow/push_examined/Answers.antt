@@ -1,7 +1,9 @@
 use Rattle.mc_run.specs.AuditPieces.{audited_value}
-use Rattle.mc_run.proofs.AuditFlows.{is_flow_pushed-right, is_flow_pushed-any_shown_trees}
+use Rattle.mc_run.proofs.FlowPushedLemmas.{is_flow_pushed-right, is_flow_pushed-any_shown_trees}
 use Rattle.mc_run.proofs.audit.audit_flow.push_examined.Goals as goal
 
+-- The entries were checked to be accepted, and their lines are those of a right flow; the tree is printed at
+-- most once.
 pub returns-in-Certified : goal.returns-in-Certified
 returns-in-Certified c = record {
   ok = (
@@ -13,6 +15,7 @@ returns-in-Certified c = record {
       c.push_checked.ensures.lines);
 }
 
+-- A finding prints no tree, so that what holds for any printed trees holds for these.
 pub returns-in-FoundAtTtl255 : goal.returns-in-FoundAtTtl255
 returns-in-FoundAtTtl255 c = record {
   ok = (
@@ -21,6 +24,7 @@ returns-in-FoundAtTtl255 c = record {
       c.args.shown_trees.now c.push_found_at_255.ensures.ok);
 }
 
+-- So it is for a finding at the flow's own TTL.
 pub returns-in-FoundAtFlowTtl : goal.returns-in-FoundAtFlowTtl
 returns-in-FoundAtFlowTtl c = record {
   ok = (

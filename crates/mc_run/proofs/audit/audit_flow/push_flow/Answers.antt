@@ -1,7 +1,9 @@
-use Rattle.mc_run.proofs.AuditFlows.{is_first_pick_travel-of_examined}
-use Rattle.mc_run.proofs.MakeLemmas.{is_examined-of_examination}
+use Rattle.mc_run.proofs.FlowPushedLemmas.{is_first_pick_travel-of_examined}
+use Rattle.mc_run.proofs.MadeSoFarLemmas.{is_examined-of_examination}
 use Rattle.mc_run.proofs.audit.audit_flow.push_flow.Goals as goal
 
+-- The examination promises each fact of its result apart. Together they are `IsExamined`, where the travel is
+-- the one whose flights were kept.
 pub push_examined-requires-clause-examined : goal.push_examined-requires-clause-examined
 push_examined-requires-clause-examined c =
     let examined = c.in_ok-flights.ensures in

@@ -7,10 +7,12 @@ use Rattle.mc_forward.specs.Domains.{ttl_of}
 use Rattle.mc_replay.specs.declared.finding.Finding.{Finding}
 use Rattle.mc_run.specs.AuditExplanation.{IsFoundBelow}
 use Rattle.mc_run.specs.AuditPieces.{audited_value}
-use Rattle.mc_run.specs.AuditRun.{is_whole}
+use Rattle.mc_run.specs.AuditedFiles.{is_whole}
 use Rattle.mc_run.proofs.ExplanationLemmas.{is_found_below-less}
 use Rattle.mc_run.proofs.audit.reasons.found_below.Goals as goal
 
+-- The flow's own TTL is less than the one from which on packets show the finding, since the test for the other
+-- case failed. So the finding of a packet with it is printed, as far as it is certain.
 pub returns : goal.returns
 returns c = record {
   found = (

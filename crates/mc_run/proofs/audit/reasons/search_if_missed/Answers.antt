@@ -3,6 +3,7 @@ use Rattle.mc_forward.specs.Domains.{DomainValue}
 use Rattle.mc_run.proofs.ExplanationLemmas.{missed_lan-of_domain}
 use Rattle.mc_run.proofs.audit.reasons.search_if_missed.Goals as goal
 
+-- A LAN that a finished travel misses wants the packet, and only LANs of the domain do.
 pub search-requires-clause-missed : goal.search-requires-clause-missed
 search-requires-clause-missed c =
     let lan = c.in-Missed.lan in

@@ -7,6 +7,7 @@ use Rattle.mc_run.proofs.YesLines.{headline_of_bundle-check_yes}
 use Rattle.mc_run.specs.Faults.{IsFaultOfCheck}
 use Rattle.mc_run.proofs.commands.check.run_check.Goals as goal
 
+-- Writing keeps what holds.
 pub returns-clause-answer : goal.returns-clause-answer
 returns-clause-answer g c =
     answers-output_written (g.R.Input.remaining c.args.input.now) IsVerdictText (IsRefusedFor true)

@@ -12,7 +12,7 @@ use Rattle.mc_run.specs.declared.fault.RunFault.TheVariants.{Memory}
 use Rattle.std.specs.String.{string_bytes}
 use Rattle.mc_run.specs.CheckRun.{IsTextOfVerdicts, KeepsHeadline}
 use Rattle.mc_run.proofs.FaultLemmas.{is_fault_of_check-make, is_fault_of_make-source_fault}
-use Rattle.mc_run.proofs.RunLemmas.{of_domain-meant}
+use Rattle.mc_run.proofs.RunInputLemmas.{of_domain-meant}
 use Rattle.mc_run.proofs.commands.check.verdicts_of_input.Goals as goal
 
 -- what holds of the domain and the lists that were read holds of those that the bundle means
@@ -29,6 +29,8 @@ of_certified-meant Holds contents read certified means follows =
     {P = λ text. MeansDomain text (certificate_text read.certificate) read.domain}
     {Q = λ text. MeansWithLists text both} means follows)
 
+-- The bundle means the domain that was read, with the lists that its certificate denotes, and the text is that
+-- of their verdicts.
 pub returns-in-Ok-clause-text : goal.returns-in-Ok-clause-text
 returns-in-Ok-clause-text g c =
     let written = string_bytes c.in-Ok.run_output.text in
@@ -36,12 +38,14 @@ returns-in-Ok-clause-text g c =
     (g.R.Input.remaining c.args.input.now) c.in_ok-read.read c.in_ok-certified.certified
     c.in_ok-read.ensures.means c.in_ok-certified.ensures.means c.in-Ok.ensures.text
 
+-- The headline holds of the same domain and lists.
 pub returns-in-Ok-clause-headline : goal.returns-in-Ok-clause-headline
 returns-in-Ok-clause-headline g c = λ all.
     of_certified-meant (λ r. KeepsHeadline r.domain r.lists)
     (g.R.Input.remaining c.args.input.now) c.in_ok-read.read c.in_ok-certified.certified
     c.in_ok-read.ensures.means c.in_ok-certified.ensures.means (c.in-Ok.ensures.headline all)
 
+-- The bundle means a domain, but its certificate is refused, which is then the bundle's first fault.
 pub returns-in_err-certified-clause-refused : goal.returns-in_err-certified-clause-refused
 returns-in_err-certified-clause-refused g c =
     let read = c.in_ok-read.read in
@@ -52,6 +56,7 @@ returns-in_err-certified-clause-refused g c =
     {Q = λ text. IsRefusedFor true text c.in_err-certified.field-0.0}
     c.in_ok-read.ensures.means c.in_err-certified.ensures.refused)
 
+-- Want of memory may end a run of any input.
 pub returns-in-Err-clause-refused : goal.returns-in-Err-clause-refused
 returns-in-Err-clause-refused g c = by (g.R.Input.remaining c.args.input.now)
   where
@@ -59,12 +64,14 @@ returns-in-Err-clause-refused g c = by (g.R.Input.remaining c.args.input.now)
     by None = tt
     by (Some text) = tt
 
+-- The fault of reading becomes the run's; `check` may return whatever `make` may.
 pub returns-in_err-read-clause-faults : goal.returns-in_err-read-clause-faults
 returns-in_err-read-clause-faults g c =
     let p = err_from_is_err_and c.from_residual.result c.from_residual.ensures.1 in
     rw (p.1, p.2) (is_fault_of_check-make (from_source_fault c.in_err-read.field-0.0)
     (is_fault_of_make-source_fault c.in_err-read.field-0.0))
 
+-- A refused certificate is one of the faults of `check`.
 pub returns-in_err-certified-clause-faults : goal.returns-in_err-certified-clause-faults
 returns-in_err-certified-clause-faults g c =
     let p = err_from_is_err_and c.from_residual-in_err-certified.result

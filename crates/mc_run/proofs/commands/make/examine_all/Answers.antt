@@ -1,17 +1,19 @@
 use Rattle.std.proofs.Common.{◌≡◌, ◌++◌, ap, ◌∙◌, subst, arith, length, slice_get, Some}
 use Rattle.std.specs.String.{string_bytes}
 use Rattle.mc_run.specs.MakeRun.{found_lines}
-use Rattle.mc_run.proofs.MakeLemmas.{is_examined-of_examination, are_made_so_far-certified}
-use Rattle.mc_run.proofs.MakeLemmas.{made_lists-at_most_flows, are_made_so_far-found}
-use Rattle.mc_run.proofs.MakeLemmas.{are_made_so_far-none}
+use Rattle.mc_run.proofs.MadeSoFarLemmas.{is_examined-of_examination, are_made_so_far-certified}
+use Rattle.mc_run.proofs.MadeSoFarLemmas.{made_lists-at_most_flows, are_made_so_far-found}
+use Rattle.mc_run.proofs.MadeSoFarLemmas.{are_made_so_far-none}
 use Rattle.mc_run.proofs.commands.make.examine_all.Goals.{in-Certified+in_ok-push-in-Certified}
 use Rattle.mc_run.proofs.commands.make.examine_all.Goals.{in-Found+in_ok-push_found_lines-in-Found}
 use Rattle.mc_run.proofs.commands.make.examine_all.Goals as goal
 
+-- Of no flows there are no lists and no lines.
 pub loop-flow-init : goal.loop-flow-init
 loop-flow-init c = rw (c.new-lists.ensures, c.new-lines.ensures.bytes)
     (are_made_so_far-none c.args.domain.now)
 
+-- There is at most one list for each flow so far, one flow is still to come, and a topology has at most 4,096.
 pub push-requires-clause-few : goal.push-requires-clause-few
 push-requires-clause-few c =
     let few = made_lists-at_most_flows c.args.domain.now c.loop-flow.flow c.loop-flow.lists
@@ -25,6 +27,8 @@ push-requires-clause-few c =
       c.flows-flow-end.ensures.rules.few_flows,
     )
 
+-- The next flow is certified and adds its list, or is not and adds its lines; the other of the two stays as it
+-- is.
 pub loop-flow-preserved : goal.loop-flow-preserved
 loop-flow-preserved c =
     let d = c.args.domain.now in

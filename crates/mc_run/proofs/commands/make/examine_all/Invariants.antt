@@ -1,5 +1,5 @@
 use Rattle.std.specs.String.{string_bytes}
-use Rattle.mc_run.proofs.MakeLemmas.{AreMadeSoFar}
+use Rattle.mc_run.proofs.MadeSoFarLemmas.{AreMadeSoFar}
 use Rattle.mc_run.proofs.commands.make.examine_all.Given as goal
 
 -- the lists and the lines so far are those of the first flows

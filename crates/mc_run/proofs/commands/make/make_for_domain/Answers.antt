@@ -1,15 +1,16 @@
 use Rattle.std.proofs.Common.{◌∙◌, sym}
-use Rattle.mc_run.proofs.MakeLemmas.{is_make_output-certificate, found_lines-empty}
-use Rattle.mc_run.proofs.MakeLemmas.{found_lines-not_empty, is_make_output-lines}
-use Rattle.mc_run.proofs.MakeLemmas.{belongs_to-made_lists}
+use Rattle.mc_run.proofs.MakeLemmas.{is_make_output-certificate, found_lines-empty, found_lines-not_empty}
+use Rattle.mc_run.proofs.MakeLemmas.{is_make_output-lines, belongs_to-made_lists}
 use Rattle.mc_run.proofs.commands.make.make_for_domain.Goals as goal
 
+-- There are lines, so that some flow isn't certified, and these lines are the text.
 pub returns-then-not-is_empty : goal.returns-then-not-is_empty
 returns-then-not-is_empty c =
     let size = c.in_ok-made.made.lines.bytes.ok.0 in
     let there = found_lines-not_empty _ _ c.is_empty.ensures c.if-not-is_empty.true in
     is_make_output-lines c.args.domain.now _ _ c.in_ok-made.ensures (λ none. there (size ∙ none))
 
+-- There are no lines, so that each flow is certified and has its list.
 pub certificate_json-requires : goal.certificate_json-requires
 certificate_json-requires c = record {
   valid = (
@@ -19,6 +20,7 @@ certificate_json-requires c = record {
       (sym size ∙ found_lines-empty _ _ c.is_empty.ensures c.if-not-is_empty.false));
 }
 
+-- Each flow is certified, and the text is the certificate of the lists.
 pub returns : goal.returns
 returns c =
     let size = c.in_ok-made.made.lines.bytes.ok.0 in

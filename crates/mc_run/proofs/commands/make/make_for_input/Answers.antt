@@ -1,9 +1,10 @@
 use Rattle.std.specs.String.{string_bytes}
 use Rattle.mc_run.specs.MakeRun.{IsMakeOutput}
 use Rattle.mc_input.specs.Meaning.{MeansUncertifiedDomain}
-use Rattle.mc_run.proofs.RunLemmas.{of_domain-meant}
+use Rattle.mc_run.proofs.RunInputLemmas.{of_domain-meant}
 use Rattle.mc_run.proofs.commands.make.make_for_input.Goals as goal
 
+-- The text is made for the domain that was read, which is the one that the bundle means.
 pub returns-in-Ok-clause-text : goal.returns-in-Ok-clause-text
 returns-in-Ok-clause-text g c =
     let written = string_bytes c.in-Ok.run_output.text in

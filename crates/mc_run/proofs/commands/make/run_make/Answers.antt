@@ -7,6 +7,7 @@ use Rattle.mc_run.proofs.RunLemmas.{writes_part-output_written, writes-output_wr
 use Rattle.mc_run.specs.Faults.{IsFaultOfMake}
 use Rattle.mc_run.proofs.commands.make.run_make.Goals as goal
 
+-- Writing keeps what holds.
 pub returns-clause-answer : goal.returns-clause-answer
 returns-clause-answer g c =
     answers-output_written (g.R.Input.remaining c.args.input.now) IsMadeText (IsRefusedFor false)

@@ -4,6 +4,7 @@ use Rattle.mc_run.proofs.RunLemmas.{writes_part-output_written, writes-output_wr
 use Rattle.mc_run.specs.Faults.{IsFaultOfReplay}
 use Rattle.mc_run.proofs.commands.replay.run_replay.Goals as goal
 
+-- Writing keeps what holds.
 pub returns-clause-answer : goal.returns-clause-answer
 returns-clause-answer g c =
     answers-output_written (g.R.Input.remaining c.args.input.now) (IsTravelText c.args.flow c.args.ttl _)

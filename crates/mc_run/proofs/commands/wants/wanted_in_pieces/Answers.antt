@@ -4,6 +4,7 @@ use Rattle.std.proofs.lemmas.List.{length-append, take-append-le}
 use Rattle.mc_run.proofs.WantsReadingLemmas.{reads_piece-none, reads_piece-more}
 use Rattle.mc_run.proofs.commands.wants.wanted_in_pieces.Goals as goal
 
+-- Nothing was read yet.
 pub reading-init : goal.reading-init
 reading-init g c = record {
   same = refl;
@@ -12,6 +13,7 @@ reading-init g c = record {
   within = omega arith;
 }
 
+-- The last piece was read but not taken, and it is counted with those before it.
 pub returns-in_err-wanted-in-Ok-clause-consumed : goal.returns-in_err-wanted-in-Ok-clause-consumed
 returns-in_err-wanted-in-Ok-clause-consumed g c =
     let so_far = c.reading.invariant.pieces_read in
@@ -23,6 +25,7 @@ returns-in_err-wanted-in-Ok-clause-consumed g c =
       Consumes-trans _ _ _ _ _ so_far.2 c.in-Ok.ensures.bytes.0,
     )
 
+-- The reader takes exactly the bytes that this call of `read` gave, which follow those of the earlier pieces.
 pub reading-preserved : goal.reading-preserved
 reading-preserved g c =
     let so_far = c.reading.invariant.pieces_read in
@@ -46,6 +49,7 @@ reading-preserved g c =
       within = omega (arith, count);
     }
 
+-- The bytes of all pieces were read, at most one more than a list may have.
 pub returns-clause-consumed : goal.returns-clause-consumed
 returns-clause-consumed g c =
     let so_far = c.reading.invariant.pieces_read in

@@ -3,6 +3,8 @@ use Rattle.std.specs.Io.KnownBytes.{Consumes}
 use Rattle.mc_run.specs.WantsSoFar.{ReadsPiece}
 use Rattle.mc_run.proofs.commands.wants.wanted_in_pieces.Given as goal
 
+-- The bytes so far were taken from the front of the input, and the reader has read them; by their records the
+-- LAN wants the channel, or not.
 abbrev pub invariant-reading : goal.invariant-reading
 invariant-reading g l = record {
   same : g.R.Input.borrows l.input ≡ g.R.Input.borrows l.fn.input;

@@ -1,6 +1,7 @@
 use Rattle.mc_run.proofs.LineFrontLemmas.{is_front_in_file-found}
 use Rattle.mc_run.proofs.refusals.line_front.front_of_line.Goals as goal
 
+-- The open file gives the text that the source has under this name, and the front is that of its line.
 pub returns-in-Ok-clause-front : goal.returns-in-Ok-clause-front
 returns-in-Ok-clause-front g c =
     is_front_in_file-found (λ front. front.items) (g.F.FileSource.contents c.args.files.now)

@@ -6,6 +6,7 @@ use Rattle.mc_run.proofs.LineFrontLemmas.{front-at_end, front-after_piece, front
 use Rattle.mc_run.proofs.LineFrontLemmas.{left_after_piece-known, take-none_left}
 use Rattle.mc_run.proofs.refusals.line_front.seek_front.Goals as goal
 
+-- The file has ended, and no byte is left that could change the front.
 pub returns-in-Ok-eq0-clause-front : goal.returns-in-Ok-eq0-clause-front
 returns-in-Ok-eq0-clause-front g c = λ text is.
     let so_far = c.reading.invariant.front text is in
@@ -19,6 +20,7 @@ returns-in-Ok-eq0-clause-front g c = λ text is.
     (omega (arith, c.reading.invariant.bounded, c.reading.sought.front.ok.0))
     (ap (take c.reading.left) none ∙ take-nil c.reading.left)
 
+-- As many bytes were read as a part of a bundle may have, and none is left to be read.
 pub returns-clause-front : goal.returns-clause-front
 returns-clause-front g c = λ text is.
     let so_far = c.reading.invariant.front text is in
@@ -27,6 +29,7 @@ returns-clause-front g c = λ text is.
     (omega (arith, c.reading.invariant.bounded, c.reading.sought.front.ok.0))
     (ap (λ n. take n so_far.0) spent)
 
+-- The front was complete within this piece, so that no later byte changes it.
 pub returns-in-Ok-true-clause-front : goal.returns-in-Ok-true-clause-front
 returns-in-Ok-true-clause-front g c = λ text is.
     let so_far = c.reading.invariant.front text is in
@@ -43,6 +46,8 @@ returns-in-Ok-true-clause-front g c = λ text is.
     c.take.new.self piece next.0 c.in-Ok-true.field-0 (omega (arith, taken, c.in-Ok.ensures.bound.0)) next.2
     c.in-Ok-true.field-0-test takes
 
+-- The piece was taken from what was left, and what is left after it makes of the new front what both made of
+-- the old one.
 pub reading-preserved : goal.reading-preserved
 reading-preserved g c =
     let piece = take c.in-Ok.count c.read_piece.new.buffer in

@@ -2,6 +2,7 @@ use Rattle.std.specs.String.{string_bytes}
 use Rattle.mc_run.proofs.RefusalTextLemmas.{appends_with_failures-first_50}
 use Rattle.mc_run.proofs.refusals.refusal_text.push_first_files.Goals as goal
 
+-- The lines of the first 50 files come first, and then the number of the others.
 pub returns-clause-adds : goal.returns-clause-adds
 returns-clause-adds g c =
     appends_with_failures-first_50 (g.F.FileSource.contents c.args.files.now) c.args.refused.now

@@ -3,6 +3,7 @@ use Rattle.std.specs.String.{string_bytes}
 use Rattle.mc_run.proofs.RefusalTextLemmas.{refused_file_lines-more}
 use Rattle.mc_run.proofs.refusals.refusal_text.push_refused_files.Goals as goal
 
+-- The line of the next file is appended to those before it; its failed calls come after theirs.
 pub loop-file-preserved : goal.loop-file-preserved
 loop-file-preserved g c = record {
   same = c.in_ok-push_refused_file.ensures.same ∙ c.loop-file.invariant.same;

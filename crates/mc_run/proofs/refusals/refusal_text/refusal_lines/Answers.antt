@@ -4,6 +4,8 @@ use Rattle.std.specs.String.{string_bytes}
 use Rattle.mc_run.proofs.RefusalTextLemmas.{refusal_text}
 use Rattle.mc_run.proofs.refusals.refusal_text.refusal_lines.Goals as goal
 
+-- The text starts empty, and has the lines of the refused files that were collected, while the source's
+-- contents stayed the same.
 pub returns-clause-text : goal.returns-clause-text
 returns-clause-text g c =
     refusal_text (map (λ (n : Bor (List ℕ)). n.now) c.args.without.now)

@@ -4,6 +4,7 @@ use Rattle.mc_run.specs.VerdictText.{flow_lines, last_line}
 use Rattle.mc_run.proofs.CheckTextLemmas.{flow_lines-all, flow_lines-more}
 use Rattle.mc_run.proofs.shown.verdict_text.check_text.Goals as goal
 
+-- The line of the next flow is taken from the front of those that are left.
 pub loop-flow-preserved : goal.loop-flow-preserved
 loop-flow-preserved c =
     let inside : c.loop-flow.flow < length c.args.verdicts.now =
@@ -15,6 +16,7 @@ loop-flow-preserved c =
     c.args.verdicts.now _ _ c.flow.ensures.flow verdict_at c.in_ok-push_flow_verdict.ensures
     c.loop-flow.invariant
 
+-- No flow is left, and the last line says whether all verdicts are yes.
 pub returns : goal.returns
 returns c = record {
   ok = (

@@ -1,8 +1,9 @@
 use Rattle.std.proofs.Common.{◌≡◌, ℕ, List, map, ap₂, subst}
-use Rattle.mc_run.specs.AuditRun.{LeftOutValue}
+use Rattle.mc_run.specs.AuditedFiles.{LeftOutValue}
 use Rattle.mc_run.specs.TaskRuns.{IsAuditResult, left_out_by}
 use Rattle.mc_run.proofs.task.task_files.audit_task.Goals as goal
 
+-- The task's words are what `run_audit` is called with, so that each of its clauses is one of the run.
 pub returns-clause-run : goal.returns-clause-run
 returns-clause-run g c =
     let contents = g.F.FileSource.contents c.args.files.now in

@@ -2,6 +2,7 @@ use Rattle.std.proofs.Common.{Bool, subst, sym}
 use Rattle.mc_run.specs.TaskRuns.{IsReplayRun}
 use Rattle.mc_run.proofs.task.task_input.replay_task.Goals as goal
 
+-- The picker that takes the last waiting copy has the choices of this task,
 pub returns-then-last-clause-run : goal.returns-then-last-clause-run
 returns-then-last-clause-run g c =
     let contents = g.R.Input.remaining c.args.input.now in
@@ -20,6 +21,7 @@ returns-then-last-clause-run g c =
       consumed = c.run_replay.ensures.consumed;
     })
 
+-- and else the one that takes the first.
 pub returns-else-last-clause-run : goal.returns-else-last-clause-run
 returns-else-last-clause-run g c =
     let contents = g.R.Input.remaining c.args.input.now in

@@ -1,6 +1,0 @@
-use Rattle.std.proofs.Common.{refl}
-use Rattle.mc_json.proofs.domain_line.interface_value.Goals as goal
-
-pub returns : goal.returns
-returns c = c.object.ensures _ (c.value-2.ensures _ _ (c.router.ensures _ (c.value.ensures _ _
-    (c.string.ensures _ _ c.new.ensures c.device_name.ensures) refl)) refl)

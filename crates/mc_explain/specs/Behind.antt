@@ -22,8 +22,8 @@ use Rattle.mc_explain.specs.declared.causes.behind.Behind.{Behind}
 -- ---- a second copy
 
 -- Why the carried copies show the finding of this copy, the first double one (the first that has an earlier
--- one on its LAN), as for the finding of a travel, but without a remedy: the senders of the LAN's first copy and
--- of the copy, or the path by which it came from the LAN itself, from its beginning.
+-- one on its LAN), as for the finding of a travel, but without a remedy: the senders of the LAN's first copy
+-- and of the copy, or the path by which it came from the LAN itself, from its beginning.
 abbrev pub double_causes : Net → List Copy → Copy → FindingValue → List Cause
 double_causes net copies copy (Duplicate lan) =
     sender_causes copy.lan (sender_on copies copy.lan) ++ sender_causes copy.lan copy.sender

@@ -154,7 +154,8 @@ pub has_counts-run : (contents : Option (List FileText)) (o : AuditOptions) (lef
     → IsOutputWritten p s old new → yes_of r ≡ s → IfOk r (λ answer. answer.counts ≡ counts)
     → IfOk r (λ answer. IfSome contents (MeansAuditedWhere o left (λ v. HasCounts v o answer.counts)))
 has_counts-run contents o left a p counts s r old new =
-    audit_counts-gives (λ n. IfSome contents (MeansAuditedWhere o left (λ v. HasCounts v o n))) a p counts s r old new
+    audit_counts-gives (λ n. IfSome contents (MeansAuditedWhere o left (λ v. HasCounts v o n)))
+    a p counts s r old new
 
 -- ---- all of these
 

@@ -107,7 +107,8 @@ no_yes_line-shown_by_text : (t : TopologyValue) (ttl : ℕ) (shown_by : ShownBy)
 no_yes_line-shown_by_text t ttl shown_by ok =
     no_yes_line-append (shown_from_text (codes "  ") shown_by.from)
     (at_flow_ttl_text t ttl shown_by.at_flow_ttl)
-    (no_yes_line-shown_from_text [] shown_by.from (no_feed-from_list_all [] refl)) (no_yes_line-at_flow_ttl_text t ttl shown_by.at_flow_ttl ok)
+    (no_yes_line-shown_from_text [] shown_by.from (no_feed-from_list_all [] refl))
+    (no_yes_line-at_flow_ttl_text t ttl shown_by.at_flow_ttl ok)
 
 -- the second copy behind a stray, with its causes
 no_yes_line-second_behind : (d : DomainFacts) (summary : List SummaryValue) (flow : ℕ) (causes : List Cause)

@@ -84,7 +84,8 @@ part_after part nesting outside byte =
 -- how many brackets are open after a byte outside of strings and comments
 abbrev pub nesting_after : ℕ → ℕ → ℕ
 nesting_after nesting byte =
-    if byte == 91 || byte == 123 then nesting + 1 else if byte == 93 || byte == 125 then nesting - 1 else nesting
+    if byte == 91 || byte == 123 then nesting + 1
+    else if byte == 93 || byte == 125 then nesting - 1 else nesting
 
 -- whether a byte in this state isn't counted in a header: one of a comment, or a blank outside of
 -- strings

@@ -15,6 +15,7 @@ pub record IsRunOf (group : ℕ) (pairs : List (ℕ × ℕ)) (run : ℕ × ℕ) 
   pub inside : AllWithin (λ pair. (pair.0 == group) ≡ true) pairs run.0 run.1
   pub behind : AllWithin (λ pair. (pair.0 == group) ≡ false) pairs run.1 (length pairs)
 
--- the list with the elements from one place on and before another changed by f
+-- the list with a run of its elements changed: those from the run's first place on and before its second
 abbrev pub with_run : {A : Type 0} → (A → A) → (run : ℕ × ℕ) → List A → List A
-with_run f run xs = take run.0 xs ++ (map f (take (run.1 - run.0) (drop run.0 xs)) ++ drop run.1 xs)
+with_run change run items =
+    take run.0 items ++ (map change (take (run.1 - run.0) (drop run.0 items)) ++ drop run.1 items)

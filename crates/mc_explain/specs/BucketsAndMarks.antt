@@ -9,7 +9,7 @@ use Rattle.std.specs.List.{list_any}
 
 -- ---- a list for each number
 
--- The list at each place holds f of the keys whose number is the place's, in their order.
+-- The list at each place holds the views of the keys whose number is the place's, in their order.
 abbrev pub AreBuckets : {A : Type 0} → (ℕ → A) → (ℕ → ℕ) → List (List A) → List ℕ → Type 0
 AreBuckets view number lists keys =
     (place : ℕ) → place < length lists → slice_index_or lists place []

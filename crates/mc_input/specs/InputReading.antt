@@ -24,8 +24,8 @@ IsMemory fault = fault ≡ Memory
 abbrev pub Gives : {X Y : Type 0} → (X → Y) → Result X InputFault → Result Y InputFault → Type 0
 Gives = Steps.Gives IsMemory
 
--- the part, if there is one and it has this name; otherwise the fault of its place, counted from 1, where n
--- counts from 0
+-- the part, if there is one and it has this name; otherwise the fault of its place, counted from 1, where
+-- the number counts from 0
 abbrev pub named : Option PartText → (name : List ℕ) → (number : ℕ) → Result PartText InputFault
 named None name number = Err (Parts (number + 1))
 named (Some part) name number = if bytes_eq part.name name then Ok part else Err (Parts (number + 1))

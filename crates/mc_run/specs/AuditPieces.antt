@@ -103,12 +103,12 @@ abbrev pub IsFindingPushed : AuditedDomain → (flow : ℕ) → FlowStatus → (
 IsFindingPushed audited flow flow_status old new = (printed : List Tree)
     → IsFlowPushed (audited_value audited) audited.options flow flow_status printed printed old new
 
--- The lines of the first k flows were appended; these are the counts of these flows, and the trees that they
--- have printed.
-pub record AreFlowsPushed (audited : AuditedValue) (options : AuditOptions) (k : ℕ)
+-- The lines of this number of flows, from the first on, were appended; these are the counts of these flows,
+-- and the trees that they have printed.
+pub record AreFlowsPushed (audited : AuditedValue) (options : AuditOptions) (pushed : ℕ)
     (flow_counts : FlowCounts) (printed : List Tree) (old new : List ℕ) : Type 0 where
   pub answers : List FlowAnswer
-  pub count_is : length answers ≡ k
+  pub count_is : length answers ≡ pushed
   pub each : (flow : ℕ) (answer : FlowAnswer) → slice_get answers flow ≡ Some answer
       → IsFlowAnswer audited options (trees_shown options (take flow answers)) flow answer
   pub right : flow_counts.right ≡ count is_right answers

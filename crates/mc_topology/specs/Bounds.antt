@@ -111,7 +111,7 @@ header_after Rest header state byte = header
 abbrev pub is_mark : ℕ → Bool
 is_mark byte = list_any (λ mark. mark == byte) (codes ".,={[")
 
--- the scan with the byte c, after which the state is `state`
+-- the scan with this byte, after which the state is `state`
 abbrev pub with_state : Scan → LexState → ℕ → Scan
 with_state scan state byte = let outside = is_outside state in record {
   state = state;

@@ -51,10 +51,10 @@ service_lines lans = shared_pairs true (services_of_lans lans)
 -- ---- what the code makes of them
 
 -- The lines are those of the shown wants, in ascending order, and the number is that of the further wants.
-pub record AreAskedLines (all : Bool) (lans : List LanWantsValue) (a : AskedLines) : Type 0 where
-  pub lines : a.lines.items ≡ asked_lines all lans
-  pub ascending : IsStrictlySortedBy key_cmp (map (λ line. line.0) a.lines.items)
-  pub further : a.further ≡ further_wants all lans
+pub record AreAskedLines (all : Bool) (lans : List LanWantsValue) (asked : AskedLines) : Type 0 where
+  pub lines : asked.lines.items ≡ asked_lines all lans
+  pub ascending : IsStrictlySortedBy key_cmp (map (λ line. line.0) asked.lines.items)
+  pub further : asked.further ≡ further_wants all lans
 
 -- ---- by the lists of all LANs
 

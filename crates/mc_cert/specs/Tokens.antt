@@ -28,8 +28,8 @@ use Rattle.std.specs.Prelude.{slice_get}
 -- ---- values
 
 -- the tokens begin with this value, which nests at most `levels` deep, and `rest` comes after it
-pub record Reads (levels : ℕ) (tokens : List Token) (d : Data) (rest : List Token) : Type 0 where
-  pub read : (depth : ℕ) → levels ≤ depth → converted of_json (value depth tokens) ≡ Some (d, rest)
+pub record Reads (levels : ℕ) (tokens : List Token) (item : Data) (rest : List Token) : Type 0 where
+  pub read : (depth : ℕ) → levels ≤ depth → converted of_json (value depth tokens) ≡ Some (item, rest)
 
 -- the tokens begin with a value of which `Holds` is true, and `rest` comes after it
 abbrev pub ReadsTo : ℕ → List Token → (Data → Type 0) → List Token → Type 0

@@ -39,12 +39,12 @@ pub record HaveMatchingCounts (topology : TopologyValue) (tables : List TablesVa
 
 -- The domain of a topology, of the routers' tables and of the LANs' reports. A LAN wants a flow if
 -- some record of its reports for the flow's group admits the flow's source (RFC 3376, section 3.2).
-pub record IsAssembled (t : TopologyValue) (tables : List TablesValue) (rs : List (List Record))
+pub record IsAssembled (t : TopologyValue) (tables : List TablesValue) (reports : List (List Record))
     (domain : DomainValue) : Type 0 where
   pub topology : domain.topology ≡ t
   pub vifs : domain.vifs ≡ vifs_by_tables tables
   pub rows : domain.rows ≡ rows_by_tables t.flows tables
-  pub wants : (lan flow : ℕ) (records : List Record) (listed : Flow) → slice_get rs lan ≡ Some records
+  pub wants : (lan flow : ℕ) (records : List Record) (listed : Flow) → slice_get reports lan ≡ Some records
       → slice_get t.flows flow ≡ Some listed
       → IsTrue (wants_of domain flow lan) ↔ Wants records listed.group listed.source
 

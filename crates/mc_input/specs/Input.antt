@@ -37,8 +37,8 @@ pub record DenotesReports (lan : List ℕ) (part : PartText) (records : List Rec
 -- these.
 abbrev pub PartsDenoteTables : List RouterRow → List PartText → List TablesValue → List PartText → Type 0
 PartsDenoteTables [] parts [] rest = parts ≡ rest
-PartsDenoteTables (row ∷ rows) (vif ∷ cache ∷ parts) (tables ∷ ts) rest =
-    DenotesTables row vif cache tables × PartsDenoteTables rows parts ts rest
+PartsDenoteTables (row ∷ rows) (vif ∷ cache ∷ parts) (tables ∷ others) rest =
+    DenotesTables row vif cache tables × PartsDenoteTables rows parts others rest
 PartsDenoteTables _ _ _ _ = ⊥
 
 -- The parts begin with one for each LAN, in order, which denotes its reports; `rest` are the parts after

@@ -55,10 +55,10 @@ search_context domain summary excluded flow copies = record {
 abbrev pub IsSearchIfMissed : Search → List Event → Finding → Option LanSearch → Type 0
 IsSearchIfMissed search events (Missed lan) (Some found) = IsLanSearch search events lan found
 IsSearchIfMissed search events (Missed lan) None = ⊥
-IsSearchIfMissed s events Clean search = search ≡ None
-IsSearchIfMissed s events (Duplicate lan) search = search ≡ None
-IsSearchIfMissed s events (Loop lan) search = search ≡ None
-IsSearchIfMissed s events (Stray router vif) search = search ≡ None
+IsSearchIfMissed search events Clean found = found ≡ None
+IsSearchIfMissed search events (Duplicate lan) found = found ≡ None
+IsSearchIfMissed search events (Loop lan) found = found ≡ None
+IsSearchIfMissed search events (Stray router vif) found = found ≡ None
 
 -- This is the search for the LAN that a packet with TTL 255 missed, if it missed one.
 abbrev pub IsSearchAt255 : DomainFacts → List SummaryValue → (excluded : List Bool) → (flow : ℕ)

@@ -31,7 +31,7 @@ pub record WordDenotesOif (word : List ℕ) (oif : ℕ × ℕ) : Type 0 where
 
 -- a vif and a threshold, as an outgoing vif
 abbrev pub to_oif : ℕ × ℕ → Oif
-to_oif o = record { vif = o.0; threshold = o.1 }
+to_oif pair = record { vif = pair.0; threshold = pair.1 }
 
 -- vifs, each with its threshold, as outgoing vifs in ascending order
 abbrev pub oifs_by_vif : map.FinMap nat_cmp ℕ → List Oif
@@ -81,7 +81,7 @@ pub record LineDenotesRow (order : Order) (line : LineText) (row : RowValue) : T
 
 -- a key is a source and a group; keys are ordered by source and then by group
 abbrev pub key_cmp : ℕ × ℕ → ℕ × ℕ → Ordering
-key_cmp x y = ordering_then (nat_cmp x.0 y.0) (nat_cmp x.1 y.1)
+key_cmp key other = ordering_then (nat_cmp key.0 other.0) (nat_cmp key.1 other.1)
 
 -- whether two keys are equal
 abbrev pub same_key : ℕ × ℕ → ℕ × ℕ → Bool

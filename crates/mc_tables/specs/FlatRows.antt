@@ -12,7 +12,7 @@ use Rattle.mc_tables.specs.CacheTable.{EntryValue, RowValue}
 
 -- the entry of an incoming vif and outgoing ones; none without an incoming vif
 abbrev pub entry_with : Option ℕ → List Oif → Option EntryValue
-entry_with iif oifs = option_map (λ i. record { iif = i; oifs = oifs }) iif
+entry_with iif oifs = option_map (λ incoming. record { iif = incoming; oifs = oifs }) iif
 
 -- the row that was read up to its outgoing vifs, with these
 abbrev pub row_with_oifs : CacheRow → List Oif → RowValue
@@ -29,20 +29,20 @@ pub record FlatListsValue (H : Type 0) : Type 0 where
 
 -- there is room for one more list, of `oifs` outgoing vifs
 abbrev pub HasRoom : {H : Type 0} → FlatListsValue H → ℕ → Type 0
-HasRoom s oifs = (0 < s.lists_left) × (oifs ≤ s.oifs_left)
+HasRoom flat oifs = (0 < flat.lists_left) × (oifs ≤ flat.oifs_left)
 
 -- a list with its head: `count` of all outgoing vifs, from `start` on
 abbrev pub list_of : {H : Type 0} → List Oif → FlatList H → H × List Oif
-list_of oifs l = (l.head, take l.count (drop l.start oifs))
+list_of oifs list = (list.head, take list.count (drop list.start oifs))
 
 -- all lists, each with its head
 abbrev pub lists_of : {H : Type 0} → List (FlatList H) → List Oif → List (H × List Oif)
-lists_of ls oifs = map (list_of oifs) ls
+lists_of lists oifs = map (list_of oifs) lists
 
 -- each list is within all outgoing vifs, of which there are at most 32 for each list
-pub record AreFlatLists {H : Type 0} (ls : List (FlatList H)) (oifs : List Oif) : Type 0 where
-  pub within : AllByRecursion (λ l. l.start + l.count ≤ length oifs) ls
-  pub bounded : length oifs ≤ 32 * length ls
+pub record AreFlatLists {H : Type 0} (lists : List (FlatList H)) (oifs : List Oif) : Type 0 where
+  pub within : AllByRecursion (λ list. list.start + list.count ≤ length oifs) lists
+  pub bounded : length oifs ≤ 32 * length lists
 
 -- the entry of a list whose head is the incoming vif
 abbrev pub entry_of : ℕ × List Oif → EntryValue

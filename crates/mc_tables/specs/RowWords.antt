@@ -10,19 +10,21 @@ use Rattle.mc_tables.specs.declared.cache.cache_line.CacheWords.{CacheWords}
 
 -- the four counters of a vif's line, and then the words after them
 abbrev pub counters_before : CounterWords → List (List ℕ) → List (List ℕ)
-counters_before w rest =
-    w.bytes_in.now ∷ w.packets_in.now ∷ w.bytes_out.now ∷ w.packets_out.now ∷ rest
+counters_before counters rest =
+    counters.bytes_in.now ∷ counters.packets_in.now
+    ∷ counters.bytes_out.now ∷ counters.packets_out.now ∷ rest
 
 -- the nine words of a vif's line
 abbrev pub vif_word_list : VifWords → List (List ℕ)
-vif_word_list w =
-    w.index.now ∷ w.device.now
-    ∷ counters_before w.counters (w.flags.now ∷ w.local.now ∷ w.remote.now ∷ [])
+vif_word_list words =
+    words.index.now ∷ words.device.now
+    ∷ counters_before words.counters (words.flags.now ∷ words.local.now ∷ words.remote.now ∷ [])
 
 -- the six words of a cache's row, and then those of its outgoing vifs
 abbrev pub row_words_before : CacheWords → List (List ℕ) → List (List ℕ)
-row_words_before w outgoing =
-    w.group.now ∷ w.origin.now ∷ w.iif.now ∷ w.packets.now ∷ w.bytes.now ∷ w.wrong_if.now ∷ outgoing
+row_words_before words outgoing =
+    words.group.now ∷ words.origin.now ∷ words.iif.now ∷ words.packets.now ∷ words.bytes.now
+    ∷ words.wrong_if.now ∷ outgoing
 
 -- a cache's row begins with two words of eight digits, each with a space after it (`%08X %08X `),
 -- and they denote these addresses

@@ -20,7 +20,7 @@ key_number row = pair_number row.0
 
 -- the order of rows: by key, and then by line
 abbrev pub row_cmp : UnlistedRow → UnlistedRow → Ordering
-row_cmp x y = ordering_then (key_cmp x.0 y.0) (nat_cmp x.1 y.1)
+row_cmp row other = ordering_then (key_cmp row.0 other.0) (nat_cmp row.1 other.1)
 
 -- whether a row repeats `earlier`: it has the same key, on a later line
 abbrev pub repeats : UnlistedRow → UnlistedRow → Bool
@@ -32,13 +32,13 @@ is_repeat rows row = list_any (repeats row) rows
 
 -- the lesser of a number and another one, if there is another
 abbrev pub lesser_or : ℕ → Option ℕ → ℕ
-lesser_or n None = n
-lesser_or n (Some m) = if nat_lt m n then m else n
+lesser_or number None = number
+lesser_or number (Some other) = if nat_lt other number then other else number
 
 -- the least of numbers, if there are any
 abbrev pub least : List ℕ → Option ℕ
 least [] = None
-least (n ∷ ns) = Some (lesser_or n (least ns))
+least (number ∷ numbers) = Some (lesser_or number (least numbers))
 
 -- the first line whose row repeats an earlier one
 unfoldable pub first_repeat : List UnlistedRow → Option ℕ

@@ -155,16 +155,16 @@ module _ (slots others numbers : List ℕ) (i : ℕ) (before : AreSlotted slots 
       }
 
   -- one more number that was put
-  pub are_slotted-push : (slots' others' : List ℕ) → IsPut slots others number slots' others'
-      → AreSlotted slots' others' numbers (i + 1) × (length slots' ≡ length slots)
-  are_slotted-push slots' others' (inl put) = (
-    subst (λ (o : List ℕ). AreSlotted slots' o numbers (i + 1)) (sym put.same)
+  pub are_slotted-push : (new_slots new_others : List ℕ) → IsPut slots others number new_slots new_others
+      → AreSlotted new_slots new_others numbers (i + 1) × (length new_slots ≡ length slots)
+  are_slotted-push new_slots new_others (inl put) = (
+    subst (λ (o : List ℕ). AreSlotted new_slots o numbers (i + 1)) (sym put.same)
         (subst (λ (s : List ℕ). AreSlotted s others numbers (i + 1)) (sym put.put)
         (are_slotted-in_slot put.within put.empty put.some)),
     ap length put.put ∙ length-set slots (slot_of (length slots) number) (mark_of number),
   )
-  are_slotted-push slots' others' (inr put) = (
-    subst (λ (o : List ℕ). AreSlotted slots' o numbers (i + 1)) (sym put.put)
+  are_slotted-push new_slots new_others (inr put) = (
+    subst (λ (o : List ℕ). AreSlotted new_slots o numbers (i + 1)) (sym put.put)
         (subst (λ (s : List ℕ). AreSlotted s (others ++ number ∷ []) numbers (i + 1)) (sym put.same)
         (are_slotted-with_others put.full put.other)),
     ap length put.same,

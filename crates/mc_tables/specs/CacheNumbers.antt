@@ -13,7 +13,7 @@ use Rattle.mc_tables.specs.ListedRows.{ListedSet, set_has_key}
 
 -- a key with its number, as the key with the entry of that number
 abbrev pub numbered_entry : List EntryValue → (ℕ × ℕ) × ℕ → Option ((ℕ × ℕ) × EntryValue)
-numbered_entry entries p = option_map (λ entry. (p.0, entry)) (slice_get entries p.1)
+numbered_entry entries numbered = option_map (λ entry. (numbered.0, entry)) (slice_get entries numbered.1)
 
 -- the keys that have a number, each with its entry
 abbrev pub entries_by_key : List ((ℕ × ℕ) × ℕ) → List EntryValue → List ((ℕ × ℕ) × EntryValue)
@@ -38,14 +38,14 @@ pub record EntryNumbersValue : Type 0 where
 -- The numbers that are stored at the places of the keys: each as one more than itself, and 0 for a
 -- key that has none. A key past the end of what is stored has none.
 abbrev pub numbers_at_places : List (ℕ × ℕ) → List ℕ → List ((ℕ × ℕ) × ℕ)
-numbers_at_places (key ∷ keys) (zero ∷ ns) = numbers_at_places keys ns
-numbers_at_places (key ∷ keys) (suc n ∷ ns) = (key, n) ∷ numbers_at_places keys ns
+numbers_at_places (key ∷ keys) (zero ∷ stored) = numbers_at_places keys stored
+numbers_at_places (key ∷ keys) (suc number ∷ stored) = (key, number) ∷ numbers_at_places keys stored
 numbers_at_places _ _ = []
 
 -- the number that is stored at a key's place, if it isn't 0
 abbrev pub decoded_number : ℕ → Option ℕ
 decoded_number zero = None
-decoded_number (suc n) = Some n
+decoded_number (suc number) = Some number
 
 -- the key is at this place among the keys
 abbrev pub IsPlaceOf : List (ℕ × ℕ) → ℕ × ℕ → ℕ → Type 0
@@ -54,8 +54,8 @@ IsPlaceOf keys key place = (place < length keys) × (get_or keys place key ≡ k
 -- `more` has the numbers, and that of one more key
 abbrev pub AddsNumber : (key : ℕ × ℕ) (number : ℕ) (numbers more : List ((ℕ × ℕ) × ℕ)) → Type 0
 AddsNumber key number numbers more =
-    (pair : ℕ × ℕ) → number_of_key more pair ≡ cond (is_at (key_cmp key) pair) (Some number)
-    (number_of_key numbers pair)
+    (other : ℕ × ℕ) →
+    number_of_key more other ≡ cond (is_at (key_cmp key) other) (Some number) (number_of_key numbers other)
 
 -- What the answer says of the insertion of a key's number: `New`, the listed key had none and has
 -- it now; `Repeated`, it had one already; `Unlisted`, the key isn't listed. But for the first

@@ -29,9 +29,9 @@ use Rattle.mc_tables.specs.CacheTable.{RowValue, CacheValue, oifs_by_vif, same_k
 -- one colon
 unfoldable pub oif_in_parts : List (List ℕ) → Result (ℕ × ℕ) TableFaultKind
 oif_in_parts (vif ∷ threshold ∷ []) = do
-  v ← ok_or (number_in 0 31 vif) BadOif
-  t ← ok_or (number_in 1 254 threshold) BadThreshold
-  Ok (v, t)
+  vif_number ← ok_or (number_in 0 31 vif) BadOif
+  threshold_number ← ok_or (number_in 1 254 threshold) BadThreshold
+  Ok (vif_number, threshold_number)
 oif_in_parts parts = Err BadOif
 
 -- the vif and the threshold of a word `n:t`
@@ -75,14 +75,14 @@ entry_in (Some iif) words = oifs_in words >>= λ oifs. Ok (Some (record { iif = 
 -- the row that the words of a line are read as, from the left
 unfoldable pub row_in_words : Order → List (List ℕ) → Result RowValue TableFaultKind
 row_in_words order (group ∷ origin ∷ iif ∷ packets ∷ bytes ∷ wrong_if ∷ outgoing) = do
-  g ← ok_or (address_in order group) BadAddress
-  o ← ok_or (address_in order origin) BadAddress
-  i ← incoming_in iif
+  group_address ← ok_or (address_in order group) BadAddress
+  origin_address ← ok_or (address_in order origin) BadAddress
+  incoming ← incoming_in iif
   _ ← demand (is_counter packets) BadCounter
   _ ← demand (is_counter bytes) BadCounter
   _ ← demand (is_counter wrong_if) BadCounter
-  e ← entry_in i outgoing
-  Ok (record { group = g; origin = o; entry = e })
+  entry ← entry_in incoming outgoing
+  Ok (record { group = group_address; origin = origin_address; entry = entry })
 row_in_words order words = Err WordCount
 
 -- whether the row is an (S,G) row whose source and group an earlier one has

@@ -50,19 +50,14 @@ row_added table row = do
 abbrev pub entry_added : CacheValue → ℕ × ℕ → EntryValue → Result CacheValue TableFaultKind
 entry_added table key entry = do
   _ ← demand (not (is_some (map.get table.entries key))) RepeatedEntry
-  Ok (record {
+  Ok (record table {
     entries = map.insert table.entries key entry;
     numbered = table.numbered ++ entry ∷ [];
-    wildcards = table.wildcards;
   })
 
 -- the table with one more (*,G) row, of this group
 abbrev pub group_added : CacheValue → ℕ → CacheValue
-group_added table group = record {
-  entries = table.entries;
-  numbered = table.numbered;
-  wildcards = set.insert table.wildcards group;
-}
+group_added table group = record table { wildcards = set.insert table.wildcards group }
 
 -- the row of a line that comes after `count` others, where at most 65,536 may be in all
 abbrev pub row_with_room : Order → ℕ → LineText → Result RowValue TableFaultKind

@@ -81,7 +81,7 @@ pub record LineDenotesRow (order : Order) (line : LineText) (row : RowValue) : T
 
 -- a key is a source and a group; keys are ordered by source and then by group
 abbrev pub key_cmp : ℕ × ℕ → ℕ × ℕ → Ordering
-key_cmp first second = ordering_then (nat_cmp first.0 second.0) (nat_cmp first.1 second.1)
+key_cmp key other = ordering_then (nat_cmp key.0 other.0) (nat_cmp key.1 other.1)
 
 -- whether two keys are equal
 abbrev pub same_key : ℕ × ℕ → ℕ × ℕ → Bool

@@ -43,7 +43,7 @@ abbrev pub each_row_added : {V : Type 0} → (V → ℕ × ℕ → EntryValue �
     → Result (EachRowSoFar V) TableFaultKind
 each_row_added after so_far line =
     row_in_one_line so_far.order line >>= λ row.
-    Ok (record { order = so_far.order; made = with_row after so_far.made row })
+    Ok (record so_far { made = with_row after so_far.made row })
 
 -- the summary after the row of one more line, or the fault at the line
 abbrev pub each_row_step : {V : Type 0} → (V → ℕ × ℕ → EntryValue → V) → EachRowSoFar V → LineText

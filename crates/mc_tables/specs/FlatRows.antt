@@ -29,7 +29,7 @@ pub record FlatListsValue (H : Type 0) : Type 0 where
 
 -- there is room for one more list, of `oifs` outgoing vifs
 abbrev pub HasRoom : {H : Type 0} → FlatListsValue H → ℕ → Type 0
-HasRoom lists oifs = (0 < lists.lists_left) × (oifs ≤ lists.oifs_left)
+HasRoom flat oifs = (0 < flat.lists_left) × (oifs ≤ flat.oifs_left)
 
 -- a list with its head: `count` of all outgoing vifs, from `start` on
 abbrev pub list_of : {H : Type 0} → List Oif → FlatList H → H × List Oif

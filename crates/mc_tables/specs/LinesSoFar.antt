@@ -33,7 +33,7 @@ pub record IsValidLinesSoFar (lines : LinesSoFar) : Type 0 where
 -- the state after `size` more bytes, of which `bytes` were added to the line that has begun
 abbrev pub with_begun : LinesSoFar → ℕ → List ℕ → LinesSoFar
 with_begun lines size bytes =
-    record { ended = lines.ended; size = lines.size + size; begun = lines.begun ++ bytes }
+    record lines { size = lines.size + size; begun = lines.begun ++ bytes }
 
 -- The bytes were taken up to the first line feed, which is at this place; all of them, if there is
 -- no line feed and so no place.
@@ -45,7 +45,7 @@ TakesToLineFeed old bytes new place =
 
 -- the state when the line that has begun has ended
 abbrev pub with_ended : LinesSoFar → LinesSoFar
-with_ended lines = record { ended = lines.ended + 1; size = lines.size; begun = [] }
+with_ended lines = record lines { ended = lines.ended + 1; begun = [] }
 
 -- the line that has begun, which a line feed ends
 abbrev pub line_begun : LinesSoFar → LineText

@@ -10,8 +10,9 @@ use Rattle.mc_tables.specs.declared.cache.cache_line.CacheWords.{CacheWords}
 
 -- the four counters of a vif's line, and then the words after them
 abbrev pub counters_before : CounterWords → List (List ℕ) → List (List ℕ)
-counters_before words rest =
-    words.bytes_in.now ∷ words.packets_in.now ∷ words.bytes_out.now ∷ words.packets_out.now ∷ rest
+counters_before counters rest =
+    counters.bytes_in.now ∷ counters.packets_in.now
+    ∷ counters.bytes_out.now ∷ counters.packets_out.now ∷ rest
 
 -- the nine words of a vif's line
 abbrev pub vif_word_list : VifWords → List (List ℕ)

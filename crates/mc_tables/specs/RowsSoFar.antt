@@ -39,17 +39,14 @@ rows_code =
 
 -- the rows with one more that isn't kept; an earlier one may have its key
 abbrev pub unlisted_added : RowsSoFar → ℕ × ℕ → ℕ → RowsSoFar
-unlisted_added rows key line = record {
-  table = rows.table;
-  others = rows.others ++ (key, line) ∷ [];
-  count = rows.count + 1;
-}
+unlisted_added rows key line =
+    record rows { others = rows.others ++ (key, line) ∷ []; count = rows.count + 1 }
 
 -- the rows with one more that is kept; the source and the group of an (S,G) row have to be new
 abbrev pub kept_added : RowsSoFar → RowValue → Result RowsSoFar TableFaultKind
 kept_added rows row =
     row_added rows.table row >>= λ table.
-    Ok (record { table = table; others = rows.others; count = rows.count + 1 })
+    Ok (record rows { table = table; count = rows.count + 1 })
 
 -- the rows with one more, kept or not, which is on this line
 abbrev pub any_row_added : ListedSet → RowsSoFar → RowValue → ℕ → Result RowsSoFar TableFaultKind
@@ -78,7 +75,7 @@ rows_start order listed = record {
 abbrev pub row_added_so_far : ListedRowsSoFar → RowValue → ℕ → Result ListedRowsSoFar TableFaultKind
 row_added_so_far so_far row line =
     any_row_added so_far.listed so_far.rows row line >>= λ rows.
-    Ok (record { order = so_far.order; listed = so_far.listed; rows = rows })
+    Ok (record so_far { rows = rows })
 
 -- the rows with that of one more line, or the kind of its fault
 abbrev pub line_added : ListedRowsSoFar → LineText → Result ListedRowsSoFar TableFaultKind
@@ -89,7 +86,7 @@ line_added so_far line =
 -- A fault is the first one only if no row before its line repeats another. Otherwise the fault of
 -- the first row that does comes in its place.
 abbrev pub first_fault : {A : Type 0} → List UnlistedRow → Result A TableFault → Result A TableFault
-first_fault others (Ok x) = Ok x
+first_fault others (Ok value) = Ok value
 first_fault others (Err fault) = without_repeat others >>= λ _. Err fault
 
 -- the first of two faults, of which the first may be absent

@@ -22,14 +22,11 @@ use Rattle.mc_tables.specs.Summary.{group_first, shown_pairs, SummaryValue}
 
 -- what is kept, with the entry of a key that has none
 abbrev pub with_first_entry : KeptRowsValue → ℕ × ℕ → EntryValue → KeptRowsValue
-with_first_entry kept key entry = record {
-  table = record {
+with_first_entry kept key entry = record kept {
+  table = record kept.table {
     entries = map.insert kept.table.entries key entry;
     numbered = kept.table.numbered ++ entry ∷ [];
-    wildcards = kept.table.wildcards;
   };
-  listed = kept.listed;
-  groups = kept.groups;
 }
 
 -- What the answer says of the insertion of an entry: `New`, the listed key had none and has it now;
@@ -51,9 +48,9 @@ with_entry_if_new kept key entry =
 
 -- ---- the lowest pairs
 
--- The ascending pairs, of which `first` comes before the others, with one more pair, which is less than
--- `first`, equal to it or greater. It comes first if it is less, and changes nothing if it is equal; if it is
--- greater, `put` has it among the others.
+-- The ascending pairs `first` and `others` with one more pair, which is less than the first, equal to
+-- it or greater. It comes first if it is less, and changes nothing if it is equal; if it is greater,
+-- `put` has it among the others.
 abbrev pub put_at : Ordering → (pair first : ℕ × ℕ) (others put : List (ℕ × ℕ)) → List (ℕ × ℕ)
 put_at Less pair first others put = pair ∷ first ∷ others
 put_at Equal pair first others put = first ∷ others
@@ -72,8 +69,7 @@ pub record KeptPairs : Type 0 where
 
 -- what is kept after one more pair
 abbrev pub with_pair : ℕ × ℕ → KeptPairs → KeptPairs
-with_pair pair kept =
-    record { all = kept.all; pairs = shown_pairs kept.all (put_pair pair kept.pairs) }
+with_pair pair kept = record kept { pairs = shown_pairs kept.all (put_pair pair kept.pairs) }
 
 -- ---- row by row
 
@@ -103,33 +99,21 @@ empty_summary all listed = record {
 -- the summary with one more row, by its key if it is unresolved
 abbrev pub summary_with_unresolved : SummarySoFar → Option (ℕ × ℕ) → SummarySoFar
 summary_with_unresolved summary None = summary
-summary_with_unresolved summary (Some key) = record {
-  listed = summary.listed;
+summary_with_unresolved summary (Some key) = record summary {
   unresolved =
       if set_has_key summary.listed key then set.insert summary.unresolved key
       else summary.unresolved;
-  first = summary.first;
-  unlisted = summary.unlisted;
-  lowest = summary.lowest;
 }
 
 -- the summary with one more row, by its key and entry if it is a (*,G) row
 abbrev pub summary_with_every_source : SummarySoFar → Option ((ℕ × ℕ) × EntryValue) → SummarySoFar
 summary_with_every_source summary None = summary
-summary_with_every_source summary (Some exact) = record {
-  listed = summary.listed;
-  unresolved = summary.unresolved;
-  first = with_entry_if_new summary.first exact.0 exact.1;
-  unlisted = summary.unlisted;
-  lowest = summary.lowest;
-}
+summary_with_every_source summary (Some exact) =
+    record summary { first = with_entry_if_new summary.first exact.0 exact.1 }
 
 -- the summary with one more (S,G) row whose key isn't listed
 abbrev pub summary_with_unlisted : SummarySoFar → ℕ × ℕ → SummarySoFar
-summary_with_unlisted summary key = record {
-  listed = summary.listed;
-  unresolved = summary.unresolved;
-  first = summary.first;
+summary_with_unlisted summary key = record summary {
   unlisted = summary.unlisted + 1;
   lowest = with_pair (group_first key) summary.lowest;
 }

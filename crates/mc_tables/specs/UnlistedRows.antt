@@ -20,7 +20,7 @@ key_number row = pair_number row.0
 
 -- the order of rows: by key, and then by line
 abbrev pub row_cmp : UnlistedRow → UnlistedRow → Ordering
-row_cmp first second = ordering_then (key_cmp first.0 second.0) (nat_cmp first.1 second.1)
+row_cmp row other = ordering_then (key_cmp row.0 other.0) (nat_cmp row.1 other.1)
 
 -- whether a row repeats `earlier`: it has the same key, on a later line
 abbrev pub repeats : UnlistedRow → UnlistedRow → Bool

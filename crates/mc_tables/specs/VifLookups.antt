@@ -15,8 +15,8 @@ HasDevice vifs index device = IsSomeAnd (get vifs index) (λ vif. vif.device ≡
 -- the same device only if it is `none`.
 pub record IsValidVifTable (vifs : FinMap nat_cmp VifValue) : Type 0 where
   pub numbered : (index : ℕ) → IsSome (get vifs index) → index ≤ 31
-  pub devices_differ : (device : List ℕ) (first second : ℕ) → device ≢ no_device →
-      HasDevice vifs first device → HasDevice vifs second device → first ≡ second
+  pub devices_differ : (device : List ℕ) (index other : ℕ) → device ≢ no_device →
+      HasDevice vifs index device → HasDevice vifs other device → index ≡ other
 
 -- the index of the first row that has this device
 abbrev pub first_index_with : List ℕ → List (ℕ × VifValue) → Option ℕ

@@ -12,7 +12,7 @@ use crate::bundle::part_name::PartName;
 use crate::text::{decimal, find_byte, is_plain_decimal};
 
 /// The greatest length of a line with its line feed, in bytes.
-const MAX_LINE: usize = 96;
+pub(crate) const MAX_LINE: usize = 96;
 
 /// The line at the front, and the bytes after its line feed.
 #[tactic(auto, unfolding(crate::specs::BundleReading::line_at))]

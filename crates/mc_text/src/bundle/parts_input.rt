@@ -12,21 +12,15 @@ ghost use Rattle.mc_text.specs.PartsLimits.{ConsumesWithin, bytes_before_line, m
 ghost use Rattle.mc_text.specs.PartsLimits.{max_to_come_after};
 ghost use Rattle.mc_text.specs.ReadFault.{ConsumesUpTo};
 
-use crate::bundle::bundle::{MAGIC, MAX_PART};
+use crate::bundle::bundle::{END_LINE, MAGIC, MAX_PART};
 use crate::bundle::bundle_fault::BundleFault;
-use crate::bundle::part_line::parse_part_line;
+use crate::bundle::part_line::{MAX_LINE, parse_part_line};
 use crate::bundle::part_name::PartName;
 use crate::bundle::stage::OpenPart;
 use crate::io::Input;
 
 /// The length of the first line, with its line feed.
 const MAGIC_LEN: usize = 17;
-
-/// A part's line has fewer bytes, without its line feed.
-const MAX_LINE: usize = 96;
-
-/// The length of the line `end`, with its line feed.
-const END_LEN: usize = 4;
 
 /// Reads until the buffer is full or the input ends, and returns how many bytes were read.
 pub(crate) fn fill_buffer<R: Input>(input: &mut R, buffer: &mut [u8]) -> Result<usize, BundleFault>
@@ -152,7 +146,7 @@ fn read_end<R: Input>(input: &mut R, room: usize) -> Result<(), BundleFault>
     ensures faults { IfErr result IsInputFault }
     ensures failures { R.failed input.new ≡ failures_after is_read result (R.failed input.old) }
 {
-    if room < END_LEN {
+    if room < END_LINE.len() {
         return Err(BundleFault::TooLarge);
     }
     match next_byte(input)? {

@@ -50,7 +50,7 @@ impl fmt::Display for At {
     }
 }
 
-/// What is wrong with a certificate.
+/// What is wrong with a certificate. The number in front of each never changes.
 #[derive(Clone, Copy, Debug, PartialEq, Eq)]
 pub enum CertFaultKind {
     /// (1) The text is no UTF-8 or no JSON (`top`).

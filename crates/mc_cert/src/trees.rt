@@ -79,6 +79,7 @@ impl Trees {
         ensures denotes { IfOk result (λ text. length (string_bytes text) ≤ max_text →
             DenotesCertificate topology.now (string_bytes text) self.now) }
     {
+        // This brings the topology's rules into the proof: its limits follow from them.
         let _rules = topology.flows();
         let mut text = String::from_str(alloc, r#"{"flows":["#)?;
         push_flows(&mut text, topology, &self.numbers)?;

@@ -15,6 +15,7 @@ pub enum Verdict {
 }
 
 /// The first condition that a list of entries breaks, with its place.
+/// The number in front of each never changes.
 #[derive(Clone, Copy, Debug, PartialEq, Eq)]
 pub enum Reason {
     /// (1) Two entries name the LAN.

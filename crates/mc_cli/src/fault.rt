@@ -9,7 +9,7 @@ use clap::error::ErrorKind;
 use std::alloc::{AllocError, Global};
 use thiserror::Error;
 
-/// Why a command line is refused.
+/// Why a command line is refused. The number in front of each never changes.
 #[derive(Debug, Drop, Error)]
 pub enum WordsFault {
     /// (1) The words ask for no task, or for clap's help. The text explains the usage.

@@ -86,6 +86,7 @@ fn also_missed(alloc: Global, flight: &Flight<'_>, missed: LanNo) -> Result<Vec<
         flight.now.flight.carried missed) }
 {
     let view = flight.flow_view();
+    // This brings the topology's rules into the proof: its limits follow from them.
     let _rules = view.topology();
     let mut marks = [false; MAX_LANS];
     mark_lans(&mut marks, flight.copies());

@@ -11,7 +11,7 @@ use mc_topology::TopologyFault;
 use std::alloc::{AllocError, AllocFailed};
 use thiserror::Error;
 
-/// Why a file isn't read.
+/// Why a file isn't read. The number in front of each never changes.
 #[derive(Clone, Copy, Debug, PartialEq, Eq, Error)]
 pub enum FileFault {
     /// (1) The file isn't there, or can't be read.
@@ -44,7 +44,7 @@ impl From<ReadFault> for FileFault {
     }
 }
 
-/// Why no bundle is packed.
+/// Why no bundle is packed. The number in front of each never changes.
 #[derive(Clone, Copy, Debug, PartialEq, Eq)]
 pub enum PackFault {
     /// (1) The topology is refused.

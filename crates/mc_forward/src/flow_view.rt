@@ -45,6 +45,7 @@ impl<'d> FlowView<'d> {
         ensures flow { result ≡ record { domain = domain.now; flow = flow } }
         ensures rules { IsFlowOfDomain result }
     {
+        // This brings the domain's rules into the proof: its limits follow from them.
         let _rules = domain.topology();
         FlowView { domain, flow }
     }

@@ -6,6 +6,7 @@ use mc_topology::Topology;
 use thiserror::Error;
 
 /// What is wrong with the parts of a domain, the first fault in this order.
+/// The number in front of each never changes.
 #[derive(Clone, Copy, Debug, PartialEq, Eq, Error)]
 pub enum DomainFault {
     /// (1) There is not one `Tables` for each router, or not one report list for each LAN.

@@ -6,7 +6,7 @@ ghost use Rattle.mc_igmp.specs.ReadingList.{IsMemory};
 use std::alloc::{AllocError, AllocFailed};
 use thiserror::Error;
 
-/// What is wrong with a report list.
+/// What is wrong with a report list. The number in front of each never changes.
 #[derive(Clone, Copy, Debug, PartialEq, Eq)]
 pub enum ListFaultKind {
     /// (1) The line isn't hexadecimal, two digits for each byte.

@@ -33,7 +33,7 @@ pub enum Message<'a> {
     Other(u8),
 }
 
-/// Why bytes are no message.
+/// Why bytes are no message. The number in front of each never changes.
 #[derive(Clone, Copy, Debug, PartialEq, Eq, Error)]
 pub enum MessageFault {
     /// (1) There are fewer than 8 bytes.

@@ -82,7 +82,7 @@ input_of_bundle-Err certified s text own start remaining refused loud =
     ap (map_fault Input) (input_of_bundle-Err_from_read_bundle certified text found.0
     (sym (read_rest-at_start certified s text start) ∙ found.1)) ∙ ap Err (sym found.2)
 
--- a fault that isn't silent is that of a text without a meaning
+-- a fault is a read's or memory's, if any other would prove what is false
 pub IsReadOrMemory-by_contradiction : (own : SourceFault) (P : Type 0) → (¬ IsReadOrMemory own → P) → (P → ⊥)
     → IsReadOrMemory own
 IsReadOrMemory-by_contradiction Read P loud none = inl refl
@@ -156,12 +156,12 @@ ConsumesUpTo-same {b = b} {old = old} all first last =
     subst (λ o. ConsumesUpTo max_input old o) last
     (subst (λ o. ConsumesUpTo max_input o b) first all)
 
--- a clause for each known text, as one for an optional text
+-- a certificate's text is there exactly where its bytes are
 pub is_some-certificate_text : (o : Option (Vec ℕ Global)) → is_some (certificate_text o) ≡ is_some o
 is_some-certificate_text None = refl
 is_some-certificate_text (Some bytes) = refl
 
--- the same of a result
+-- the same of what a call read, where it succeeded
 pub certificate_text-expected : {X : Type 0} (raw : X → Option (Vec ℕ Global)) (certified : Bool)
     (r : Result X SourceFault) → IfOk r (λ x. is_some (raw x) ≡ certified)
     → IfOk r (λ x. is_some (certificate_text (raw x)) ≡ certified)

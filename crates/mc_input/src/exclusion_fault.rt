@@ -10,6 +10,7 @@ use crate::source_fault::SourceFault;
 use std::alloc::{AllocError, AllocFailed};
 
 /// Why no domain is read from a folder with routers excluded.
+/// The number in front of each never changes.
 #[derive(Clone, Copy, Debug, PartialEq, Eq)]
 pub enum ExclusionFault {
     /// (1) The files are refused, the source failed or memory ran out.

@@ -10,6 +10,7 @@ use mc_topology::TopologyFault;
 use std::alloc::{AllocError, AllocFailed};
 
 /// Why a bundle is refused as a domain's: its first fault, in the order of the reading.
+/// The number in front of each never changes.
 #[derive(Clone, Copy, Debug, PartialEq, Eq)]
 pub enum InputFault {
     /// (1) The framing of the bundle is wrong.

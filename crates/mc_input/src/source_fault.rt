@@ -11,7 +11,7 @@ use mc_text::{BundleFault, Memory as NoMemory};
 use std::alloc::{AllocError, AllocFailed};
 
 /// Why no domain is read from a bundle or a folder's files: the first fault, in the order of the
-/// reading.
+/// reading. The number in front of each never changes.
 #[derive(Clone, Copy, Debug, PartialEq, Eq)]
 pub enum SourceFault {
     /// (1) The texts are refused, or memory ran out. A file's fault has the name of the part that it

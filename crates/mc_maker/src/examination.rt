@@ -100,6 +100,7 @@ pub fn make(alloc: Global, domain: &Domain, flow: u32) -> Result<Option<Vec<Reac
     // There are entries exactly if the travels at TTL 255 and at the flow's TTL both find nothing.
     ensures travels { IfOk result (λ made. IffTravelsFindNothing domain.now flow (IsSome made)) }
 {
+    // This brings the domain's rules into the proof: its limits follow from them.
     let _rules = domain.topology();
     match examine(alloc, domain, flow)? {
         Examined::Certified(entries) => Ok(Some(entries)),

@@ -26,6 +26,7 @@ pub(crate) fn serves_all(view: &FlowView<'_>, entries: &[Reached]) -> bool
     ensures some { IsFalse result →
         (entry : Entry) × In entry entries.now × (serves (net_in view.now) entry ≡ false) }
 {
+    // This brings the topology's rules into the proof: its limits follow from them.
     let _rules = view.topology();
     for entry in entries {
         if !serves(view, entry) {

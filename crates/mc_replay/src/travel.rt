@@ -145,6 +145,7 @@ pub fn replay<P: Picker>(
     ensures wrong { IfOk result (ShowsWrongFlow
         (replay_of domain.now flow ttl (P.choices picker.old))) }
 {
+    // This brings the domain's rules into the proof: its limits follow from them.
     let _rules = domain.topology();
     let ended = replay_to_end(alloc, domain, flow, ttl, picker)?;
     Ok(ended.travel)

@@ -15,7 +15,7 @@ use mc_text::{BundleFault, Memory as NoMemory, PartName, ReadFault};
 use mc_topology::TopologyFault;
 use thiserror::Error;
 
-/// Why a run gives no answer.
+/// Why a run gives no answer. The number in front of each never changes.
 #[derive(Clone, Copy, Debug, PartialEq, Eq, Error)]
 pub enum RunFault {
     /// (1) The framing of the bundle is wrong.

@@ -7,7 +7,7 @@ ghost use Rattle.mc_tables.specs.Steps.{out_of_memory, fault_at};
 use std::alloc::{AllocError, AllocFailed};
 use thiserror::Error;
 
-/// What is wrong with a table.
+/// What is wrong with a table. The number in front of each never changes.
 #[derive(Clone, Copy, Debug, PartialEq, Eq)]
 pub enum TableFaultKind {
     /// (1) The first line's first word isn't the table's, or the text is empty.

@@ -136,6 +136,7 @@ impl<'t> TokenRows for OwnEntriesRows<'t> {
         number: usize,
         reader: &mut TokenReader<'_>,
     ) -> Result<Vec<Reached>, NotRead> {
+        // This brings the topology's rules into the proof: its limits follow from them.
         let _rules = self.topology.flows();
         flow_value(self.alloc, self.topology, number as u32, reader)
     }

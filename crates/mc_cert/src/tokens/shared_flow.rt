@@ -131,6 +131,7 @@ impl<'t> TokenRows for TreeNumberRows<'t> {
     ghost denotes = { λ rows. DenotesNumber rows.topology.now };
 
     fn read_row(&self, number: usize, reader: &mut TokenReader<'_>) -> Result<u32, NotRead> {
+        // This brings the topology's rules into the proof: its limits follow from them.
         let _rules = self.topology.flows();
         tree_number_value(self.alloc, self.topology, number as u32, reader)
     }

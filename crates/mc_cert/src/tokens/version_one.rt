@@ -76,6 +76,7 @@ impl VersionOneFields {
             (option_map (λ flows. map (λ entries. entries.items) flows.items) self.flows) members →
             IsVersionOne topology.now members certificate) }
     {
+        // This brings the topology's rules into the proof: its limits follow from them.
         let _rules = topology.flows();
         match (self.version, self.flows) {
             (Some(_), Some(flows)) => Ok(Certificate::from_flows(flows)),

@@ -151,6 +151,7 @@ impl VersionTwoFields {
             (option_map (λ trees. map (λ entries. entries.items) trees.items) self.trees) members →
             IsVersionTwo topology.now members certificate) }
     {
+        // This brings the topology's rules into the proof: its limits follow from them.
         let _rules = topology.flows();
         match (self.version, self.flows, self.trees) {
             (Some(_version), Some(numbers), Some(trees)) => {

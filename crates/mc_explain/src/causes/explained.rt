@@ -200,6 +200,7 @@ fn explain_finding(
     ensures ok { IfOk result (λ causes. ExplainsFinding (net_in view.now) ended.now.flight.flight
         (finding_value ended.now.travel.finding) causes.items) }
 {
+    // This brings the topology's rules into the proof: its limits follow from them.
     let _rules = view.topology();
     match ended.travel.finding {
         Finding::Duplicate(lan) => explain_duplicate(alloc, view, &ended.flight, lan),

@@ -84,6 +84,7 @@ fn search_one_lan(
     ensures visited_lans { OnOk result (IsVisitedLans (length lan_probe.now.view.now.domain.topology.lans)
         visited_lans.new) }
 {
+    // This brings the topology's rules into the proof: its limits follow from them.
     let _rules = lan_probe.view.topology();
     let before = lines_so_far.len();
     lan_probe.add_lan_lines(lines_so_far, lan)?;

@@ -4,6 +4,7 @@ use std::fmt;
 use thiserror::Error;
 
 /// Why a bundle could not be read or written: the first fault from the front.
+/// The number in front of each never changes.
 #[derive(Clone, Copy, Debug, PartialEq, Eq, Error)]
 pub enum BundleFault {
     /// (1) The first line isn't `mcaudit bundle 1`.

@@ -1,6 +1,6 @@
 -- The files of a folder, and what a source of files answers when one is asked for.
 use Rattle.std.specs.Prelude.{◌≡◌, ℕ, ◌<◌, Bool, true, false, List, find, length}
-use Rattle.std.specs.Prelude.{Option, option_map, Some, None, IfSome, Result, Ok, Err, ⊤}
+use Rattle.std.specs.Prelude.{Option, option_map, Some, None, Result, Ok, Err, ⊤}
 use Rattle.std.specs.Str.{bytes_eq}
 use Rattle.mc_text.specs.Steps.{Gives}
 use Rattle.mc_text.specs.declared.io.input_bytes.ReadFault.{ReadFault}
@@ -39,21 +39,6 @@ abbrev pub GivesFromContents : {X Y E : Type 0} → (Silent : E → Type 0) → 
     → Result X E → (List FileText → Result Y E) → Type 0
 GivesFromContents Silent contents view result step =
     (files : List FileText) → contents ≡ Some files → Gives Silent view result (step files)
-
--- a path that is known stays the same
-abbrev pub StaysKnown : Option (List ℕ) → Option (List ℕ) → Type 0
-StaysKnown old new = IfSome old (λ path. new ≡ Some path)
-
--- what contracts see of a source whose files are those of a folder
-pub record FolderState : Type 0 where
-  -- the folder's path, which is empty for the current directory
-  pub folder : List ℕ
-  -- that path without links, as it was when the first file was asked for, once one was
-  pub real_path : Option (List ℕ)
-  -- whether a file is open
-  pub is_open : Bool
-  -- how many calls failed
-  pub failed : ℕ
 
 -- a fault of reading, as one of a file
 abbrev pub from_read_fault : ReadFault → FileFault

@@ -1,5 +1,6 @@
 pub mod PartMismatch
 pub mod FilePart
+pub mod Folder
 pub mod Files
 pub mod Layout
 pub mod Packing

@@ -1,7 +1,8 @@
 //! The files of a folder of the file system.
 
 ghost use Rattle.std.specs.Prelude.{◌≡◌, ◌≢◌, ◌<◌, ◌≤◌, ◌+◌, IfOk, IsSome, None, cond, false, vec_len};
-ghost use Rattle.mc_files.specs.Files.{StaysKnown, is_failure};
+ghost use Rattle.mc_files.specs.Files.{is_failure};
+ghost use Rattle.mc_files.specs.Folder.{StaysKnown};
 
 use crate::fault::FileFault;
 use crate::piece_source::PieceSource;
@@ -32,7 +33,7 @@ pub struct Folder<'a, R: Files> {
 impl<'a, R: Files> Model for Folder<'a, R> {
     ghost use Rattle.std.specs.Prelude.{◌≡◌, is_some, nat_lt, option_map};
     ghost use Rattle.std.specs.Path.{path_buf_bytes};
-    ghost use Rattle.mc_files.specs.Files.{FolderState};
+    ghost use Rattle.mc_files.specs.Folder.{FolderState};
 
     ghost Value = { FolderState };
 

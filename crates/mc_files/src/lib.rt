@@ -13,6 +13,7 @@ mod packed_part;
 mod packing;
 mod piece_source;
 mod slot;
+mod slot_order;
 mod source;
 mod unread;
 
@@ -22,6 +23,7 @@ pub use folder::Folder;
 pub use numbered_slot::NumberedSlot;
 pub use packing::pack;
 pub use piece_source::PieceSource;
-pub use slot::{Slot, slot_at, slot_count};
+pub use slot::Slot;
+pub use slot_order::{slot_at, slot_count};
 pub use source::FileSource;
 pub use unread::Unread;

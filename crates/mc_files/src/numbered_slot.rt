@@ -5,7 +5,8 @@ ghost use Rattle.mc_files.specs.Layout.{cache_slot, first_lan_number, numbered_s
 ghost use Rattle.mc_files.specs.Layout.{vif_slot};
 ghost use Rattle.mc_topology.specs.SectionRows.{RouterRow};
 
-use crate::slot::{Slot, first_lan_slot_number};
+use crate::slot::Slot;
+use crate::slot_order::first_lan_slot_number;
 use mc_topology::{LanNo, RouterNo, Topology};
 use std::marker::Model;
 

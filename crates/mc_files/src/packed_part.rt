@@ -12,7 +12,8 @@ ghost use Rattle.mc_files.specs.PackRun.{IsIoOrMemory, is_read};
 
 use crate::fault::PackFault;
 use crate::file_part::{FilePart, part_of_file};
-use crate::slot::{Slot, slot_at, slot_count};
+use crate::slot::Slot;
+use crate::slot_order::{slot_at, slot_count};
 use crate::source::FileSource;
 use mc_text::Part;
 use mc_topology::{Topology, TopologyFault, TopologyFaultKind};

@@ -4,7 +4,8 @@ ghost use Rattle.std.specs.Prelude.{◌≡◌, ◌<◌, ◌≤◌, ◌∷◌, �
 ghost use Rattle.std.specs.Prelude.{IfOk, IfSome, vec_len};
 ghost use Rattle.std.specs.Borrow.{GName};
 ghost use Rattle.mc_text.specs.Device.{failures_after};
-ghost use Rattle.mc_files.specs.Files.{FileText, StaysKnown, file_named, is_failure, IsRead};
+ghost use Rattle.mc_files.specs.Files.{FileText, file_named, is_failure, IsRead};
+ghost use Rattle.mc_files.specs.Folder.{StaysKnown};
 
 use crate::fault::FileFault;
 use std::alloc::Global;

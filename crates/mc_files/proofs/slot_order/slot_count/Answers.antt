@@ -1,6 +1,6 @@
 use Rattle.std.proofs.Common.{true, false, arith}
 use Rattle.mc_files.proofs.SlotLemmas.{length-slots_after_topology}
-use Rattle.mc_files.proofs.slot.slot_count.Goals as goal
+use Rattle.mc_files.proofs.slot_order.slot_count.Goals as goal
 
 -- One slot for the topology, two for each router, one for each LAN, and the certificate's.
 pub returns-then-certified-clause-count : goal.returns-then-certified-clause-count

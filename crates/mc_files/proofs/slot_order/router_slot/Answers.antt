@@ -1,6 +1,6 @@
 use Rattle.std.proofs.Common.{◌/◌, ap, sym, ◌∙◌, Some, arith}
 use Rattle.mc_files.proofs.SlotLemmas.{slice_get-vif_slot, slice_get-cache_slot}
-use Rattle.mc_files.proofs.slot.router_slot.Goals as goal
+use Rattle.mc_files.proofs.slot_order.router_slot.Goals as goal
 
 -- Each router has two slots, so that half of the number is the router; the even one is of its vifs.
 pub returns-then-number-eq0 : goal.returns-then-number-eq0

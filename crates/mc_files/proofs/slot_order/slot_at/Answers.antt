@@ -1,6 +1,6 @@
 use Rattle.std.proofs.Common.{◌-◌, ◌*◌, ap, sym, ◌∙◌, Some, arith}
 use Rattle.mc_files.proofs.SlotLemmas.{router_slot, slots-reports_slot, slots-certificate_slot}
-use Rattle.mc_files.proofs.slot.slot_at.Goals as goal
+use Rattle.mc_files.proofs.slot_order.slot_at.Goals as goal
 
 -- Behind the topology's slot are those of the routers, two of each.
 pub returns-then-number-tables : goal.returns-then-number-tables

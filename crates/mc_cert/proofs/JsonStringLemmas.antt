@@ -1,4 +1,4 @@
--- What strings stand for, byte by byte.
+-- What strings denote, byte by byte.
 use Rattle.std.proofs.Common.{◌≡◌, ℕ, ◌+◌, ◌*◌, ◌<◌, ◌≤◌, Bool, true, false, cond, ◌||◌, ◌==◌, nat_lt}
 use Rattle.std.proofs.Common.{nat_le, List, [], ◌∷◌, ◌++◌}
 use Rattle.std.proofs.Common.{length, take, drop, get_or, Option, Some, None}
@@ -39,7 +39,7 @@ lex-plain x xs is =
     let tests = plain_tests x is in
     string_byte (x == 34) (x == 92) (is_operator x) (is_space x) x xs (λ m. lex m xs) tests.0 tests.1
 
--- and stands for itself
+-- and denotes itself
 content-plain_byte : (x : ℕ) (xs : List ℕ) → is_plain x ≡ true
     → content plain (x ∷ xs) ≡ prepend (x ∷ []) (content plain xs)
 unfolding content
@@ -50,7 +50,7 @@ prepend-prepend : (a b : List ℕ) (r : Option (List ℕ)) → prepend a (prepen
 prepend-prepend a b None = refl
 prepend-prepend a b (Some s) = ap Some (sym (append_assoc a b s))
 
--- of a string these bytes stand for themselves
+-- of a string these bytes denote themselves
 pub record StringSoFar (text : List ℕ) (end : ℕ) : Type 0 where
   pub within : end ≤ length text
   pub content : content plain text ≡ prepend (take end text) (content plain (drop end text))
@@ -63,7 +63,7 @@ take_more end text within =
     let next : end + 1 ≡ suc end = omega arith in
     ap (λ n. take n text) next ∙ take-suc text end 0 within
 
--- one plain byte more stands for itself
+-- one plain byte more denotes itself
 pub StringSoFar-more : (text : List ℕ) (end : ℕ) → StringSoFar text end → end < length text
     → is_plain (get_or text end 0) ≡ true → StringSoFar text (end + 1)
 StringSoFar-more text end old within is =
@@ -90,7 +90,7 @@ StringSoFar-ends text rest end so_far is = (
 
 -- ---- escapes
 
--- a byte as it stands
+-- an unescaped byte
 pub DenotesByte-plain : (x : ℕ) (xs text : List ℕ) → is_plain x ≡ true → text ≡ x ∷ xs → DenotesByte text x xs
 DenotesByte-plain x xs text is begins = record {
   content = ap (content plain) begins ∙ content-plain_byte x xs is;
@@ -150,7 +150,7 @@ code_of x y v w high low =
     sum : digit_value 48 * 4096 + digit_value 48 * 256 + v * 16 + w ≡ v * 16 + w
     sum = omega arith
 
--- a code below 128 stands for one byte, and is no half of a pair
+-- a code below 128 denotes one byte, and is no half of a pair
 content-code : (u : ℕ) (r : Option (List ℕ)) (high : Option (List ℕ)) → u < 128
     → cond (is_high_surrogate u) high (cond (is_low_surrogate u) None (prepend (encode_utf8 u) r))
     ≡ prepend (u ∷ []) r

@@ -1,4 +1,4 @@
--- The lexemes of a text, byte by byte, and the tokens that they give where a reader stands.
+-- The lexemes of a text, byte by byte, and the tokens that they give, by where a reader is.
 use Rattle.std.proofs.Common.{◌≡◌, ℕ, ◌-◌, ◌<◌, ◌≤◌, true, false, ◌||◌, ◌==◌, List}
 use Rattle.std.proofs.Common.{[], ◌∷◌, ◌++◌}
 use Rattle.std.proofs.Common.{length, take, drop, get_or, Some, None, decimal, ◌⊎◌, inl, inr}

@@ -2,21 +2,20 @@
 //! values. Every other text is left to the reader of JSON's tokens.
 
 ghost use Rattle.std.specs.Prelude.{◌≡◌, ◌++◌, ◌<◌, ◌≤◌, ◌⊎◌, [], ◌∷◌, true, All, length, vec_len};
-ghost use Rattle.std.specs.Prelude.{map, codes, decimal, IfSome, IfOk};
+ghost use Rattle.std.specs.Prelude.{map, IfSome, IfOk};
 ghost use Rattle.mc_text.specs.Addr.{dotted};
-ghost use Rattle.mc_topology.specs.Topology.{lan_name, router_name};
-ghost use Rattle.mc_cert.specs.CertificateText.{listed, forwarder_text};
-ghost use Rattle.mc_cert.specs.CertificateText.{entry_text, tree_text, flow_text, flow_texts};
+ghost use Rattle.mc_cert.specs.CertificateText.{flow_text, flow_texts, listed, tree_text};
 ghost use Rattle.mc_cert.specs.Denotation.{DenotesCertificate};
-ghost use Rattle.mc_cert.specs.Writable.{IsWritableEntryFor, IsWritableTreeFor};
+ghost use Rattle.mc_cert.specs.Writable.{IsWritableTreeFor};
 
 use crate::certificate::Certificate;
+use crate::compact_entry::read_entry;
 use crate::entry::MAX_ENTRIES;
 use crate::pieces::{after_prefix, read_number, read_until_quote};
 use crate::reached::Reached;
 use crate::version_two::MAX_TREES;
 use mc_text::{Addr, MAX_TEXT};
-use mc_topology::{Flow, LanNo, RouterNo, Topology};
+use mc_topology::{Flow, Topology};
 use std::alloc::{AllocError, AllocFailed, Global};
 
 /// The text isn't in the form that `Certificate::to_json` writes, or memory ran out.
@@ -35,27 +34,6 @@ impl<T: Drop> From<AllocFailed<T>> for NotCompact {
     }
 }
 
-/// Reads a LAN, by its name up to the next quotation mark; the rest begins with that.
-fn read_lan<'a>(topology: &Topology, text: &'a [u8]) -> Option<(LanNo, &'a [u8])>
-    ensures text { IfSome result (λ parsed. text.now ≡ lan_name topology.now parsed.0 ++ parsed.1.now) }
-    ensures listed { IfSome result (λ parsed. parsed.0 < length topology.now.lans) }
-{
-    let (name, rest) = read_until_quote(text)?;
-    let lan = topology.lan_no(name)?;
-    Some((lan, rest))
-}
-
-/// Reads a router, by its name up to the next quotation mark; the rest begins with that.
-fn read_router<'a>(topology: &Topology, text: &'a [u8]) -> Option<(RouterNo, &'a [u8])>
-    ensures text { IfSome result (λ parsed. text.now ≡ router_name topology.now parsed.0
-        ++ parsed.1.now) }
-    ensures listed { IfSome result (λ parsed. parsed.0 < length topology.now.routers) }
-{
-    let (name, rest) = read_until_quote(text)?;
-    let router = topology.router_no(name)?;
-    Some((router, rest))
-}
-
 /// The rest of the text after this address at its start; it begins with a quotation mark.
 fn after_address<'a>(text: &'a [u8], address: Addr) -> Option<&'a [u8]>
     ensures { IfSome result (λ rest. text.now ≡ dotted address ++ rest.now) }
@@ -66,72 +44,6 @@ fn after_address<'a>(text: &'a [u8], address: Addr) -> Option<&'a [u8]>
         return None;
     }
     Some(rest)
-}
-
-/// Reads a need and a rank with their keys, and gives the rest of the text.
-fn read_numbers(text: &[u8]) -> Option<(u8, u8, &[u8])>
-    ensures text { IfSome result (λ parsed. text.now ≡
-        (codes "\",\"need\":" ++ decimal parsed.0 ++ codes ",\"rank\":" ++ decimal parsed.1)
-        ++ parsed.2.now) }
-    ensures need { IfSome result (λ parsed. 1 ≤ parsed.0) }
-{
-    let rest = after_prefix(text, b"\",\"need\":")?;
-    let (need, rest) = read_number(rest)?;
-    let rest = after_prefix(rest, b",\"rank\":")?;
-    let (rank, rest) = read_number(rest)?;
-    if need == 0 || need > 255 || rank > 255 {
-        return None;
-    }
-    Some((need as u8, rank as u8, rest))
-}
-
-/// Reads the interface that sends with its keys, if the text begins with them, and gives the rest.
-fn read_forwarder<'a>(
-    topology: &Topology,
-    text: &'a [u8],
-) -> Option<(Option<(RouterNo, u8)>, &'a [u8])>
-    ensures text { IfSome result (λ parsed. text.now ≡ forwarder_text topology.now parsed.0
-        ++ parsed.1.now) }
-    ensures listed { IfSome result (λ parsed.
-        IfSome parsed.0 (λ interface. interface.0 < length topology.now.routers)) }
-    ensures vif { IfSome result (λ parsed. IfSome parsed.0 (λ interface. interface.1 ≤ 31)) }
-{
-    let Some(named) = after_prefix(text, b",\"router\":\"") else {
-        return Some((None, text));
-    };
-    let Some((router, rest)) = read_router(topology, named) else {
-        return None;
-    };
-    let rest = after_prefix(rest, b"\",\"vif\":")?;
-    let (vif, rest) = read_number(rest)?;
-    if vif > 31 {
-        return None;
-    }
-    Some((Some((router, vif as u8)), rest))
-}
-
-/// Reads an entry, and gives the rest of the text.
-fn read_entry<'a>(topology: &Topology, text: &'a [u8]) -> Option<(Reached, &'a [u8])>
-    ensures text { IfSome result (λ parsed. text.now ≡ entry_text topology.now parsed.0
-        ++ parsed.1.now) }
-    ensures writable { IfSome result (λ parsed. IsWritableEntryFor topology.now parsed.0) }
-{
-    let rest = after_prefix(text, b"{\"lan\":\"")?;
-    let Some((lan, rest)) = read_lan(topology, rest) else {
-        return None;
-    };
-    let (need, rank, rest) = read_numbers(rest)?;
-    let Some((forwarder, rest)) = read_forwarder(topology, rest) else {
-        return None;
-    };
-    let rest = after_prefix(rest, b"}")?;
-    let entry = Reached {
-        lan,
-        rank,
-        need,
-        forwarder,
-    };
-    Some((entry, rest))
 }
 
 /// Reads a list of entries, and gives the rest of the text.
@@ -272,7 +184,6 @@ pub(crate) fn compact_certificate(
     if text.len() > MAX_TEXT {
         return Err(NotCompact);
     }
-    // This brings the topology's rules into the proof: its limits follow from them.
     let _rules = topology.flows();
     let Some(rest) = after_prefix(text, b"{\"flows\":[") else {
         return Err(NotCompact);

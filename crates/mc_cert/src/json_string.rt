@@ -1,4 +1,4 @@
-//! Reads strings of JSON whose opening quotation mark has been passed. An escape is read where it stands for
+//! Reads strings of JSON whose opening quotation mark has been passed. An escape is read where it denotes
 //! an ASCII character: no name, address or key of a certificate has another one.
 
 ghost use Rattle.std.specs.Prelude.{◌≡◌, ◌∷◌, Some, IfSome, IfOk};
@@ -11,17 +11,17 @@ use crate::pieces::after_prefix;
 use crate::tokens::NotRead;
 use std::alloc::Global;
 
-/// What a string stands for.
+/// What a string denotes.
 #[derive(Drop)]
 pub(crate) enum JsonText<'a> {
     /// The bytes of a string without escapes.
     Plain(&'a [u8]),
-    /// The bytes that a string with escapes stands for.
+    /// The bytes that a string with escapes denotes.
     Unescaped(Vec<u8>),
 }
 
 impl<'a> JsonText<'a> {
-    /// The bytes that the string stands for.
+    /// The bytes that the string denotes.
     pub(crate) fn as_bytes(&self) -> &[u8]
         ensures { result.now ≡ text_bytes self.now }
     {
@@ -32,14 +32,14 @@ impl<'a> JsonText<'a> {
     }
 }
 
-/// Whether a string has this byte as it stands.
+/// Whether a string has this byte unescaped.
 fn is_plain(byte: u8) -> bool
     ensures { result ≡ is_plain byte }
 {
     byte != b'"' && byte != b'\\' && byte >= b' '
 }
 
-/// The byte that a backslash and this letter stand for.
+/// The byte that a backslash and this letter denote.
 fn short_escape(letter: u8) -> Option<u8>
     ensures { IfSome result (λ byte. short_escape letter ≡ Some byte) }
 {

@@ -4,6 +4,7 @@
 
 mod certificate;
 mod compact;
+mod compact_entry;
 mod distinct;
 mod entry;
 mod fault;

@@ -19,7 +19,7 @@ use crate::tokens::NotRead;
 use std::alloc::Global;
 use std::marker::Model;
 
-/// Where a reader stands.
+/// Where a reader is in a text.
 #[derive(Clone, Copy, Drop)]
 pub(crate) enum Place {
     /// At the start of the text, of a list or of an object, or after a key.
@@ -84,7 +84,7 @@ fn skip_space(text: &[u8]) -> &[u8]
     rest
 }
 
-/// The rest of the text after this byte, before which white space may stand.
+/// The rest of the text after this byte, which white space may precede.
 fn after_byte(text: &[u8], byte: u8) -> Option<&[u8]>
     ensures { IfSome result (λ rest. BeginsWith byte text.now rest.now) }
 {

@@ -1,4 +1,4 @@
-//! Reads texts and numbers, and what they stand for.
+//! Reads texts and numbers, and what they denote.
 
 ghost use Rattle.std.specs.Prelude.{◌≡◌, ◌≤◌, IfOk, IfSome};
 ghost use Rattle.mc_cert.specs.JsonString.{text_bytes};

@@ -3,7 +3,7 @@ use Rattle.json.specs.Run.{is_plain}
 use Rattle.mc_cert.proofs.JsonStringLemmas.{DenotesByte-plain, DenotesByte-short}
 use Rattle.mc_cert.proofs.json_string.read_byte.Goals as goal
 
--- A byte that isn't escaped stands for itself.
+-- A byte that isn't escaped denotes itself.
 pub returns-then-is_plain : goal.returns-then-is_plain
 returns-then-is_plain c =
     let x = c.in_ok-first.first.now in
@@ -11,7 +11,7 @@ returns-then-is_plain c =
     let plain : is_plain x ≡ true = grind arith in
     DenotesByte-plain x rest c.args.text.now plain c.in_ok-first.ensures.cases.0
 
--- A backslash and this letter stand for the byte.
+-- A backslash and this letter denote the byte.
 pub returns : goal.returns
 returns c =
     let x = c.in_ok-letter.letter.now in

@@ -2,7 +2,7 @@ use Rattle.std.proofs.Common.{length}
 use Rattle.mc_cert.proofs.JsonStringLemmas.{UnescapedSoFar}
 use Rattle.mc_cert.proofs.json_string.read_escaped.Given as goal
 
--- The string stands for the bytes so far and for what its rest stands for.
+-- The string denotes the bytes so far and what its rest denotes.
 abbrev pub invariant-loop-byte : goal.invariant-loop-byte
 invariant-loop-byte l = UnescapedSoFar l.text l.bytes.items l.rest
 

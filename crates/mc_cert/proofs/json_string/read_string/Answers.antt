@@ -4,7 +4,7 @@ use Rattle.mc_cert.proofs.JsonStringLemmas.{StringSoFar-more, StringSoFar-ends}
 use Rattle.mc_cert.proofs.TokenReaderLemmas.{split_first}
 use Rattle.mc_cert.proofs.json_string.read_string.Goals as goal
 
--- One more byte stands for itself.
+-- One more byte denotes itself.
 pub loop-end-preserved : goal.loop-end-preserved
 loop-end-preserved c =
     let text = c.args.text.now in
@@ -12,7 +12,7 @@ loop-end-preserved c =
     let plain : is_plain (get_or text c.loop-end.end 0) ≡ true = grind arith in
     StringSoFar-more text c.loop-end.end c.loop-end.invariant within plain
 
--- Up to the closing quotation mark each byte stands for itself.
+-- Up to the closing quotation mark each byte denotes itself.
 pub returns-in-34-clause-content : goal.returns-in-34-clause-content
 returns-in-34-clause-content c =
     let text = c.args.text.now in

@@ -1,5 +1,5 @@
 use Rattle.mc_cert.proofs.PieceLemmas.{need_and_rank-pieces}
-use Rattle.mc_cert.proofs.compact.read_numbers.Goals as goal
+use Rattle.mc_cert.proofs.compact_entry.read_numbers.Goals as goal
 
 -- The four pieces that were read are the two keys, each with its number, in the order of the text.
 pub returns-clause-text : goal.returns-clause-text

@@ -1,0 +1,97 @@
+//! Reads the entries of a tree in the form that `Certificate::to_json` writes.
+
+ghost use Rattle.std.specs.Prelude.{◌≡◌, ◌++◌, ◌<◌, ◌≤◌, IfSome, codes, decimal, length};
+ghost use Rattle.mc_topology.specs.Topology.{lan_name, router_name};
+ghost use Rattle.mc_cert.specs.CertificateText.{entry_text, forwarder_text};
+ghost use Rattle.mc_cert.specs.Writable.{IsWritableEntryFor};
+
+use crate::pieces::{after_prefix, read_number, read_until_quote};
+use crate::reached::Reached;
+use mc_topology::{LanNo, RouterNo, Topology};
+
+/// Reads a LAN, by its name up to the next quotation mark; the rest begins with that.
+fn read_lan<'a>(topology: &Topology, text: &'a [u8]) -> Option<(LanNo, &'a [u8])>
+    ensures text { IfSome result (λ parsed. text.now ≡ lan_name topology.now parsed.0 ++ parsed.1.now) }
+    ensures listed { IfSome result (λ parsed. parsed.0 < length topology.now.lans) }
+{
+    let (name, rest) = read_until_quote(text)?;
+    let lan = topology.lan_no(name)?;
+    Some((lan, rest))
+}
+
+/// Reads a router, by its name up to the next quotation mark; the rest begins with that.
+fn read_router<'a>(topology: &Topology, text: &'a [u8]) -> Option<(RouterNo, &'a [u8])>
+    ensures text { IfSome result (λ parsed. text.now ≡ router_name topology.now parsed.0
+        ++ parsed.1.now) }
+    ensures listed { IfSome result (λ parsed. parsed.0 < length topology.now.routers) }
+{
+    let (name, rest) = read_until_quote(text)?;
+    let router = topology.router_no(name)?;
+    Some((router, rest))
+}
+
+/// Reads a need and a rank with their keys, and gives the rest of the text.
+fn read_numbers(text: &[u8]) -> Option<(u8, u8, &[u8])>
+    ensures text { IfSome result (λ parsed. text.now ≡
+        (codes "\",\"need\":" ++ decimal parsed.0 ++ codes ",\"rank\":" ++ decimal parsed.1)
+        ++ parsed.2.now) }
+    ensures need { IfSome result (λ parsed. 1 ≤ parsed.0) }
+{
+    let rest = after_prefix(text, b"\",\"need\":")?;
+    let (need, rest) = read_number(rest)?;
+    let rest = after_prefix(rest, b",\"rank\":")?;
+    let (rank, rest) = read_number(rest)?;
+    if need == 0 || need > 255 || rank > 255 {
+        return None;
+    }
+    Some((need as u8, rank as u8, rest))
+}
+
+/// Reads the interface that sends with its keys, if the text begins with them, and gives the rest.
+fn read_forwarder<'a>(
+    topology: &Topology,
+    text: &'a [u8],
+) -> Option<(Option<(RouterNo, u8)>, &'a [u8])>
+    ensures text { IfSome result (λ parsed. text.now ≡ forwarder_text topology.now parsed.0
+        ++ parsed.1.now) }
+    ensures listed { IfSome result (λ parsed.
+        IfSome parsed.0 (λ interface. interface.0 < length topology.now.routers)) }
+    ensures vif { IfSome result (λ parsed. IfSome parsed.0 (λ interface. interface.1 ≤ 31)) }
+{
+    let Some(named) = after_prefix(text, b",\"router\":\"") else {
+        return Some((None, text));
+    };
+    let Some((router, rest)) = read_router(topology, named) else {
+        return None;
+    };
+    let rest = after_prefix(rest, b"\",\"vif\":")?;
+    let (vif, rest) = read_number(rest)?;
+    if vif > 31 {
+        return None;
+    }
+    Some((Some((router, vif as u8)), rest))
+}
+
+/// Reads an entry, and gives the rest of the text.
+pub(crate) fn read_entry<'a>(topology: &Topology, text: &'a [u8]) -> Option<(Reached, &'a [u8])>
+    ensures text { IfSome result (λ parsed. text.now ≡ entry_text topology.now parsed.0
+        ++ parsed.1.now) }
+    ensures writable { IfSome result (λ parsed. IsWritableEntryFor topology.now parsed.0) }
+{
+    let rest = after_prefix(text, b"{\"lan\":\"")?;
+    let Some((lan, rest)) = read_lan(topology, rest) else {
+        return None;
+    };
+    let (need, rank, rest) = read_numbers(rest)?;
+    let Some((forwarder, rest)) = read_forwarder(topology, rest) else {
+        return None;
+    };
+    let rest = after_prefix(rest, b"}")?;
+    let entry = Reached {
+        lan,
+        rank,
+        need,
+        forwarder,
+    };
+    Some((entry, rest))
+}

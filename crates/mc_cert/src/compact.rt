@@ -184,6 +184,7 @@ pub(crate) fn compact_certificate(
     if text.len() > MAX_TEXT {
         return Err(NotCompact);
     }
+    // This brings the topology's rules into the proof: its limits follow from them.
     let _rules = topology.flows();
     let Some(rest) = after_prefix(text, b"{\"flows\":[") else {
         return Err(NotCompact);

@@ -1,9 +1,13 @@
 -- How a sentence is filled, brace by brace; 123 is { and 125 is }.
 use Rattle.std.proofs.Common.{◌≡◌, ℕ, suc, ◌+◌, ◌<◌, Bool, true, false, List, [], ◌∷◌, ◌++◌, length, refl}
 use Rattle.std.proofs.Common.{ap, arith, append_assoc, append-nil, ap₂, sym, ◌∙◌}
-use Rattle.std.specs.Prelude.{◌==◌}
+use Rattle.std.specs.Prelude.{◌==◌, flat_map}
 use Rattle.std.specs.List.{after_first, before_first, position_or_len}
-use Rattle.mc_lines.specs.Filled.{filled, filled_from_key}
+use Rattle.mc_lines.specs.Sentences.{filled, piece_text, pieces_from_key}
+
+-- a sentence filled from within a key on, of which these bytes came before
+abbrev filled_from_key : (text_of : List ℕ → List ℕ) → (key sentence : List ℕ) → List ℕ
+filled_from_key text_of key sentence = flat_map (piece_text text_of) (pieces_from_key key sentence)
 
 -- ---- words up to a brace, or to the end
 

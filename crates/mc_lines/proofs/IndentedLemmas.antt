@@ -21,10 +21,10 @@ use Rattle.mc_lines.specs.ExplanationText.{causes_text, context_of, deeper_cause
 use Rattle.mc_lines.specs.ExplanationText.{more_lines_text}
 use Rattle.mc_lines.specs.ExplanationText.{search_text}
 use Rattle.mc_lines.specs.Filled.{deeper_line_text, has_well_formed_sentences, indented_line}
-use Rattle.mc_lines.specs.Filled.{indented_sentence, is_well_formed, line_text}
-use Rattle.mc_lines.specs.Filled.{sentence_text}
+use Rattle.mc_lines.specs.Filled.{indented_sentence, line_text, sentence_text}
 use Rattle.mc_lines.specs.FlowContext.{FlowContext}
 use Rattle.mc_lines.specs.Lines.{FactValue, Line}
+use Rattle.mc_lines.specs.Sentences.{is_well_formed}
 use Rattle.mc_lines.specs.SearchLines.{reach_items, reach_lines, shown_items, shown_line}
 use Rattle.mc_lines.proofs.NoFeedLemmas.{no_feed-filled}
 use Rattle.mc_lines.proofs.WellFormedLemmas.{well_formed-cause_lines, well_formed-reach_lines}

@@ -1,3 +1,4 @@
+pub mod PieceLemmas
 pub mod FillLemmas
 pub mod NoFeedLemmas
 pub mod WellFormedLemmas

@@ -1,6 +1,7 @@
 -- The text of a sentence has no line feed, if the sentence is well formed.
-use Rattle.std.proofs.Common.{◌≡◌, ◌==◌, ℕ, Bool, true, false, List, [], ◌∷◌, ◌++◌, refl, sym}
-use Rattle.std.specs.Prelude.{not, codes}
+use Rattle.std.proofs.Common.{◌≡◌, ◌==◌, ℕ, Bool, true, false, List, [], ◌∷◌, refl, sym}
+use Rattle.std.specs.Prelude.{not, codes, flat_map}
+use Rattle.std.specs.List.{list_all}
 use Rattle.std.specs.Str.{bytes_eq}
 use Rattle.std.proofs.lemmas.Bool.{and_parts}
 use Rattle.mc_text.proofs.BundleWords.{HasNoByte}
@@ -16,12 +17,13 @@ use Rattle.mc_explain.proofs.LineFeedLemmas.{no_feed-incoming_text, no_feed-lan_
 use Rattle.mc_explain.proofs.LineFeedLemmas.{number}
 use Rattle.mc_explain.proofs.NameListLemmas.{no_feed-routers_text}
 use Rattle.mc_lines.specs.FactText.{fact_text, flag_text, incoming_number_text}
-use Rattle.mc_lines.specs.Filled.{filled, filled_from_key, is_well_formed, names_fact, text_of_key}
-use Rattle.mc_lines.specs.Filled.{has_key}
+use Rattle.mc_lines.specs.Filled.{text_of_key}
 use Rattle.mc_lines.specs.FlowContext.{FlowContext, flow_of, row_for_flow}
 use Rattle.mc_lines.specs.Lines.{FactValue}
 use Rattle.mc_lines.specs.Lines.FactValue.{Lan, Router, Device, Interface, IncomingDevice, IncomingVif, Row}
 use Rattle.mc_lines.specs.Lines.FactValue.{EverySourceRow, Flag, Number, Routers}
+use Rattle.mc_lines.specs.Sentences.{Piece, filled, is_byte_or_known_key, is_well_formed, piece_text, pieces}
+use Rattle.mc_lines.specs.Sentences.Piece.{Byte, Key, Unclosed}
 
 -- ---- facts
 
@@ -68,47 +70,27 @@ not-is_false : (b : Bool) → not b ≡ true → b ≡ false
 not-is_false true is = sym is
 not-is_false false is = refl
 
--- What follows is filled without a line feed: as words, and after an opening brace.
-record IsFeedless (text_of : List ℕ → List ℕ) (facts : List (List ℕ × FactValue)) (s : List ℕ)
-    : Type 0 where
-  words : is_well_formed facts s ≡ true → HasNoByte 10 (filled text_of s)
-  after_brace : (key : List ℕ) → names_fact facts key s ≡ true
-      → HasNoByte 10 (filled_from_key text_of key s)
+-- a byte of words isn't a line feed, and a key's text has none
+no_feed-piece_text : (text_of : List ℕ → List ℕ) (facts : List (List ℕ × FactValue)) (p : Piece)
+    → ((key : List ℕ) → HasNoByte 10 (text_of key)) → is_byte_or_known_key facts p ≡ true
+    → HasNoByte 10 (piece_text text_of p)
+no_feed-piece_text text_of facts (Byte b) each good = (not-is_false (b == 10) good, tt)
+no_feed-piece_text text_of facts (Key key) each good = each key
+no_feed-piece_text text_of facts (Unclosed rest) each good = tt
 
--- the next byte is one of words, or an opening brace
-no_feed-words : (text_of : List ℕ → List ℕ) (facts : List (List ℕ × FactValue)) (b : ℕ) (bs : List ℕ)
-    (t : Bool) → (b == 123) ≡ t → IsFeedless text_of facts bs
-    → is_well_formed facts (b ∷ bs) ≡ true → HasNoByte 10 (filled text_of (b ∷ bs))
-no_feed-words text_of facts b bs true is more well = rw is (more.after_brace [] (rw is at well))
-no_feed-words text_of facts b bs false is more well =
-    let parts = and_parts (not (b == 10)) (is_well_formed facts bs) (rw is at well) in
-    rw is (not-is_false (b == 10) parts.0, more.words parts.1)
-
--- the next byte is one of a key, or the brace that closes it
-no_feed-after_brace : (text_of : List ℕ → List ℕ) (facts : List (List ℕ × FactValue)) (key : List ℕ) (b : ℕ)
-    (bs : List ℕ) (t : Bool) → (b == 125) ≡ t → ((k : List ℕ) → HasNoByte 10 (text_of k))
-    → IsFeedless text_of facts bs → names_fact facts key (b ∷ bs) ≡ true
-    → HasNoByte 10 (filled_from_key text_of key (b ∷ bs))
-no_feed-after_brace text_of facts key b bs true is each more well =
-    let parts = and_parts (has_key facts key) (is_well_formed facts bs) (rw is at well) in
-    rw is (no_feed-append (text_of key) (filled text_of bs) (each key) (more.words parts.1))
-no_feed-after_brace text_of facts key b bs false is each more well =
-    rw is (more.after_brace (key ++ b ∷ []) (rw is at well))
-
--- so it is for each text
-is_feedless : (text_of : List ℕ → List ℕ) (facts : List (List ℕ × FactValue)) (s : List ℕ)
-    → ((k : List ℕ) → HasNoByte 10 (text_of k)) → IsFeedless text_of facts s
-is_feedless text_of facts [] each = record { words = λ well. tt; after_brace = λ key well. tt }
-is_feedless text_of facts (b ∷ bs) each =
-    let more = is_feedless text_of facts bs each in
-    record {
-      words = no_feed-words text_of facts b bs (b == 123) refl more;
-      after_brace = λ key. no_feed-after_brace text_of facts key b bs (b == 125) refl each more;
-    }
+-- so the text of such pieces has none
+no_feed-pieces : (text_of : List ℕ → List ℕ) (facts : List (List ℕ × FactValue)) (ps : List Piece)
+    → ((key : List ℕ) → HasNoByte 10 (text_of key)) → list_all (is_byte_or_known_key facts) ps ≡ true
+    → HasNoByte 10 (flat_map (piece_text text_of) ps)
+no_feed-pieces text_of facts [] each good = tt
+no_feed-pieces text_of facts (p ∷ ps) each good =
+    let parts = and_parts (is_byte_or_known_key facts p) (list_all (is_byte_or_known_key facts) ps) good in
+    no_feed-append (piece_text text_of p) (flat_map (piece_text text_of) ps)
+    (no_feed-piece_text text_of facts p each parts.0) (no_feed-pieces text_of facts ps each parts.1)
 
 -- a well-formed sentence with its facts
 pub no_feed-filled : (c : FlowContext) (facts : List (List ℕ × FactValue)) (s : List ℕ)
     → IsValidTopology c.domain.topology → is_well_formed facts s ≡ true
     → HasNoByte 10 (filled (text_of_key c facts) s)
 no_feed-filled c facts s ok well =
-    (is_feedless (text_of_key c facts) facts s (λ key. no_feed-text_of_key c facts key ok)).words well
+    no_feed-pieces (text_of_key c facts) facts (pieces s) (λ key. no_feed-text_of_key c facts key ok) well

@@ -1,11 +1,12 @@
--- The text of a line (Lines): its sentences, each with the texts of the line's facts in place of their keys.
-use Rattle.std.specs.Prelude.{ℕ, ◌==◌, ◌&&◌, not, Bool, true, false, List, [], ◌∷◌, ◌++◌, codes, flat_map}
-use Rattle.std.specs.Prelude.{if◌then◌else◌}
+-- The text of a line (Lines): its sentences (Sentences), with the texts of the line's facts in place of their
+-- keys.
+use Rattle.std.specs.Prelude.{ℕ, Bool, List, [], ◌∷◌, ◌++◌, codes, flat_map, if◌then◌else◌}
 use Rattle.std.specs.List.{list_all}
 use Rattle.std.specs.Str.{bytes_eq}
 use Rattle.mc_lines.specs.FactText.{fact_text}
 use Rattle.mc_lines.specs.FlowContext.{FlowContext}
 use Rattle.mc_lines.specs.Lines.{FactValue, Line}
+use Rattle.mc_lines.specs.Sentences.{filled, is_well_formed}
 
 -- ---- a sentence
 
@@ -14,21 +15,13 @@ abbrev pub text_of_key : FlowContext → List (List ℕ × FactValue) → (key :
 text_of_key c [] key = []
 text_of_key c (f ∷ fs) key = if bytes_eq f.0 key then fact_text c f.1 else text_of_key c fs key
 
--- a sentence in which each `{key}` is replaced by the text of the key
-abbrev mutual
-  pub filled : (List ℕ → List ℕ) → (sentence : List ℕ) → List ℕ
-  filled text_of [] = []
-  filled text_of (b ∷ bs) = if b == 123 then filled_from_key text_of [] bs else (b ∷ filled text_of bs)
-
-  -- the text from within a key on, of which these bytes came before
-  pub filled_from_key : (List ℕ → List ℕ) → (key sentence : List ℕ) → List ℕ
-  filled_from_key text_of key [] = []
-  filled_from_key text_of key (b ∷ bs) =
-      if b == 125 then (text_of key ++ filled text_of bs) else filled_from_key text_of (key ++ b ∷ []) bs
-
 -- a sentence with the texts of these facts in place of their keys
 abbrev pub sentence_text : FlowContext → List (List ℕ × FactValue) → (sentence : List ℕ) → List ℕ
 sentence_text c facts sentence = filled (text_of_key c facts) sentence
+
+-- whether each sentence of a line is well formed
+abbrev pub has_well_formed_sentences : Line → Bool
+has_well_formed_sentences l = list_all (is_well_formed l.facts) l.sentences
 
 -- ---- a line as lines of text
 
@@ -59,29 +52,3 @@ sentence_after_feed c facts sentence = codes "\n" ++ sentence_text c facts sente
 abbrev pub joined_sentences : FlowContext → List (List ℕ × FactValue) → List (List ℕ) → List ℕ
 joined_sentences c facts [] = []
 joined_sentences c facts (s ∷ ss) = sentence_text c facts s ++ flat_map (sentence_after_feed c facts) ss
-
--- ---- sentences that are well formed
-
--- whether one of the facts has this key
-abbrev pub has_key : List (List ℕ × FactValue) → (key : List ℕ) → Bool
-has_key [] key = false
-has_key (f ∷ fs) key = if bytes_eq f.0 key then true else has_key fs key
-
--- whether a sentence has no line feed outside of keys, each opening brace in it is closed, and each key is
--- that of a fact
-abbrev mutual
-  pub is_well_formed : List (List ℕ × FactValue) → (sentence : List ℕ) → Bool
-  is_well_formed facts [] = true
-  is_well_formed facts (b ∷ bs) =
-      if b == 123 then names_fact facts [] bs else (not (b == 10) && is_well_formed facts bs)
-
-  -- whether a sentence is so from within a key on, of which these bytes came before
-  pub names_fact : List (List ℕ × FactValue) → (key sentence : List ℕ) → Bool
-  names_fact facts key [] = false
-  names_fact facts key (b ∷ bs) =
-      if b == 125 then (has_key facts key && is_well_formed facts bs)
-      else names_fact facts (key ++ b ∷ []) bs
-
--- whether each sentence of a line is well formed
-abbrev pub has_well_formed_sentences : Line → Bool
-has_well_formed_sentences l = list_all (is_well_formed l.facts) l.sentences

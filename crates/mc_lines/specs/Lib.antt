@@ -2,6 +2,7 @@ pub mod FlowContext
 pub mod Lines
 pub mod GivenLines
 pub mod FactText
+pub mod Sentences
 pub mod Filled
 pub mod CauseLines
 pub mod SearchLines

@@ -1,6 +1,6 @@
 //! Theorems about the sentences of an explanation.
 
-ghost use Rattle.std.specs.Prelude.{◌≡◌, ◌++◌, ◌∷◌, ℕ, List, [], codes, decimal, true};
+ghost use Rattle.std.specs.Prelude.{◌≡◌, ◌++◌, ◌∷◌, ℕ, List, [], codes, decimal, flat_map, true};
 ghost use Rattle.std.specs.List.{list_all};
 ghost use Rattle.mc_tables.specs.Summary.{SummaryValue};
 ghost use Rattle.mc_topology.specs.Topology.{IsValidTopology, lan_name, router_name};
@@ -16,29 +16,32 @@ ghost use Rattle.mc_lines.specs.Filled.{has_well_formed_sentences, joined_senten
 ghost use Rattle.mc_lines.specs.FlowContext.{FlowContext};
 ghost use Rattle.mc_lines.specs.Lines.{FactValue, Line, line};
 ghost use Rattle.mc_lines.specs.SearchLines.{reach_lines, shown_line};
+ghost use Rattle.mc_lines.specs.Sentences.{piece_spelling, pieces};
 
 /// Each line of an explanation begins with two spaces, whatever the names of LANs, routers and devices
 /// are.
 pub fn explained_lines_begin_with_two_spaces()
-    ensures causes { (domain : DomainFacts) (summary : List SummaryValue) (flow : ℕ)
-        (causes : List Cause) →
+    ensures causes { (domain : DomainFacts) (summary : List SummaryValue) (flow : ℕ) (causes : List Cause) →
         IsValidTopology domain.topology → AreIndented (causes_text domain summary flow causes) }
-    ensures deeper { (domain : DomainFacts) (summary : List SummaryValue) (flow : ℕ)
-        (causes : List Cause) →
+    ensures deeper { (domain : DomainFacts) (summary : List SummaryValue) (flow : ℕ) (causes : List Cause) →
         IsValidTopology domain.topology → AreIndented (deeper_causes_text domain summary flow causes) }
-    ensures search { (domain : DomainFacts) → IsValidTopology domain.topology
-        → IsEachSearchIndented domain }
+    ensures search { (domain : DomainFacts) → IsValidTopology domain.topology → IsEachSearchIndented domain }
     // So does each line of any kind whose sentences are well formed.
-    ensures each { (context : FlowContext) (line : Line) → IsValidTopology context.domain.topology →
-        has_well_formed_sentences line ≡ true → AreIndented (line_text context line) }
+    ensures each { (context : FlowContext) (given : Line) → IsValidTopology context.domain.topology →
+        has_well_formed_sentences given ≡ true → AreIndented (line_text context given) }
+{}
+
+/// The pieces of a sentence, one after another, spell the sentence: none of it is lost or added.
+pub fn pieces_spell_their_sentence()
+    ensures { (sentence : List ℕ) → flat_map piece_spelling (pieces sentence) ≡ sentence }
 {}
 
 /// Each sentence is well formed: it refers to facts of its line alone.
 pub fn sentences_refer_to_their_facts()
     ensures causes { (context : FlowContext) (cause : Cause) →
         list_all has_well_formed_sentences (cause_lines context cause) ≡ true }
-    ensures search { (context : FlowContext) (line : ShownLine)
-        → has_well_formed_sentences (shown_line context line) ≡ true }
+    ensures search { (context : FlowContext) (shown : ShownLine) →
+        has_well_formed_sentences (shown_line context shown) ≡ true }
     ensures reach { (sent_on took_none : List ℕ) →
         list_all has_well_formed_sentences (reach_lines sent_on took_none) ≡ true }
 {}

@@ -1,3 +1,4 @@
+-- While fewer than 40 lines are shown, the next one is written; then they are only counted.
 use Rattle.std.proofs.Common.{◌≡◌, ℕ, ◌+◌, ◌-◌, ◌++◌, List, length, take, flat_map, ap, sym}
 use Rattle.std.proofs.Common.{◌∙◌, arith}
 use Rattle.std.specs.String.{string_bytes}
@@ -9,6 +10,7 @@ use Rattle.mc_lines.specs.SearchLines.{shown_items}
 use Rattle.mc_lines.proofs.FirstLinesLemmas.{first_40_lines-full, first_40_lines-more}
 use Rattle.mc_lines.proofs.explanation_text.push_first_lines.Goals as goal
 
+-- There are no more shown lines than lines of the search, and a vector holds these.
 pub overflow_add-count : goal.overflow_add-count
 overflow_add-count c =
     let few = length-shown_lines c.args.lines.now in
@@ -16,6 +18,8 @@ overflow_add-count c =
     let rest = ap (λ (ls : List ShownLine). length ls) c.in-Some.ensures.steps in
     omega (arith, few, all, rest)
 
+-- A line among the first 40 is written, and a later one is only counted, as in the text of the lines that
+-- are left.
 pub loop-line-preserved : goal.loop-line-preserved
 loop-line-preserved c =
     let f : ShownLine → List ℕ =

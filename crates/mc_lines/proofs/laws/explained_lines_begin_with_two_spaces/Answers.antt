@@ -1,3 +1,5 @@
+-- The names of a valid topology have no line feed, and neither has a well-formed sentence. So the only line
+-- feed of each line is the one at its end, and each begins with its own spaces.
 use Rattle.mc_lines.proofs.IndentedLemmas.{are_indented-causes_text, are_indented-deeper_causes_text}
 use Rattle.mc_lines.proofs.IndentedLemmas.{are_indented-line_text, are_indented-search_text}
 use Rattle.mc_lines.proofs.laws.explained_lines_begin_with_two_spaces.Goals as goal

@@ -1,3 +1,4 @@
+-- The sentence is given byte by byte, so its pieces are known, and each key is that of a fact.
 use Rattle.std.proofs.Common.{append_assoc, append-nil}
 use Rattle.mc_lines.proofs.laws.facts_fill_their_sentence.Goals as goal
 

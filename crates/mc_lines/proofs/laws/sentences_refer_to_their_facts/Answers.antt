@@ -1,3 +1,5 @@
+-- Kind by kind: each sentence is given byte by byte, and the facts with their keys, so that it can be tried
+-- whether it is well formed.
 use Rattle.mc_lines.proofs.WellFormedLemmas.{well_formed-cause_lines, well_formed-reach_lines}
 use Rattle.mc_lines.proofs.WellFormedLemmas.{well_formed-shown_line}
 use Rattle.mc_lines.proofs.laws.sentences_refer_to_their_facts.Goals as goal

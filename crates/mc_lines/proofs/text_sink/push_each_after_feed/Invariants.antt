@@ -5,7 +5,7 @@ use Rattle.mc_lines.specs.GivenLines.{given_text, named_fact}
 use Rattle.mc_lines.specs.Filled.{sentence_after_feed}
 use Rattle.mc_lines.proofs.text_sink.push_each_after_feed.Given as goal
 
--- the sentences so far
+-- the sentences so far are written, each after a line feed
 abbrev pub invariant-loop-sentence : goal.invariant-loop-sentence
 invariant-loop-sentence l =
     string_bytes l.text ≡ string_bytes l.initial.text

@@ -5,7 +5,7 @@ use Rattle.mc_lines.specs.GivenLines.{given_text, named_fact}
 use Rattle.mc_lines.specs.Filled.{indented_sentence}
 use Rattle.mc_lines.proofs.text_sink.push_each_indented.Given as goal
 
--- the sentences so far
+-- the sentences so far are written, a line each
 abbrev pub invariant-loop-sentence : goal.invariant-loop-sentence
 invariant-loop-sentence l =
     string_bytes l.text ≡ string_bytes l.initial.text

@@ -1,3 +1,4 @@
+-- The first sentence is written as it is, and each other one after a line feed.
 use Rattle.std.proofs.Common.{append_assoc}
 use Rattle.mc_lines.proofs.text_sink.push_sentences.Goals as goal
 

@@ -5,7 +5,7 @@ use Rattle.mc_lines.specs.GivenLines.{named_fact}
 use Rattle.mc_lines.specs.Filled.{text_of_key}
 use Rattle.mc_lines.proofs.facts.fill.push_fact_of_key.Given as goal
 
--- nothing was written, and the key is among the facts that are left as it is among all
+-- nothing was written, and no fact so far has the key: the fact with it is among those left
 abbrev pub invariant-loop-own : goal.invariant-loop-own
 invariant-loop-own l = record {
   text : string_bytes l.text ≡ string_bytes l.initial.text;

@@ -1,12 +1,16 @@
+-- The words up to the next opening brace are written, and then the text of the key up to its closing one:
+-- these are the next pieces of the sentence.
 use Rattle.std.proofs.Common.{rules, ◌≡◌, ◌++◌, ℕ, List, map, ap, sym, ◌∙◌, arith, append_assoc, subst}
 use Rattle.std.specs.Prelude.{OnOk}
 use Rattle.std.specs.String.{string_bytes}
 use Rattle.mc_lines.specs.FlowContext.{flow_context}
-use Rattle.mc_lines.specs.Filled.{filled, text_of_key}
+use Rattle.mc_lines.specs.Filled.{text_of_key}
+use Rattle.mc_lines.specs.Sentences.{filled}
 use Rattle.mc_lines.specs.GivenLines.{named_fact}
 use Rattle.mc_lines.proofs.FillLemmas.{filled-all, filled-key, filled-open}
 use Rattle.mc_lines.proofs.facts.fill.push_filled.Goals as goal
 
+-- The brace isn't closed, so nothing follows the words.
 pub returns-in_default-split_once : goal.returns-in_default-split_once
 returns-in_default-split_once c =
     let text_of : List ℕ → List ℕ =
@@ -19,6 +23,7 @@ returns-in_default-split_once c =
     found.0 found.1 found.2 none))
     ∙ c.loop-words.invariant.text
 
+-- The words and the text of the key are written, and what comes after the closing brace is left.
 pub loop-words-preserved : goal.loop-words-preserved
 loop-words-preserved c =
     let text_of : List ℕ → List ℕ =
@@ -39,6 +44,7 @@ loop-words-preserved c =
           ∙ c.loop-words.invariant.text;
     }
 
+-- No brace opens, so what is left is words.
 pub returns : goal.returns
 returns c =
     let text_of : List ℕ → List ℕ =

@@ -1,3 +1,4 @@
+-- The kind and the sentence are those of the reason that the row's incoming vif has.
 use Rattle.mc_lines.proofs.sentences.row_lines.add_from_unplaced.Goals as goal
 
 pub returns : goal.returns

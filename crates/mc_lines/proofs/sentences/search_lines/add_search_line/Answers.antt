@@ -1,3 +1,4 @@
+-- The line that is added is the one of this kind of line of a search.
 use Rattle.mc_lines.proofs.sentences.search_lines.add_search_line.Goals as goal
 
 pub returns-in-Unresolved : goal.returns-in-Unresolved

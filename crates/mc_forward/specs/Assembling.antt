@@ -5,6 +5,7 @@ use Rattle.std.specs.Prelude.{Some, None, slice_get, slice_index_or, option_and_
 use Rattle.std.specs.FinMap as finite
 use Rattle.mc_igmp.specs.declared.record.Record.{Record}
 use Rattle.mc_igmp.specs.Wants.{Wants}
+use Rattle.mc_filter.specs.ChannelPlaces.{IsWantedAnswer}
 use Rattle.mc_topology.specs.declared.flow.Flow.{Flow}
 use Rattle.mc_topology.specs.Topology.{TopologyValue}
 use Rattle.mc_theory.specs.Lists.{below}
@@ -55,19 +56,15 @@ abbrev pub RelatedAtEachIndex : {A B : Type 0} → (A → B → Type 0) → List
 RelatedAtEachIndex {A} {B} R xs ys =
     (index : ℕ) (x : A) (y : B) → slice_get xs index ≡ Some x → slice_get ys index ≡ Some y → R x y
 
--- the answer is yes exactly if these records want the channel, a source and a group
-abbrev pub IsChannelWanted : List Record → ℕ × ℕ → Bool → Type 0
-IsChannelWanted records channel wanted = IsTrue wanted ↔ Wants records channel.1 channel.0
-
 -- there is an answer for each of the channels: whether these records want it
 pub record AreChannelsWanted (channels : List (ℕ × ℕ)) (records : List Record)
     (wanted : List Bool) : Type 0 where
   pub count : length wanted ≡ length channels
-  pub each : RelatedAtEachIndex (IsChannelWanted records) channels wanted
+  pub each : RelatedAtEachIndex (IsWantedAnswer records) channels wanted
 
--- the answer is yes exactly if these records want the flow
+-- the answer is yes exactly if these records want the flow's channel
 abbrev pub IsWanted : List Record → Flow → Bool → Type 0
-IsWanted records flow wanted = IsTrue wanted ↔ Wants records flow.group flow.source
+IsWanted records flow wanted = IsWantedAnswer records (flow.source, flow.group) wanted
 
 -- there is an answer for each of the flows: whether these records want it
 pub record AreWanted (flows : List Flow) (records : List Record) (wanted : List Bool) : Type 0 where

@@ -12,9 +12,11 @@ pub mod InsertedRows
 pub mod Keys
 pub mod Validity
 pub mod NameLemmas
+pub mod AddressParts
 pub mod SectionParts
 pub mod Places
 pub mod ReadLemmas
+pub mod SectionTexts
 pub mod TopologyTexts
 pub mod Steps
 pub mod Tables

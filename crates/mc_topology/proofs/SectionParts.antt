@@ -1,30 +1,18 @@
--- A row of a section that is read denotes its value, and a row that denotes a value is read as that.
-use Rattle.std.proofs.Common.{◌≡◌, ℕ, ℤ, pos, negsuc, ◌≤◌, Bool, true, false, not}
-use Rattle.std.proofs.Common.{List, [], ◌∷◌, ◌++◌, codes, Option, Some, None, Result, Ok}
-use Rattle.std.proofs.Common.{nat_le, ◌&&◌, le-leb, refl, sym, ap, subst, ◌∙◌, arith, append_assoc}
-use Rattle.std.specs.Bool.{Decides}
-use Rattle.std.specs.List.{list_any}
+-- A row of each section denotes what it is read as, and is read as what it denotes.
+use Rattle.std.proofs.Common.{◌≡◌, ℕ, pos, false, not}
+use Rattle.std.proofs.Common.{List, codes, Ok}
+use Rattle.std.proofs.Common.{refl, ap, subst, ◌∙◌}
 use Rattle.std.specs.Option.{ok_or}
-use Rattle.std.proofs.lemmas.Bool.{leb-true, and_parts, not-false}
-use Rattle.std.proofs.lemmas.List.{append-nil}
+use Rattle.std.proofs.lemmas.Bool.{not-false}
 use Rattle.toml.specs.Data.{Data}
-use Rattle.mc_text.specs.Addr.{IsAddr, IsSource, IsForwardedGroup, dotted}
-use Rattle.mc_text.specs.AddressReading.{address_of_text}
-use Rattle.mc_text.specs.Addr.{is_source, is_forwarded_group}
-use Rattle.mc_text.proofs.AddressReading.{address_of_text-sound, address_of_text-complete}
-use Rattle.mc_text.proofs.AddressTests.{is_source-sound, is_source-complete, is_forwarded_group-sound}
-use Rattle.mc_text.proofs.AddressTests.{is_forwarded_group-complete}
-use Rattle.mc_topology.specs.declared.fault.Section.{Section}
-use Rattle.mc_topology.specs.declared.fault.TopologyFaultKind.{TopologyFaultKind}
-use Rattle.mc_topology.specs.declared.fault.TopologyFaultKind.TheVariants.{BadAddress, BadTtl}
+use Rattle.mc_text.specs.Addr.{dotted}
 use Rattle.mc_topology.specs.declared.fault.TopologyFaultKind.TheVariants.{BadName, UnknownName}
 use Rattle.mc_topology.specs.declared.fault.TopologyFaultKind.TheVariants.{RepeatedName}
 use Rattle.mc_topology.specs.declared.fault.TopologyFaultKind.TheVariants.{RepeatedInterface}
 use Rattle.mc_topology.specs.declared.fault.TopologyFaultKind.TheVariants.{RepeatedFlow}
 use Rattle.mc_topology.specs.declared.flow.Flow.{Flow}
 use Rattle.mc_topology.specs.SectionRows.{RouterRow, InterfaceRow, SourceRow}
-use Rattle.mc_topology.specs.Addresses.{checked_address, source_address_of, group_address_of}
-use Rattle.mc_topology.specs.EachRow.{read_rows, each_row}
+use Rattle.mc_topology.specs.Addresses.{source_address_of, group_address_of}
 use Rattle.mc_topology.specs.Document.{known_table, text_of, text_at, number_at, optional_text_at}
 use Rattle.mc_topology.specs.Names.{is_name, is_device, index_of}
 use Rattle.mc_topology.specs.Lans.{has_lan, lan_name_of}
@@ -33,71 +21,18 @@ use Rattle.mc_topology.specs.Lookup.{has_router, router_no_of, has_interface}
 use Rattle.mc_topology.specs.Interfaces.{interface_keys, interface_of, interface_of_values}
 use Rattle.mc_topology.specs.Sources.{source_keys, source_of, source_of_values, has_source, lan_of_source}
 use Rattle.mc_topology.specs.Flows.{flow_keys, flow_of, flow_of_values, ttl_of, has_flow}
-use Rattle.mc_topology.specs.Denotation.{EachDenotes, DenotesLan, DenotesRouter, DenotesInterface}
+use Rattle.mc_topology.specs.Denotation.{DenotesLan, DenotesRouter, DenotesInterface}
 use Rattle.mc_topology.specs.Denotation.{DenotesSource, DenotesFlow}
-use Rattle.mc_topology.specs.Topology.{AreDistinctBy}
-use Rattle.mc_topology.proofs.Distinct.{AreDistinctBy-push, is_key_taken-from_distinct}
 use Rattle.mc_topology.proofs.Fields.{string-from_text_of, HasText-from_text_at, text_at-from_HasText}
 use Rattle.mc_topology.proofs.Fields.{HasNumber-from_number_at, number_at-from_HasNumber}
 use Rattle.mc_topology.proofs.Fields.{IsTable-from_known_table, known_table-from_IsTable}
 use Rattle.mc_topology.proofs.Fields.{DenotesOrder-from_optional_text_at}
 use Rattle.mc_topology.proofs.Fields.{optional_text_at-from_DenotesOrder}
-use Rattle.mc_topology.proofs.Steps.{bind_ok, refusal_ok, checked_ok, ok_or_ok, ok_injective, located_ok}
-
--- ---- addresses and times to live
-
--- an address that passes is there, and passes the test
-checked_address-Ok : (p : ℕ → Bool) (o : Option ℕ) (a : ℕ) → checked_address p o ≡ Ok a → (o ≡ Some a)
-    × (p a ≡ true)
-checked_address-Ok p None a e = absurd cc
-checked_address-Ok p (Some b) a e =
-    let (same, passed) = checked_ok p BadAddress b a e in
-    (ap Some same, passed)
-
--- a text that is read as a source's address is that address, dotted
-dotted-from_source_address_of : (text : List ℕ) (a : ℕ) → source_address_of text ≡ Ok a → (text ≡ dotted a)
-    × IsAddr a × IsSource a
-unfolding source_address_of
-dotted-from_source_address_of text a e =
-    let p = checked_address-Ok is_source (address_of_text text) a e in
-    let at = address_of_text-sound text a p.0 in
-    (at.1, at.0, is_source-sound a p.1)
-
--- and the dotted address of a source is read
-source_address_of-dotted : (a : ℕ) → IsAddr a → IsSource a → source_address_of (dotted a) ≡ Ok a
-unfolding source_address_of
-source_address_of-dotted a is may =
-    rw (address_of_text-complete (dotted a) a is refl) (rw (is_source-complete a may) refl)
-
--- a text that is read as a group's address is that address, dotted
-dotted-from_group_address_of : (text : List ℕ) (a : ℕ) → group_address_of text ≡ Ok a → (text ≡ dotted a)
-    × IsForwardedGroup a
-unfolding group_address_of
-dotted-from_group_address_of text a e =
-    let p = checked_address-Ok is_forwarded_group (address_of_text text) a e in
-    ((address_of_text-sound text a p.0).1, is_forwarded_group-sound a p.1)
-
--- and the dotted address of a group is read
-group_address_of-dotted : (a : ℕ) → IsForwardedGroup a → group_address_of (dotted a) ≡ Ok a
-unfolding group_address_of
-group_address_of-dotted a is = rw (address_of_text-complete (dotted a) a (omega (arith, is.1)) refl)
-    (rw (is_forwarded_group-complete a is) refl)
-
--- a number that is read as a time to live is 1 to 255
-range-from_ttl_of : (z : ℤ) (n : ℕ) → ttl_of z ≡ Ok n → (z ≡ pos n) × (1 ≤ n) × (n ≤ 255)
-unfolding ttl_of
-range-from_ttl_of (pos m) n e =
-    let (same, passed) = checked_ok (λ k. nat_le 1 k && nat_le k 255) BadTtl m n e in
-    let (low, high) = and_parts _ _ passed in
-    (ap pos same, leb-true _ _ low, leb-true _ _ high)
-range-from_ttl_of (negsuc m) n e = absurd cc
-
--- and a number of 1 to 255 is read
-ttl_of-in_range : (n : ℕ) → 1 ≤ n → n ≤ 255 → ttl_of (pos n) ≡ Ok n
-unfolding ttl_of
-ttl_of-in_range n low high = rw (le-leb 1 n low, le-leb n 255 high) refl
-
--- ---- the rows of the sections
+use Rattle.mc_topology.proofs.Steps.{bind_ok, refusal_ok, ok_or_ok, ok_injective}
+use Rattle.mc_topology.proofs.AddressParts.{dotted-from_group_address_of}
+use Rattle.mc_topology.proofs.AddressParts.{dotted-from_source_address_of, group_address_of-dotted}
+use Rattle.mc_topology.proofs.AddressParts.{range-from_ttl_of, source_address_of-dotted}
+use Rattle.mc_topology.proofs.AddressParts.{ttl_of-in_range}
 
 -- a value that is read as a LAN denotes it, and no earlier LAN has its name
 pub lan_name_of-denotes : (earlier : List (List ℕ)) (d : Data) (name : List ℕ)
@@ -319,47 +254,3 @@ flow_of-from_denotes sources earlier d f is new =
       new,
     )
     refl
-
--- ---- all rows of a section
-
-module _ {X K : Type 0} (section : Section) (one : List X → Data → Result X TopologyFaultKind)
-    (Denotation : Data → X → Type 0) (key : X → K) (test : X → X → Bool)
-    (same : (y x : X) → Decides (test y x) (key y ≡ key x)) where
-  -- rows that are read denote what is read, and the keys stay distinct
-  pub each_row-denotes : ((earlier : List X) (d : Data) (x : X) → one earlier d ≡ Ok x → Denotation d x
-      × (list_any (λ y. test y x) earlier ≡ false))
-      → (earlier : List X) (ds : List Data) (ys : List X) → AreDistinctBy key earlier
-      → each_row section one earlier ds ≡ Ok ys → (xs : List X) × (ys ≡ earlier ++ xs)
-      × EachDenotes Denotation ds xs × AreDistinctBy key ys
-  unfolding read_rows
-  each_row-denotes takes earlier [] ys distinct e =
-      let all : earlier ≡ ys = ok_injective earlier ys e in (
-        [],
-        sym all ∙ sym (append-nil earlier),
-        tt,
-        subst (λ (zs : List X). AreDistinctBy key zs) all
-            distinct,
-      )
-  each_row-denotes takes earlier (d ∷ ds) ys distinct e =
-      let a = located_ok _ (one earlier d) (λ x. each_row section one (earlier ++ x ∷ []) ds) ys e in
-      let taken = takes earlier d a.0 a.1 in
-      let (xs, is, denoted, apart) =
-      each_row-denotes takes (earlier ++ a.0 ∷ []) ds ys
-      (AreDistinctBy-push key test same earlier a.0 distinct taken.1) a.2 in
-      (a.0 ∷ xs, is ∙ append_assoc earlier (a.0 ∷ []) xs, (taken.0, denoted), apart)
-
-  -- and what the rows denote, with distinct keys, is read
-  pub each_row-from_denotes : ((earlier : List X) (d : Data) (x : X) → Denotation d x
-      → list_any (λ y. test y x) earlier ≡ false → one earlier d ≡ Ok x)
-      → (earlier : List X) (ds : List Data) (xs : List X) → EachDenotes Denotation ds xs
-      → AreDistinctBy key (earlier ++ xs) → each_row section one earlier ds ≡ Ok (earlier ++ xs)
-  unfolding read_rows
-  each_row-from_denotes again earlier [] [] denoted distinct = ap Ok (sym (append-nil earlier))
-  each_row-from_denotes again earlier [] (x ∷ xs) denoted distinct = absurd denoted
-  each_row-from_denotes again earlier (d ∷ ds) [] denoted distinct = absurd denoted
-  each_row-from_denotes again earlier (d ∷ ds) (x ∷ xs) denoted distinct =
-      let all : (earlier ++ x ∷ []) ++ xs ≡ earlier ++ x ∷ xs = append_assoc earlier (x ∷ []) xs in
-      let more = each_row-from_denotes again (earlier ++ x ∷ []) ds xs denoted.1
-      (subst (λ (zs : List X). AreDistinctBy key zs) (sym all) distinct) in
-      rw (again earlier d x denoted.0 (is_key_taken-from_distinct key test same earlier xs x distinct))
-      (more ∙ ap Ok all)

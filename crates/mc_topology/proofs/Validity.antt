@@ -14,7 +14,8 @@ use Rattle.mc_topology.specs.Denotation.{DenotesSource, DenotesFlow, DenotesDocu
 use Rattle.mc_topology.specs.Topology.{TopologyValue, IsValidInterface, IsValidSource, IsValidFlow}
 use Rattle.mc_topology.specs.Topology.{IsValidTopology}
 use Rattle.mc_topology.proofs.NameLemmas.{index_of-below_length, router_no_of-below_length}
-use Rattle.mc_topology.proofs.TopologyTexts.{length-EachDenotes, topology_in-denotes}
+use Rattle.mc_topology.proofs.SectionTexts.{length-EachDenotes}
+use Rattle.mc_topology.proofs.TopologyTexts.{topology_in-denotes}
 
 -- ---- sources and flows
 

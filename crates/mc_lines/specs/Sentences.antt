@@ -19,7 +19,7 @@ pub data Piece : Type 0 where
 
 -- what is written for a piece in the sentence
 abbrev pub piece_spelling : Piece → List ℕ
-piece_spelling (Byte b) = b ∷ []
+piece_spelling (Byte byte) = byte ∷ []
 piece_spelling (Key key) = codes "{" ++ (key ++ codes "}")
 piece_spelling (Unclosed rest) = codes "{" ++ rest
 
@@ -27,19 +27,19 @@ piece_spelling (Unclosed rest) = codes "{" ++ rest
 abbrev mutual
   pub pieces : (sentence : List ℕ) → List Piece
   pieces [] = []
-  pieces (b ∷ bs) = if b == 123 then pieces_from_key [] bs else (Byte b ∷ pieces bs)
+  pieces (byte ∷ rest) = if byte == 123 then pieces_from_key [] rest else (Byte byte ∷ pieces rest)
 
   -- the pieces from within a key on, of which these bytes came before
   pub pieces_from_key : (key sentence : List ℕ) → List Piece
   pieces_from_key key [] = Unclosed key ∷ []
-  pieces_from_key key (b ∷ bs) =
-      if b == 125 then (Key key ∷ pieces bs) else pieces_from_key (key ++ b ∷ []) bs
+  pieces_from_key key (byte ∷ rest) =
+      if byte == 125 then (Key key ∷ pieces rest) else pieces_from_key (key ++ byte ∷ []) rest
 
 -- ---- its text
 
 -- the text of a piece: a byte of words as it is, and in place of a key its text
 abbrev pub piece_text : (text_of : List ℕ → List ℕ) → Piece → List ℕ
-piece_text text_of (Byte b) = b ∷ []
+piece_text text_of (Byte byte) = byte ∷ []
 piece_text text_of (Key key) = text_of key
 piece_text text_of (Unclosed rest) = []
 
@@ -56,7 +56,7 @@ has_key (fact ∷ facts) key = if bytes_eq fact.0 key then true else has_key fac
 
 -- whether a piece is a byte other than a line feed, which is 10, or the key of a fact
 abbrev pub is_byte_or_known_key : List (List ℕ × FactValue) → Piece → Bool
-is_byte_or_known_key facts (Byte b) = not (b == 10)
+is_byte_or_known_key facts (Byte byte) = not (byte == 10)
 is_byte_or_known_key facts (Key key) = has_key facts key
 is_byte_or_known_key facts (Unclosed rest) = false
 

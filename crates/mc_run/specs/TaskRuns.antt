@@ -43,29 +43,29 @@ pub record IsRunResult {X : Type 0} (Says : X → Bool → List ℕ → Type 0) 
 -- ---- tasks that read the input
 
 -- `wants` answers whether the LAN of the input's report list wants what the source sends to the group.
-pub record IsWantsRun (group source : ℕ) (remaining left : Option (List ℕ)) (result : Result Bool RunFault)
+pub record IsWantsRun (group source : ℕ) (remaining later : Option (List ℕ)) (result : Result Bool RunFault)
     (old new : Option (List ℕ)) : Type 0 where
   pub answer : IfSome remaining (λ text. AnswersWants text group source result)
   pub written : IfOk result (λ wanted. Appends old new (answer_line wanted))
   pub part : result ≡ Err Write → WritesPartOfLine remaining group source old new
   pub faults : IfErr result IsFaultOfWants
-  pub consumed : ConsumesUpTo (max_text + 1) remaining left
+  pub consumed : ConsumesUpTo (max_text + 1) remaining later
 
 -- `check` answers whether all verdicts by the bundle's certificate are yes. After a yes the headline holds.
-pub record IsCheckRun (remaining left : Option (List ℕ)) (result : Result Bool RunFault)
+pub record IsCheckRun (remaining later : Option (List ℕ)) (result : Result Bool RunFault)
     (old new : Option (List ℕ)) : Type 0 where
   pub run : IsRunResult IsVerdictText (IsRefusedFor true) remaining result old new
   pub faults : IfErr result IsFaultOfCheck
-  pub consumed : ConsumesUpTo max_input remaining left
+  pub consumed : ConsumesUpTo max_input remaining later
   pub headline : SaysYes result old new → IfSome remaining BundleKeepsHeadline
 
 -- `make` answers whether it wrote a certificate, which it does exactly if every flow is right; otherwise it
 -- writes the findings.
-pub record IsMakeRun (remaining left : Option (List ℕ)) (result : Result Bool RunFault)
+pub record IsMakeRun (remaining later : Option (List ℕ)) (result : Result Bool RunFault)
     (old new : Option (List ℕ)) : Type 0 where
   pub run : IsRunResult IsMadeText (IsRefusedFor false) remaining result old new
   pub faults : IfErr result IsFaultOfMake
-  pub consumed : ConsumesUpTo max_input remaining left
+  pub consumed : ConsumesUpTo max_input remaining later
   pub right : IfOk result (λ certified. IfSome remaining (λ text. SaysAllRight text certified))
 
 -- the choices of a picker that always takes the first waiting copy, or always the last
@@ -74,12 +74,12 @@ choices_of last = record { numbers = []; last = last }
 
 -- `replay` writes the travel of a packet of the flow with this number, with this TTL, in this order, and
 -- answers whether its finding is `Clean`.
-pub record IsReplayRun (flow ttl : ℕ) (last : Bool) (remaining left : Option (List ℕ))
+pub record IsReplayRun (flow ttl : ℕ) (last : Bool) (remaining later : Option (List ℕ))
     (result : Result Bool RunFault) (old new : Option (List ℕ)) : Type 0 where
   pub run : IsRunResult (IsTravelText flow ttl (choices_of last)) (IsReplayRefused flow) remaining
       result old new
   pub faults : IfErr result (IsFaultOfReplay flow)
-  pub consumed : ConsumesUpTo max_input remaining left
+  pub consumed : ConsumesUpTo max_input remaining later
 
 -- ---- tasks that read the files of a folder
 
@@ -119,33 +119,35 @@ left_out_by words = record {
 }
 
 -- This is the result of an audit of the files, with these options and without what is left out.
-pub record IsAuditResult (options : AuditOptions) (left : LeftOutValue) (contents : Option (List FileText))
-    (audited : Result AuditAnswer RunFault) (old new : Option (List ℕ)) : Type 0 where
+pub record IsAuditResult (options : AuditOptions) (left_out : LeftOutValue)
+    (contents : Option (List FileText)) (outcome : Result AuditAnswer RunFault)
+    (old new : Option (List ℕ)) : Type 0 where
   -- The answer is that of an audit of the files, or the files are refused for this fault.
   pub answer : IfSome contents
-      (λ files. Answers (IsAuditText options left) (AreRefusedWithout left.routers) files (yes_of audited))
+      (λ files. Answers (IsAuditText options left_out) (AreRefusedWithout left_out.routers) files
+      (yes_of outcome))
   -- After an answer the text of the audit was written whole,
-  pub written : IsWrittenWhole (IsAuditText options left) contents (yes_of audited) old new
+  pub written : IsWrittenWhole (IsAuditText options left_out) contents (yes_of outcome) old new
   -- or a proper part of it where the output failed.
-  pub part : audited ≡ Err Write
-      → IfSome contents (λ files. WritesPart (IsAuditText options left) files old new)
+  pub part : outcome ≡ Err Write
+      → IfSome contents (λ files. WritesPart (IsAuditText options left_out) files old new)
   -- The text says of each flow whether it is right.
-  pub right : IsWrittenWhole (SaysWhichAreRight options left) contents (yes_of audited) old new
+  pub right : IsWrittenWhole (SaysWhichAreRight options left_out) contents (yes_of outcome) old new
   -- The counts are those of the audited flows and wants.
-  pub counts : IfOk audited (λ answer. IfSome contents
-      (MeansAuditedWhere options left (λ audited. HasCounts audited options answer.counts)))
+  pub counts : IfOk outcome (λ answer. IfSome contents
+      (MeansAuditedWhere options left_out (λ audited. HasCounts audited options answer.counts)))
   -- The text says yes to each flow, or gives what is found of it, and what it says is true;
-  pub each : IsWrittenWhole (SaysOfEach options left) contents (yes_of audited) old new
+  pub each : IsWrittenWhole (SaysOfEach options left_out) contents (yes_of outcome) old new
   -- a part of such a text was written where the output failed.
-  pub each_in_part : audited ≡ Err Write
-      → IfSome contents (λ files. WritesPart (SaysOfEach options left) files old new)
+  pub each_in_part : outcome ≡ Err Write
+      → IfSome contents (λ files. WritesPart (SaysOfEach options left_out) files old new)
   -- Where routers are excluded, a second copy or a stray that is found makes the flow wrong in the whole
   -- domain, too.
-  pub excluded : IsWrittenWhole (AreFoundInWhole options left) contents (yes_of audited) old new
+  pub excluded : IsWrittenWhole (AreFoundInWhole options left_out) contents (yes_of outcome) old new
   -- The fault is one that an audit can return.
-  pub faults : IfErr audited IsFaultOfAudit
+  pub faults : IfErr outcome IsFaultOfAudit
   -- After a yes the headline holds for each flow.
-  pub headline : AuditSaysYes (yes_of audited) old new → IfSome contents FilesKeepHeadline
+  pub headline : AuditSaysYes (yes_of outcome) old new → IfSome contents FilesKeepHeadline
 
 -- `audit` answers whether the audit's answer has status 0, with the options of the command line and without
 -- what these leave out.

@@ -40,8 +40,8 @@ abbrev pub IsFaultOfReplay : (flow : ℕ) → RunFault → Type 0
 IsFaultOfReplay flow (NoSuchFlow number) = number ≡ flow
 IsFaultOfReplay flow fault = IsFaultOfMake fault
 
--- a fault that `pack` can return, which reads files and judges only the topology; files that are too large
--- for a part or for a bundle are a fault of the bundle
+-- a fault that `pack` can return. It reads files and judges only the topology; files that are too large for a
+-- part or for a bundle are a fault of the bundle
 abbrev pub IsFaultOfPack : RunFault → Type 0
 IsFaultOfPack (Bundle bundle.TooLarge) = ⊤
 IsFaultOfPack (Topology fault) = ⊤
@@ -50,8 +50,8 @@ IsFaultOfPack Write = ⊤
 IsFaultOfPack Memory = ⊤
 IsFaultOfPack _ = ⊥
 
--- a fault that `audit` can return, which reads files and judges them all; a name of an excluded router may be
--- in no topology, and a file that is too large is a fault of the bundle that it would be a part of
+-- a fault that `audit` can return. It reads files and judges them all; a name of an excluded router may be in
+-- no topology, and a file that is too large is a fault of the bundle that it would be a part of
 abbrev pub IsFaultOfAudit : RunFault → Type 0
 IsFaultOfAudit (Bundle bundle.TooLarge) = ⊤
 IsFaultOfAudit (Topology fault) = ⊤

@@ -32,7 +32,7 @@ use Rattle.mc_run.proofs.UniqueFlowLines.{wrong_flow_lines-same_travel}
 -- ---- the answer of a flow
 
 -- Two answers have the same result, the same lines, and print the same trees.
-record IsSameAnswer (o : AuditOptions) (a b : FlowAnswer) : Type 0 where
+pub record IsSameAnswer (o : AuditOptions) (a b : FlowAnswer) : Type 0 where
   lines : a.lines ≡ b.lines
   wanted : a.wanted ≡ b.wanted
   certified : is_certified a.examined ≡ is_certified b.examined

@@ -33,11 +33,11 @@ use Rattle.mc_run.proofs.UniqueFlowLines.{wrong_flow_lines-same_travel}
 
 -- Two answers have the same result, the same lines, and print the same trees.
 pub record IsSameAnswer (o : AuditOptions) (a b : FlowAnswer) : Type 0 where
-  lines : a.lines ≡ b.lines
-  wanted : a.wanted ≡ b.wanted
-  certified : is_certified a.examined ≡ is_certified b.examined
-  right : a.right ≡ b.right
-  shown_trees : (printed : List Tree)
+  pub lines : a.lines ≡ b.lines
+  pub wanted : a.wanted ≡ b.wanted
+  pub certified : is_certified a.examined ≡ is_certified b.examined
+  pub right : a.right ≡ b.right
+  pub shown_trees : (printed : List Tree)
       → shown_trees_with o a.net printed a.examined a.wanted
       ≡ shown_trees_with o b.net printed b.examined b.wanted
 

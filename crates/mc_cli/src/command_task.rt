@@ -166,7 +166,7 @@ fn named_task<'a>(
             word_of(words, "order"),
         ),
         "wants" => wants_task(alloc, word_of(words, "group"), word_of(words, "source")),
-        // Of any other name no command is given: clap finds only these.
+        // No other name comes here, since clap knows no other command.
         _ => Err(missing_command_refusal(alloc)),
     }
 }

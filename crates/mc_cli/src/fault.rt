@@ -66,8 +66,8 @@ pub fn usage_refusal(
 /// The rule for the folder of `audit`.
 pub const FOLDER_RULE: &str = "<folder> doesn't begin with -; ./-x is the folder -x";
 
-/// The fault for words that ask for no task, with clap's text for the program with all commands. Where
-/// clap accepts them, the folder of `audit` is `-`.
+/// The fault for words that ask for no task, with clap's text for the program with all commands. Words that
+/// clap accepts all the same are those of an `audit` whose folder is `-`.
 pub fn refusal_explained_by_clap<'a>(alloc: Global, words: &'a [&'a str]) -> WordsFault {
     let Ok(program) = program(alloc) else {
         return WordsFault::Memory;

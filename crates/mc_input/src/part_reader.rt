@@ -20,7 +20,7 @@ use mc_text::{PartName, PieceReader};
 pub(crate) trait PartReader: PieceReader {
     type Out: Drop;
 
-    // the result of a part that is still fed whole
+    // what the reader ends with if all bytes of this part are still to be fed
     ghost part_result: { Self → PartText → Result Self.Out Fault };
 
     /// The result of the part with this name, which was fed.

@@ -9,7 +9,8 @@ const MAX_DEVICE_NAME: usize = 15;
 
 /// Whether the bytes are a device's name: 1 to 15 bytes, none of 0x09 to 0x0D, space, `/` and `:`.
 ///
-/// The rule is that of `dev_valid_name` in net/core/dev.c, without its ban of `.` and `..`.
+/// The rule is that of `dev_valid_name` in net/core/dev.c, without its ban of `.`, `..` and the byte 0xA0,
+/// which the kernel counts as a space.
 pub fn is_device_name(name: &[u8]) -> bool
     ensures { result ≡ is_device_name name.now }
 {

@@ -41,7 +41,7 @@ impl GroupRange {
     /// Reads a range: a group, a slash, and a length of 4 to 32 in decimal without leading zeros. The
     /// whole range must be multicast, and the bits behind its length must be zero.
     pub fn parse(text: &[u8]) -> Option<GroupRange>
-        // The text is how the range is written that is read.
+        // A range that is read is written as this text.
         ensures found { IfSome result (λ range. text.now ≡ range_text range) }
         ensures valid { IfSome result IsGroupRange }
         // The text of a range is read as that range.

@@ -1,5 +1,5 @@
--- The arguments that the words after `audit` give (docs/FORMATS.md, the section "The program"): the relation to
--- trust is AreAuditWords, at the end.
+-- The arguments that the words after `audit` give (docs/FORMATS.md, the section "The program"): the relation
+-- to trust is AreAuditWords, at the end.
 use Rattle.std.specs.Prelude.{◌≡◌, ℕ, ◌&&◌, not, Bool, true, false, List, [], ◌∷◌, map}
 use Rattle.std.specs.Prelude.{Some}
 use Rattle.std.specs.List.{All}

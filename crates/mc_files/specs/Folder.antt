@@ -1,4 +1,5 @@
--- The folder of a source of files: the path by which it is asked for, and the one by which its files are opened.
+-- The folder of a source of files: the path by which it is asked for, and the one by which its files are
+-- opened.
 use Rattle.std.specs.Prelude.{◌≡◌, ℕ, Bool, List, Option, Some, IfSome}
 
 -- a path that is known stays the same

@@ -1,5 +1,6 @@
 -- The faults of reading a domain from a bundle or a folder (docs/FORMATS.md, "The parts of a domain"): each
--- fault of a reader of bundles, tables or lists as one of these, and the two that say nothing about the texts.
+-- fault of a reader of bundles, tables or lists as one of these, and the two that say nothing about the
+-- texts.
 use Rattle.std.specs.Prelude.{◌≡◌, ◌⊎◌, Bool, true, false, List, Option, Result}
 use Rattle.mc_text.specs.Steps as Steps
 use Rattle.mc_text.specs.declared.bundle.bundle_fault.BundleFault.{BundleFault}

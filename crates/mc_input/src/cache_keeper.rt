@@ -19,8 +19,8 @@ use mc_tables::{CacheReader, CacheSummary, CacheTable, ListedPairs, SummaryPairs
 use mc_text::Order;
 use std::alloc::Global;
 
-/// What reads the routers' caches one after another: it gives the rows of the flows, and may keep more of each
-/// cache for itself.
+/// What reads the routers' caches one after another: it gives the rows of the flows, and may keep more of
+/// each cache for itself.
 pub(crate) trait CacheKeeper {
     // the sources and groups of which it gives the rows, and whether it keeps all others or the lowest ones,
     // if it keeps any

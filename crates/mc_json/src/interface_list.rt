@@ -1,4 +1,5 @@
-//! The interfaces of a domain as JSON values: the vifs of its routers, and the topology's interfaces without one.
+//! The interfaces of a domain as JSON values: the vifs of its routers, and the topology's interfaces without
+//! one.
 
 ghost use Rattle.std.specs.Prelude.{◌≡◌, ◌<◌, ◌++◌, IfOk, OnOk, flat_map, length, map};
 ghost use Rattle.serde_json.specs.View.{view as data_of};

@@ -112,7 +112,8 @@ line-by_number false t u are_excluded a number line l at top excluded pair own l
       forwards = f;
       none_out = n;
       every_source = e;
-    })) x w)) t u l.are_excluded are_excluded line l.want.now l.lans.now l.listed.now l.routers.now.none_out.items
+    })) x w)) t u l.are_excluded are_excluded line l.want.now l.lans.now l.listed.now
+    l.routers.now.none_out.items
     l.routers.now.forwards.items l.routers.now.every_source.items states top excluded pair own list
     none out every in
     whole ∙ sym (ap (asked_line_of false u are_excluded states) at)

@@ -34,7 +34,8 @@ text_before_verdict v o answers =
     ++ (flat_map (λ a. a.lines) answers
     ++ end_lines o v.domain.topology v.summary v.asked (excluded v) (is_whole v) (is_yes v answers) answers)
 
--- the lines before the verdict are those before the flows, of the flows, and after them; none of them says yes
+-- the lines before the verdict are those before the flows, of the flows, and after them; none of them says
+-- yes
 pub no_yes_line-text_before_verdict : (v : AuditedValue) (o : AuditOptions) (answers : List FlowAnswer)
     → AreFlowAnswers v o answers → IsValidTopology v.domain.topology
     → AreLinesWithoutYes (text_before_verdict v o answers)

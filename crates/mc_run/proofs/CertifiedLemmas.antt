@@ -291,8 +291,8 @@ record AreVerdictsOfLists (d : DomainValue) (certificate : List ℕ) (lists : Li
   pub denoted : DenotesCertificate d.topology certificate lists
   pub are : AreVerdicts d lists vs
 
--- a bundle with the certificate that was made for it has only accepted lists, so that each text of verdicts on
--- it says yes
+-- a bundle with the certificate that was made for it has only accepted lists, so that each text of verdicts
+-- on it says yes
 pub is_verdict_text-only_yes : (text written bundle : List ℕ) (parts : List PartText) (all : Bool)
     (printed : List ℕ)
     → IsMadeText text true written → IsBundle text parts

@@ -204,8 +204,8 @@ second_behind-pushed d summary flow b t x shown causes (Ok a) old one two new sa
     ∙ ap (λ (o : Option Finding). old ++ second_behind_text d summary flow b.causes.items b.shown_from o)
     (sym some)
 
--- the causes, the search, the other missed LANs and what is behind a stray, appended one after another, are the
--- explanation
+-- the causes, the search, the other missed LANs and what is behind a stray, appended one after another, are
+-- the explanation
 pub explanation_lines-pushed : {A X : Type 0} (v : AuditedValue) (flow : ℕ) (e : ExplanationValue)
     (t : TopologyValue) (r : Result A X) (old one two three new : List ℕ) → t ≡ v.domain.topology
     → one ≡ old ++ causes_text (facts v.domain) v.summary flow e.printed
@@ -270,8 +270,8 @@ explanation_with causes found also behind known shown_by = record {
   certainty = record { known = known; shown_by = shown_by };
 }
 
--- the lines of a finding are the same by the LANs that its travel also missed, and by whether it is then known
--- that the flow is wrong
+-- the lines of a finding are the same by the LANs that its travel also missed, and by whether it is then
+-- known that the flow is wrong
 pub wrong_flow_lines-same_parts : (v : AuditedValue) (o : AuditOptions) (flow ttl : ℕ)
     (ended : FinishedTravel) (causes : List Cause) (found : Option LanSearch) (behind : Option Behind)
     (shown_by : ShownBy) (also : List ℕ) (whole known : Bool) (old new : List ℕ) → also ≡ also_missed_of ended
@@ -288,8 +288,8 @@ wrong_flow_lines-same_parts v o flow ttl ended causes found behind shown_by also
 
 -- ---- what a packet with the flow's own TTL meets
 
--- where the flow's own TTL is less than the one from which on packets show the finding, the finding of a packet
--- with it is printed as far as it is certain
+-- where the flow's own TTL is less than the one from which on packets show the finding, the finding of a
+-- packet with it is printed as far as it is certain
 pub is_found_below-less : (whole part : Bool) (d : DomainValue) (flow ttl k : ℕ) (from : Option ℕ)
     (travel : Travel)
     → ttl ≡ ttl_of d flow → from ≡ Some k → ttl < k → part ≡ whole

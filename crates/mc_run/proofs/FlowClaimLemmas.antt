@@ -148,8 +148,8 @@ says_yes_of-certified v o printed flow entries e wanted lines checked wants is =
       right_flow_lines o (is_whole v) (facts v.domain) printed flow entries.items w) wants;
 }
 
--- where a TTL is given from which on packets show the finding, each complete run of such a packet without loss
--- has the fault
+-- where a TTL is given from which on packets show the finding, each complete run of such a packet without
+-- loss has the fault
 shows_from_ttl-by_flights : (d : DomainValue) (flow : ℕ) (x : Examined) (flights : ExaminedFlights)
     (shown : Option ℕ) → IsDomain d → HasExaminedFlights d flow flights
     → x ≡ without_flights d flow flights → IsShownFromAt255 d flow flights shown

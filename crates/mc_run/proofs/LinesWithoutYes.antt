@@ -59,7 +59,8 @@ no_yes_line-right_line false t f copies ok =
     (number copies))
 
 -- the text of a finding has no line feed
-pub finding_text-no_yes : (t : TopologyValue) (x : Finding) → IsValidTopology t → HasNoByte 10 (finding_text t x)
+pub finding_text-no_yes : (t : TopologyValue) (x : Finding) → IsValidTopology t
+    → HasNoByte 10 (finding_text t x)
 finding_text-no_yes t Clean ok = no_feed-from_list_all (codes "Clean") refl
 finding_text-no_yes t (Duplicate lan) ok =
     lan_name-no_line_feed (codes "Duplicate ") t lan (no_feed-from_list_all (codes "Duplicate ") refl) ok
@@ -76,7 +77,8 @@ no_feed-known_word true = no_feed-from_list_all (codes "wrong") refl
 no_feed-known_word false = no_feed-from_list_all (codes "unknown") refl
 
 -- the line of a flow with a finding
-pub no_yes_line-found_flow_line : (t : TopologyValue) (f : Flow) (known : Bool) (x : Finding) → IsValidTopology t
+pub no_yes_line-found_flow_line : (t : TopologyValue) (f : Flow) (known : Bool) (x : Finding)
+    → IsValidTopology t
     → AreLinesWithoutYes (found_flow_line t f known x)
 no_yes_line-found_flow_line t f known x ok =
     let text = finding_text t x in

@@ -41,8 +41,8 @@ certified_lists-each P (Certified entries ∷ xs) each =
     (certified_lists-each P xs (λ k x at. each (suc k) x at))
 certified_lists-each P (Found ttl travel ∷ xs) each = certified_lists-each P xs (λ k x at. each (suc k) x at)
 
--- if all flows are certified, there is a list for each and a certificate can hold it, so that the lists belong
--- to the topology
+-- if all flows are certified, there is a list for each and a certificate can hold it, so that the lists
+-- belong to the topology
 pub certified_lists-belong : (d : DomainValue) (xs : List Examined) → AreExamined d xs
     → are_certified xs ≡ true → BelongsTo d.topology (certified_lists xs)
 certified_lists-belong d xs are all = record {

@@ -1,4 +1,5 @@
--- The causes of a finding, the search for a missed LAN and the other missed LANs are determined by the flights.
+-- The causes of a finding, the search for a missed LAN and the other missed LANs are determined by the
+-- flights.
 use Rattle.std.proofs.Common.{◌≡◌, ℕ, Bool, List, Option, Some, None, refl, sym, ap₂, subst, ◌∙◌}
 use Rattle.std.specs.Prelude.{⊤}
 use Rattle.mc_tables.specs.Summary.{SummaryValue}
@@ -78,7 +79,8 @@ is_searched-unique s es (Missed lan) (Some a) (Some b) p q =
     (p.lines ∙ sym q.lines, p.sent_on ∙ sym q.sent_on, p.took_none ∙ sym q.took_none)
 
 -- two of the same flights
-pub is_search_if_missed-unique : (d : DomainFacts) (summary : List SummaryValue) (excluded : List Bool) (flow : ℕ)
+pub is_search_if_missed-unique : (d : DomainFacts) (summary : List SummaryValue) (excluded : List Bool)
+    (flow : ℕ)
     (a b : ExaminedFlights) (s t : Option LanSearch) → HaveSameFlights a b
     → IsSearchAt255 d summary excluded flow a s
     → IsSearchAt255 d summary excluded flow b t → HaveSameSearch s t

@@ -33,8 +33,8 @@ use Rattle.mc_run.specs.MakeRun.{AreRight}
 
 -- ---- the lines of each flow
 
--- The text has for each flow of the domain, in order, lines of which this holds, and last the verdict. `begin`
--- stands before the lines of the flows, and `end` between them and the verdict.
+-- The text has for each flow of the domain, in order, lines of which this holds, and last the verdict.
+-- `begin` stands before the lines of the flows, and `end` between them and the verdict.
 pub record HasLinesOfEachFlow (audited : AuditedValue) (json all : Bool) (Holds : ℕ → List ℕ → Type 0)
     (written : List ℕ) : Type 0 where
   pub begin : List ℕ

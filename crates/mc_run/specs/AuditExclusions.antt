@@ -28,8 +28,8 @@ pub record IsFoundInWhole (audited : AuditedValue) (options : AuditOptions) (fil
   pub runs : IsFirstPickTravel audited.domain flow ttl travel
   -- The lines give it.
   pub spelled : lines ≡ finding_lines audited options flow ttl travel explanation
-  -- If it is a second copy on a LAN, or a stray, then the flow isn't right either in the domain that the files
-  -- mean without any exclusion, if they mean one.
+  -- If it is a second copy on a LAN, or a stray, then the flow isn't right either in the domain that the
+  -- files mean without any exclusion, if they mean one.
   pub wrong : IsSecondCopyOrStray (finding_value travel.finding) → (whole : DomainValue)
       → FilesMeanDomain files whole → ¬ IsRight (net_of whole flow)
 

@@ -1,7 +1,7 @@
--- The text and the answer of `audit` (docs/FORMATS.md, "The program"). `IsAuditText` is the relation to trust:
--- it fixes each byte of the text and the answer by the files alone, so that an audit of the same files with the
--- same options is always the same. What the text promises of a flow is said in AuditClaims, and what its yes
--- promises in AuditYes.
+-- The text and the answer of `audit` (docs/FORMATS.md, "The program"). `IsAuditText` is the relation to
+-- trust: it fixes each byte of the text and the answer by the files alone, so that an audit of the same files
+-- with the same options is always the same. What the text promises of a flow is said in AuditClaims, and what
+-- its yes promises in AuditYes.
 use Rattle.std.specs.Prelude.{◌≡◌, ◌<◌, ◌&&◌, ℕ, Bool, List, [], ◌++◌, flat_map, fold, length, slice_get}
 use Rattle.std.specs.Prelude.{take, Some}
 use Rattle.mc_files.specs.Files.{FileText}

@@ -47,8 +47,8 @@ abbrev pub found_flow_line : TopologyValue → Flow → (known : Bool) → Findi
 found_flow_line topology flow known finding = flow_words flow
     ++ (codes " " ++ (known_word known ++ (codes ": " ++ (finding_text topology finding ++ codes "\n"))))
 
--- the line that gives the TTL from which on packets show the finding, after this indent; nothing where none is
--- given
+-- the line that gives the TTL from which on packets show the finding, after this indent; nothing where none
+-- is given
 abbrev pub shown_from_text : (indent : List ℕ) → Option ℕ → List ℕ
 shown_from_text indent None = []
 shown_from_text indent (Some ttl) =

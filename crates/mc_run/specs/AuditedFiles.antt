@@ -1,6 +1,6 @@
--- What an audit is of: the domain that the files of a folder mean, without the routers and the groups that are
--- left out. `MeansAudited` is the relation to trust: each statement on an audit speaks of the value that the
--- files mean by it.
+-- What an audit is of: the domain that the files of a folder mean, without the routers and the groups that
+-- are left out. `MeansAudited` is the relation to trust: each statement on an audit speaks of the value that
+-- the files mean by it.
 use Rattle.std.specs.Prelude.{◌≡◌, ◌==◌, ℕ, Bool, List, length, map}
 use Rattle.mc_files.specs.Files.{FileText}
 use Rattle.mc_tables.specs.Summary.{SummaryValue}

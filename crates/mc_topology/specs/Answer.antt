@@ -10,7 +10,7 @@ abbrev pub ResultsAgree : {X Y E : Type 0} → (X → Y) → Result X E → Resu
 ResultsAgree view (Ok x) step = step ≡ Ok (view x)
 ResultsAgree view (Err fault) step = step ≡ Err fault
 
--- the fault that a call which takes memory may give in place of any result, since each allocation may fail: it
--- says nothing of the text, and stands at the top of the topology
+-- the fault that a call which takes memory may give in place of any result, since each allocation may fail:
+-- it says nothing of the text, and stands at the top of the topology
 abbrev pub out_of_memory : TopologyFault
 out_of_memory = record { section = Top; number = 0; kind = Memory }

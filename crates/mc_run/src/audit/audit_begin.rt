@@ -1,4 +1,5 @@
-//! Writes the lines before those of the flows in an audit's text: in JSON the domain and the words of the call.
+//! Writes the lines before those of the flows in an audit's text: in JSON the domain and the words of the
+//! call.
 
 ghost use Rattle.std.specs.Prelude.{◌≡◌, ◌++◌, IfOk, OnOk, flat_map, map};
 ghost use Rattle.std.specs.String.{string_bytes};

@@ -1,5 +1,5 @@
-//! Writes the lines of a flow with a finding, as text or in JSON: whether it is then known not to be right, and
-//! why.
+//! Writes the lines of a flow with a finding, as text or in JSON: whether it is then known not to be right,
+//! and why.
 
 ghost use Rattle.std.specs.Prelude.{◌≡◌, ◌<◌, ◌++◌, IfOk, OnOk, length, option_map};
 ghost use Rattle.std.specs.String.{string_bytes};

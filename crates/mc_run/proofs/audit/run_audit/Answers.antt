@@ -5,8 +5,8 @@ use Rattle.mc_run.proofs.FaultLemmas.{fault-of_audit_answer}
 use Rattle.mc_run.proofs.audit.run_audit.Given as given
 use Rattle.mc_run.proofs.audit.run_audit.Goals as goal
 
--- All clauses follow from the audit of the files and from how its output was written; the counts and the answer
--- are taken apart before, and put together after.
+-- All clauses follow from the audit of the files and from how its output was written; the counts and the
+-- answer are taken apart before, and put together after.
 run : (g : given.Over) (c : goal.After-with_counts g) → IsRunOf (g.F.FileSource.contents c.args.files.now)
     c.args.options (left_out c.args.left.now) c.with_counts.result (g.W.Output.written c.args.output.now)
     (g.W.Output.written c.write_output.new.output)

@@ -6,7 +6,8 @@ use Rattle.mc_run.proofs.laws.check_accepts_made_certificates.Goals as goal
 pub returns-clause-read : goal.returns-clause-read
 returns-clause-read c = reading_of-made_text
 
--- Each list was made for a flow that is certified, and is accepted since it names the copies of a clean travel.
+-- Each list was made for a flow that is certified, and is accepted since it names the copies of a clean
+-- travel.
 pub returns-clause-accepted : goal.returns-clause-accepted
 returns-clause-accepted c = is_accepted-made_list
 

@@ -5,8 +5,8 @@ use Rattle.mc_run.proofs.AuditAskedLemmas.{listed_sources-more}
 use Rattle.mc_run.proofs.audit.audit_asked.listed_sources.Goals as goal
 use Rattle.mc_run.proofs.audit.audit_asked.listed_sources.Goals.{then-eq+in_ok-push, else-eq}
 
--- The flow at this place adds its source exactly if its group is the one that is asked for; the sources of one
--- flow more are these and that one.
+-- The flow at this place adds its source exactly if its group is the one that is asked for; the sources of
+-- one flow more are these and that one.
 pub loop-number-preserved : goal.loop-number-preserved
 loop-number-preserved c =
     let flows = c.args.topology.now.flows in

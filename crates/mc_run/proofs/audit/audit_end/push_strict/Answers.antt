@@ -5,8 +5,8 @@ use Rattle.mc_run.proofs.AuditAskedLemmas.{appended-same, appended-two}
 use Rattle.mc_run.proofs.audit.audit_end.push_strict.Goals as goal
 use Rattle.mc_run.proofs.audit.audit_end.push_strict.Goals.{then-strict, else-strict}
 
--- The two lines are appended, and `strict && all`, which the code computes by cases, is the conjunction of the
--- definition.
+-- The two lines are appended, and `strict && all`, which the code computes by cases, is the conjunction of
+-- the definition.
 pub returns : goal.returns
 returns c =
     let fails : c.if-strict.fails ≡ (c.args.strict && c.args.all) = elim c.if-strict.branch as

@@ -3,8 +3,8 @@ use Rattle.mc_run.specs.AuditPieces.{audited_value}
 use Rattle.mc_run.proofs.ExplanationLemmas.{explanation_lines-pushed}
 use Rattle.mc_run.proofs.audit.audit_explanation.push_explanation.Goals as goal
 
--- The causes, the search, the other missed LANs and what is behind a stray are appended in this order, which is
--- that of the definition.
+-- The causes, the search, the other missed LANs and what is behind a stray are appended in this order, which
+-- is that of the definition.
 pub returns : goal.returns
 returns c = record {
   added = (

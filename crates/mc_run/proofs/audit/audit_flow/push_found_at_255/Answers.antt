@@ -23,8 +23,9 @@ shown_by-requires-clause-ended c =
     c.args.flights.now c.args.ended.now
     c.requires.found c.requires.flights
 
--- The causes, the search, what is behind a stray and the TTLs together are the explanation of this examination,
--- so that the lines of `push_wrong` are those of the flow. They print no tree, whichever were printed before.
+-- The causes, the search, what is behind a stray and the TTLs together are the explanation of this
+-- examination, so that the lines of `push_wrong` are those of the flow. They print no tree, whichever were
+-- printed before.
 pub returns : goal.returns
 returns c = record {
   ok = (

@@ -7,8 +7,8 @@ use Rattle.mc_run.proofs.FlowPushedLemmas.{wrong_flow_lines-same_causes}
 use Rattle.mc_run.proofs.ExplanationLemmas.{wrong_flow_lines-same_parts}
 use Rattle.mc_run.proofs.audit.audit_wrong.push_wrong.Goals as goal
 
--- The explanation that is written has the parts of the reasons: the other missed LANs are those of this travel,
--- and the domain is whole where the list of excluded names is empty.
+-- The explanation that is written has the parts of the reasons: the other missed LANs are those of this
+-- travel, and the domain is whole where the list of excluded names is empty.
 pub returns-clause-added : goal.returns-clause-added
 returns-clause-added c =
     let v = audited_value c.args.audited.now in

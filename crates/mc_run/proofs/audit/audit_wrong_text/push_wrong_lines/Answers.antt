@@ -6,8 +6,8 @@ use Rattle.mc_run.specs.AuditPieces.{audited_value}
 use Rattle.mc_run.proofs.ExplanationLemmas.{wrong_lines-pushed}
 use Rattle.mc_run.proofs.audit.audit_wrong_text.push_wrong_lines.Goals as goal
 
--- Four texts are appended one after another, each of the flow that the topology lists at this number; that they
--- are one text is regrouping.
+-- Four texts are appended one after another, each of the flow that the topology lists at this number; that
+-- they are one text is regrouping.
 pub returns : goal.returns
 returns c = record {
   added = (

@@ -11,8 +11,8 @@ use Rattle.mc_run.specs.AuditedFiles.{is_whole}
 use Rattle.mc_run.proofs.ExplanationLemmas.{is_found_below-less}
 use Rattle.mc_run.proofs.audit.reasons.found_below.Goals as goal
 
--- The flow's own TTL is less than the one from which on packets show the finding, since the test for the other
--- case failed. So the finding of a packet with it is printed, as far as it is certain.
+-- The flow's own TTL is less than the one from which on packets show the finding, since the test for the
+-- other case failed. So the finding of a packet with it is printed, as far as it is certain.
 pub returns : goal.returns
 returns c = record {
   found = (

@@ -29,8 +29,8 @@ of_certified-meant Holds contents read certified means follows =
     {P = λ text. MeansDomain text (certificate_text read.certificate) read.domain}
     {Q = λ text. MeansWithLists text both} means follows)
 
--- The bundle means the domain that was read, with the lists that its certificate denotes, and the text is that
--- of their verdicts.
+-- The bundle means the domain that was read, with the lists that its certificate denotes, and the text is
+-- that of their verdicts.
 pub returns-in-Ok-clause-text : goal.returns-in-Ok-clause-text
 returns-in-Ok-clause-text g c =
     let written = string_bytes c.in-Ok.run_output.text in

@@ -7,8 +7,8 @@ use Rattle.mc_run.proofs.CheckLemmas.{is_refused_for-cert_fault, means_certified
 use Rattle.mc_run.proofs.FaultLemmas.{is_fault_of_check-cert_fault}
 use Rattle.mc_run.proofs.commands.check.with_certificate.Goals as goal
 
--- The certificate's text is the one that the bundle has, and its first fault is the bundle's, whose other parts
--- are right.
+-- The certificate's text is the one that the bundle has, and its first fault is the bundle's, whose other
+-- parts are right.
 pub returns-in_err-certificate-clause-refused : goal.returns-in_err-certificate-clause-refused
 returns-in_err-certificate-clause-refused c = λ text means.
     let p = err_from_is_err_and c.from_residual.result c.from_residual.ensures.1 in

@@ -13,7 +13,8 @@ pub loop-flow-init : goal.loop-flow-init
 loop-flow-init c = rw (c.new-lists.ensures, c.new-lines.ensures.bytes)
     (are_made_so_far-none c.args.domain.now)
 
--- There is at most one list for each flow so far, one flow is still to come, and a topology has at most 4,096.
+-- There is at most one list for each flow so far, one flow is still to come, and a topology has at most
+-- 4,096.
 pub push-requires-clause-few : goal.push-requires-clause-few
 push-requires-clause-few c =
     let few = made_lists-at_most_flows c.args.domain.now c.loop-flow.flow c.loop-flow.lists
@@ -27,8 +28,8 @@ push-requires-clause-few c =
       c.flows-flow-end.ensures.rules.few_flows,
     )
 
--- The next flow is certified and adds its list, or is not and adds its lines; the other of the two stays as it
--- is.
+-- The next flow is certified and adds its list, or is not and adds its lines; the other of the two stays as
+-- it is.
 pub loop-flow-preserved : goal.loop-flow-preserved
 loop-flow-preserved c =
     let d = c.args.domain.now in

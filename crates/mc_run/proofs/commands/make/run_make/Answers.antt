@@ -7,8 +7,8 @@ use Rattle.mc_run.proofs.RunLemmas.{writes_part-output_written, writes-output_wr
 use Rattle.mc_run.specs.Faults.{IsFaultOfMake}
 use Rattle.mc_run.proofs.commands.make.run_make.Goals as goal
 
--- The text is right or the bundle is refused before anything is written; writing keeps the answer, or makes it
--- the fault `Write`.
+-- The text is right or the bundle is refused before anything is written; writing keeps the answer, or makes
+-- it the fault `Write`.
 pub returns-clause-answer : goal.returns-clause-answer
 returns-clause-answer g c =
     answers-output_written (g.R.Input.remaining c.args.input.now) IsMadeText (IsRefusedFor false)

@@ -1,8 +1,8 @@
 use Rattle.mc_run.proofs.PackingLemmas as packing
 use Rattle.mc_run.proofs.commands.pack.run_pack.Goals as goal
 
--- The run's fault is that of packing under the same name; so each clause on packing holds of the run, fault by
--- fault.
+-- The run's fault is that of packing under the same name; so each clause on packing holds of the run, fault
+-- by fault.
 pub returns-in_err-pack-clause-answer : goal.returns-in_err-pack-clause-answer
 returns-in_err-pack-clause-answer g c =
     packing.is_pack_answer-of_result (g.F.FileSource.contents c.args.files.now) c.args.certificate

@@ -27,6 +27,10 @@ def number_of(address):
     return struct.unpack(">I", bytes(map(int, address.split("."))))[0]
 
 
+def dotted(number):
+    return ".".join(str(byte) for byte in struct.pack(">I", number))
+
+
 def plain(device):
     """A device as the kernel has it."""
     return device.replace('\\"', '"').replace("\\\\", "\\")
@@ -51,6 +55,11 @@ def with_checksum(message):
     while total >> 16:
         total = (total & 0xFFFF) + (total >> 16)
     return (message[:2] + struct.pack(">H", 0xFFFF - total) + message[4:]).hex()
+
+
+def messages_of(records, size):
+    """Reports of these records, so many in each."""
+    return [report_of(records[first:first + size]) for first in range(0, len(records), size)]
 
 
 class Made:
@@ -246,3 +255,29 @@ class Made:
         for name, text in texts.items():
             with open(os.path.join(folder, name), "w", encoding="utf-8") as file:
                 file.write(text)
+
+
+class ManyWants(Made):
+    """A domain whose hosts ask for many sources that no flow has, again and again: some at once, others after all that
+    are different. Each two are 131,071 apart, as many as the program remembers of them by their remainders, so that one
+    takes the place of the other; and if there is to be a sort of them, there are more than 2^18 of such pairs."""
+    APART = 131_071
+
+    def __init__(self, seed, pairs, is_sorted):
+        self.pairs, self.is_sorted = pairs, is_sorted
+        super().__init__(seed)
+
+    def reports_of(self):
+        pick = self.pick
+        first = pick.randrange(number_of("10.32.0.0"), number_of("10.64.0.0"))
+        near = [dotted(first + number) for number in range(self.pairs)]
+        far = [dotted(first + self.APART + number) for number in range(self.pairs)]
+        both = [source for pair in zip(near, far) for source in pair]
+        records = [(1, "239.9.9.9", sources) for sources in (near, near, far, near[::-1], SOURCES, ["0.0.0.0"])]
+        records += [(2, group, []) for group in ASKED] * 3
+        records += [(1, "0.0.0.0", both[:9]), (1, GROUPS[0], both), (1, "239.8.0.1", both)]
+        in_each = max(1, 16_000 // len(both))  # a message has at most 16,376 sources
+        lines = messages_of(records, in_each)
+        if self.is_sorted:
+            lines += messages_of([(1, "239.9.9.9", both)] * ((1 << 18) // len(both) + 1), in_each)
+        return "".join(f"{line}\n" for line in lines)

@@ -5,7 +5,7 @@
 
 The domains are those of examples/faults, and those of random_domains.py with the numbers from FIRST (0) on, COUNT (400)
 of them. answers.py works the answers out from their definitions, and the program has to write the same bytes, as text
-and as JSON, and end with the same status. An example is tried with all of WORDS and with its own, a random domain with
+and as JSON, and end with the same status. In MANY further ones hosts ask for thousands of sources. An example is tried with all of WORDS and with its own, a random domain with
 TRIED of WORDS, beginning at its number, so that each set comes for half of them. For the examples, whose answers
 stand beside their folders and were read line by line against the tables, answers.py has to give these. Each kind of
 finding has to come, each kind of line that explains one, a finding that isn't known to make its flow wrong, one that
@@ -38,6 +38,8 @@ WORDS = (
     "--ignore 239.7.7.0/24 --strict --ignore=239.7.7.0/28", "--json --ignore=239.8.0.0/15 --without A --ignore 224.0.0.0/5",
 )
 TRIED = 7
+# Pairs of sources that hosts ask for, and whether there are so many repeats that the program sorts them.
+MANY = ((1_000, False), (3_000, False), (5_000, True))
 FINDINGS = {"Duplicate", "Loop", "Stray", "Missed"}
 LINES = {
     "sent_onto", "circle", "take_out", "on_no_lan", "register_vif", "tunnel", "no_device", "no_vif_line",
@@ -155,6 +157,13 @@ def try_random(program, number):
         return try_folder(program, f"domain {number}", folder, sets, number // len(WORDS))
 
 
+def try_many(program, number):
+    pairs, is_sorted = MANY[number]
+    with tempfile.TemporaryDirectory(prefix="mcaudit-audited-") as folder:
+        random_domains.ManyWants(number, pairs, is_sorted).write(folder)
+        return try_folder(program, f"{pairs} pairs", folder, ["", "--json --unlisted"], number)
+
+
 def try_example(program, name):
     folder, own = os.path.join(faults.FOLDER, name), faults.WORDS.get(name, "")
     for ending in ("txt", "json"):
@@ -172,6 +181,7 @@ def main():
     examples = sorted(name for name in os.listdir(faults.FOLDER) if os.path.isdir(os.path.join(faults.FOLDER, name)))
     tries = [(try_example, program, name) for name in examples]
     tries += [(try_random, program, number) for number in range(first, first + count)]
+    tries += [(try_many, program, number) for number in range(len(MANY))]
     return try_all(tries, len(tries) if examples else 0, FINDINGS | LINES | FLOWS | STRAYS | ASKED | BEHIND | TREES, "domain")
 
 

@@ -33,15 +33,16 @@ from concurrent.futures import ThreadPoolExecutor
 
 TOP = os.path.dirname(os.path.dirname(os.path.dirname(os.path.abspath(__file__))))
 sys.dont_write_bytecode = True
-sys.path += [f"{TOP}/tests", f"{TOP}/tests/cli"]
+sys.path += [f"{TOP}/tests", f"{TOP}/tests/audited", f"{TOP}/tests/cli"]
 import case_files
+import random_domains
 from ended import status_of
 from made import alone
 
 PIECES = (1, 2, 3, 7, 64, 4096)
 MOST_STOPS = 400  # of a long text not every place is tried, but so many, evenly
 ALL_STOPS = 2000  # of the input of the first run every place is
-FILE_CUTS = 500  # no file of the folders that are tried has so many bytes
+FILE_CUTS = 500  # no file of the folders that are tried has so many bytes, but for the lists of `many`
 NO_MEMORY = (4, b"", b"no memory\n")
 READ_FAILED = (3, b"", b"failed: read\n")
 GAVE_UP = re.compile(rb"error: .*(Memory|AllocError|AllocFailed).*\nthe test failed: its result gives status 1\n\Z")
@@ -226,6 +227,9 @@ def tries(program, programs_of_tests, library, room):
         yield Tried(program, library, *run)
     case_files.write_folder(case_files.load(REFUSED_FILES), "folder", f"{room}/refused")
     yield TriedRefusal(program, library, ["audit", f"{room}/refused"], None)
+    os.mkdir(f"{room}/many")
+    random_domains.ManyWants(0, 1_000, False).write(f"{room}/many")  # more than are kept with all their repeats
+    yield Tried(program, library, ["audit", f"{room}/many"], None)
     for tests in programs_of_tests:
         yield from tests_about_memory(tests, library)
 

@@ -1,6 +1,7 @@
 pub mod IndexLemmas
 pub mod AscendingLemmas
 pub mod WantLemmas
+pub mod TakenPairLemmas
 pub mod UnansweredLemmas
 pub mod ForwardingLemmas
 pub mod LowestOfParts

@@ -3,6 +3,7 @@ pub mod Unadmitted
 pub mod WantSources
 pub mod UnadmittedSoFar
 pub mod Services
+pub mod TakenPairs
 pub mod Answers
 pub mod LanWants
 pub mod ClassifiedWants

@@ -6,6 +6,7 @@
 mod answers;
 mod asked_lines;
 mod classified_wants;
+mod few_repeats;
 mod forwarding;
 mod group_run;
 mod lan_wants;

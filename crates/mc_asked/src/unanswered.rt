@@ -1,24 +1,21 @@
 //! The wants of a list that no flow answers, as numbers in any order.
 
-ghost use Rattle.std.specs.Prelude.{◌≡◌, ◌≤◌, ◌↔◌, ◌∷◌, ◌++◌, [], ℕ, Contains, IfOk, List, OnOk, length};
-ghost use Rattle.std.specs.Prelude.{if◌then◌else◌, filter, flat_map, map, not};
+ghost use Rattle.std.specs.Prelude.{◌≡◌, ◌∷◌, [], IfOk, List, OnOk, length};
+ghost use Rattle.std.specs.Prelude.{filter, flat_map, map, not};
 ghost use Rattle.mc_text.specs.Pair.{pair_of};
-ghost use Rattle.mc_igmp.specs.declared.record.Record.{Record};
+ghost use Rattle.mc_igmp.specs.declared.record.Record.{Record as IgmpRecord};
 ghost use Rattle.mc_tables.specs.Summary.{in_order};
 ghost use Rattle.mc_asked.specs.Answers.{is_answered};
 ghost use Rattle.mc_asked.specs.Indexes.{AreFlowsWanted, IsIndexOfWantedGroups};
-ghost use Rattle.mc_asked.specs.ListWants.{asked_by};
+ghost use Rattle.mc_asked.specs.ListWants.{asked_by, included_in};
+ghost use Rattle.mc_asked.specs.TakenPairs.{TakesUnanswered};
 
 use crate::answers::WantAnswers;
-use crate::wants::{add_asked, group_number};
-use mc_igmp::ReportList;
-use mc_tables::drop_repeats;
+use crate::few_repeats::FewRepeats;
+use crate::wants::group_number;
+use mc_igmp::{Kind, Record, ReportList};
 use mc_text::{Addr, Index, Memory, pair_number};
 use std::alloc::{AllocError, Global};
-
-/// The greatest count of numbers, 2 MiB of them, that are kept with their repeats, of which a list of many
-/// hosts is full.
-const MAX_WITH_REPEATS: usize = 1 << 18;
 
 /// The groups of the flows, each a source and a group, that are wanted.
 pub(crate) fn index_of_wanted_groups(
@@ -27,7 +24,7 @@ pub(crate) fn index_of_wanted_groups(
     wanted: &[bool],
 ) -> Result<Index, Memory>
     requires { length wanted.now ≡ length flows.now }
-    ensures { IfOk result (λ index. (records : List Record) →
+    ensures { IfOk result (λ index. (records : List IgmpRecord) →
         AreFlowsWanted flows.now records wanted.now → IsIndexOfWantedGroups flows.now records index) }
 {
     let mut numbers = Vec::new(alloc);
@@ -39,61 +36,94 @@ pub(crate) fn index_of_wanted_groups(
     Index::of(alloc, numbers)
 }
 
-/// Appends the number of a want unless a flow answers it.
+/// Whether no flow answers the want.
+fn is_unanswered(answers: &WantAnswers, wanted_groups: &Index, want: &(Addr, Addr)) -> bool
+    ensures { (records : List IgmpRecord) →
+        IsIndexOfWantedGroups answers.now.flows records wanted_groups.now →
+        result ≡ not (is_answered answers.now records want.now) }
+{
+    !answers.is_answered(wanted_groups, want)
+}
+
+/// Appends the number of a want unless a flow answers it, or it is known to be there.
 fn push_unless_answered(
-    unanswered: &mut Vec<u64>,
+    unanswered: &mut FewRepeats,
     answers: &WantAnswers,
     wanted_groups: &Index,
     want: &(Addr, Addr),
 ) -> Result<(), AllocError>
-    ensures { OnOk result ((records : List Record) →
-        IsIndexOfWantedGroups answers.now.flows records wanted_groups.now →
-        map pair_of unanswered.new.items ≡ map pair_of unanswered.old.items
-        ++ (if not (is_answered answers.now records want.now) then want.now ∷ [] else [])) }
+    ensures { OnOk result (TakesUnanswered
+        answers.now wanted_groups.now unanswered.old unanswered.new (want.now ∷ [])) }
 {
-    if !answers.is_answered(wanted_groups, want) {
-        unanswered.push(pair_number(want.0, want.1))?;
+    let number = pair_number(want.0, want.1);
+    if !unanswered.is_recent(number) && is_unanswered(answers, wanted_groups, want) {
+        unanswered.push(number)?;
     }
     Ok(())
 }
 
-/// Appends the numbers of those of the wants that no flow answers. Mostly there are none, and they needn't
-/// be put in order.
-fn push_unanswered(
-    unanswered: &mut Vec<u64>,
+/// Appends the number of the want of one source of an INCLUDE record, unless a flow answers it, if a host may
+/// send from there.
+fn push_included_source(
+    unanswered: &mut FewRepeats,
     answers: &WantAnswers,
     wanted_groups: &Index,
-    wants: &[(Addr, Addr)],
+    group: Addr,
+    source: Addr,
 ) -> Result<(), AllocError>
-    ensures { OnOk result ((records : List Record) →
-        IsIndexOfWantedGroups answers.now.flows records wanted_groups.now →
-        map pair_of unanswered.new.items ≡ map pair_of unanswered.old.items
-        ++ filter (λ want. not (is_answered answers.now records want)) wants.now) }
+    ensures { OnOk result (TakesUnanswered answers.now wanted_groups.now unanswered.old unanswered.new
+        (included_in group (source ∷ []))) }
 {
-    for want in wants {
-        push_unless_answered(unanswered, answers, wanted_groups, want)?;
+    if source.is_source() {
+        push_unless_answered(unanswered, answers, wanted_groups, &(group, source))?;
     }
     Ok(())
 }
 
-/// Drops repeats of the numbers if they are more than the limit. Returns the next limit: at least twice as
-/// many as are left, so that they are sorted seldom. That no repeat is left isn't proved, since what becomes
-/// of the numbers is the same with repeats.
-fn drop_repeats_above(limit: usize, numbers: &mut Vec<u64>) -> usize
-    ensures same { (number : ℕ) → Contains numbers.new.items number ↔ Contains numbers.old.items number }
-    ensures within { length numbers.new.items ≤ result }
-    ensures limit { limit ≤ result }
+/// Appends the numbers of those of an INCLUDE record's wants that no flow answers.
+fn push_included(
+    unanswered: &mut FewRepeats,
+    answers: &WantAnswers,
+    wanted_groups: &Index,
+    group_record: &Record<'_>,
+) -> Result<(), AllocError>
+    ensures { OnOk result (TakesUnanswered answers.now wanted_groups.now unanswered.old unanswered.new
+        (included_in group_record.now.group group_record.now.sources)) }
 {
-    if numbers.len() <= limit {
-        return limit;
+    for source in group_record.sources.iter() {
+        push_included_source(
+            unanswered,
+            answers,
+            wanted_groups,
+            group_record.group,
+            source,
+        )?;
     }
-    drop_repeats(numbers);
-    limit.max(numbers.len().saturating_mul(2))
+    Ok(())
 }
 
-/// The numbers of what the list asks for and no flow answers, in any order. Repeats are dropped when the
-/// numbers first exceed the limit, and later whenever they have doubled: then the room that they take is in
-/// proportion to those that differ.
+/// Appends the numbers of those of a record's wants that no flow answers.
+fn push_unanswered(
+    unanswered: &mut FewRepeats,
+    answers: &WantAnswers,
+    wanted_groups: &Index,
+    group_record: &Record<'_>,
+) -> Result<(), AllocError>
+    ensures { OnOk result (TakesUnanswered
+        answers.now wanted_groups.now unanswered.old unanswered.new (asked_by group_record.now)) }
+{
+    match group_record.kind {
+        Kind::Exclude => {
+            let want = (group_record.group, Addr::unspecified());
+            push_unless_answered(unanswered, answers, wanted_groups, &want)
+        }
+        Kind::Include => push_included(unanswered, answers, wanted_groups, group_record),
+        Kind::Change(_) | Kind::Unknown(_) => Ok(()),
+    }
+}
+
+/// The numbers of what the list asks for and no flow answers, in any order, in room in proportion to those
+/// that differ.
 pub(crate) fn unanswered_in(
     alloc: Global,
     answers: &WantAnswers,
@@ -106,14 +136,9 @@ pub(crate) fn unanswered_in(
         ≡ in_order (filter (λ want. not (is_answered answers.now list.now want))
         (flat_map asked_by list.now))) }
 {
-    let mut unanswered = Vec::new(alloc);
-    let mut wants = Vec::new(alloc);
-    let mut limit = MAX_WITH_REPEATS;
+    let mut unanswered = FewRepeats::none(alloc);
     for group_record in list.records() {
-        wants.clear();
-        add_asked(&mut wants, &group_record)?;
-        push_unanswered(&mut unanswered, answers, wanted_groups, &wants)?;
-        limit = drop_repeats_above(limit, &mut unanswered);
+        push_unanswered(&mut unanswered, answers, wanted_groups, &group_record)?;
     }
-    Ok(unanswered)
+    Ok(unanswered.into_numbers())
 }

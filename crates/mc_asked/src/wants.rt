@@ -1,17 +1,17 @@
 //! What a list of reports asks for.
 
-ghost use Rattle.std.specs.Prelude.{◌≡◌, ◌↔◌, ◌++◌, Contains, IfOk, IsTrue, OnOk, filter, map};
+ghost use Rattle.std.specs.Prelude.{◌≡◌, ◌↔◌, Contains, IfOk, IsTrue, filter, map};
 ghost use Rattle.mc_text.specs.Pair.{pair_of};
 ghost use Rattle.mc_filter.specs.SourceFilter.{has};
 ghost use Rattle.mc_filter.specs.FilterBuilding.{is_exclude};
 ghost use Rattle.mc_asked.specs.Indexes.{IsIndexOfExcludes, is_of_merged_filter_by};
 ghost use Rattle.mc_tables.specs.Summary.{in_order};
-ghost use Rattle.mc_asked.specs.ListWants.{asked_by, included_in, is_of_merged_filter};
+ghost use Rattle.mc_asked.specs.ListWants.{is_of_merged_filter};
 
-use mc_igmp::{Kind, Record, ReportList};
+use mc_igmp::{Kind, ReportList};
 use mc_tables::pairs_in_order;
 use mc_text::{Addr, Index, Memory};
-use std::alloc::{AllocError, Global};
+use std::alloc::Global;
 
 /// The number of a group in an index.
 pub(crate) fn group_number(group: Addr) -> u64
@@ -45,37 +45,6 @@ fn excluded_groups(alloc: Global, list: &ReportList) -> Result<Index, Memory>
         }
     }
     Index::of(alloc, numbers)
-}
-
-/// Adds what an INCLUDE record with these sources asks for.
-fn add_included(wants: &mut Vec<(Addr, Addr)>, group_record: &Record<'_>) -> Result<(), AllocError>
-    ensures { OnOk result (wants.new.items ≡
-        wants.old.items ++ included_in group_record.now.group group_record.now.sources) }
-{
-    for source in group_record.sources.iter() {
-        if source.is_source() {
-            wants.push((group_record.group, source))?;
-        }
-    }
-    Ok(())
-}
-
-/// Adds what a record asks for.
-pub(crate) fn add_asked(
-    wants: &mut Vec<(Addr, Addr)>,
-    group_record: &Record<'_>,
-) -> Result<(), AllocError>
-    ensures { OnOk result (wants.new.items ≡ wants.old.items ++ asked_by group_record.now) }
-{
-    match group_record.kind {
-        Kind::Exclude => {
-            let any_source = Addr::unspecified();
-            wants.push((group_record.group, any_source))?;
-            Ok(())
-        }
-        Kind::Include => add_included(wants, group_record),
-        Kind::Change(_) | Kind::Unknown(_) => Ok(()),
-    }
 }
 
 /// Whether the merged filter of the want's group asks for it, by the groups that have an EXCLUDE record.

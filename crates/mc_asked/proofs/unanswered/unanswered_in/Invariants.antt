@@ -11,7 +11,7 @@ use Rattle.mc_asked.proofs.unanswered.unanswered_in.Given as goal
 abbrev pub invariant-loop-group_record : goal.invariant-loop-group_record
 invariant-loop-group_record l =
     IsIndexOfWantedGroups l.fn.answers.flows l.fn.list l.fn.wanted_groups →
-    in_order (map pair_of l.unanswered.items
+    in_order (map pair_of l.unanswered
     ++ filter (λ want. not (is_answered l.fn.answers l.fn.list want))
     (flat_map asked_by l.group_record-iterator))
     ≡ in_order (filter (λ want. not (is_answered l.fn.answers l.fn.list want)) (flat_map asked_by l.fn.list))

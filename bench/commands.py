@@ -18,17 +18,13 @@ COMMANDS = ("check", "make", "replay", "audit", "wants")
 
 class Case(NamedTuple):
     """The words of a command, the file or folder that it reads, the file of what it must write, and its status; and
-    where earlier builds wrote less, the file of that."""
+    whether only the last line of that counts for an earlier build."""
 
     words: list
     path: str
     wanted: str
     status: int
-    before: str = ""
-
-    def wanted_of(self, is_before):
-        """The files of what it may write, if this is an earlier build or not."""
-        return [self.wanted] + ([self.before] if is_before and self.before else [])
+    is_reworded: bool = False
 
 
 class Unexpected(Exception):
@@ -58,6 +54,21 @@ def first_difference(path, wanted):
                 return None
 
 
+def last_line(path):
+    """The last line of a file, or its end, where that is very long."""
+    with open(path, "rb") as file:
+        file.seek(max(0, os.path.getsize(path) - 4096))
+        return (file.read().splitlines() or [b""])[-1]
+
+
+def difference_of(case, path, is_before):
+    """The first other line and the one that was wanted, if the program, an earlier one or not, has written any."""
+    if is_before and case.is_reworded:
+        lines = last_line(path), last_line(case.wanted)
+        return lines if lines[0] != lines[1] else None
+    return first_difference(path, case.wanted)
+
+
 def files_of(path):
     """The file, or all files of a folder."""
     return sorted(entry.path for entry in os.scandir(path)) if os.path.isdir(path) else [path]
@@ -75,8 +86,8 @@ def extent_of(path):
 
 
 def audit_of(folder, status):
-    """The case of audit; builds before explanations wrote verdicts alone."""
-    return Case(["audit", f"{folder}/files"], f"{folder}/files", f"{folder}/audited", status, f"{folder}/verdicts")
+    """The case of audit, which has said more from build to build, and in other words."""
+    return Case(["audit", f"{folder}/files"], f"{folder}/files", f"{folder}/audited", status, is_reworded=True)
 
 
 def cases_of(folder, name):
@@ -108,8 +119,7 @@ def run_once(program, case, folder, is_before):
     """What one run took, if it answered as it must. The program is the words that begin it."""
     source = "/dev/null" if os.path.isdir(case.path) else case.path
     status, seconds, kib = spawn([*program, *case.words], source, folder)
-    differences = [first_difference(f"{folder}/stdout", file) for file in case.wanted_of(is_before)]
-    difference = all(differences) and differences[0]
+    difference = difference_of(case, f"{folder}/stdout", is_before)
     if status != case.status or difference:
         with open(f"{folder}/stderr", encoding="utf-8", errors="replace") as file:
             said = file.read(400)

@@ -6,10 +6,11 @@ usage: run.py PROGRAM [BEFORE] [--only NAMES] [--runs N] [--write FILE] [--commi
               [--bounds NAMES]
 
 PROGRAM and BEFORE are two builds of mcaudit, which run in turn on the same files. The files lie in memory. Each answer
-is held against what the domain says that it has to be (texts.py), and another one ends the run. What is told is the
-best of N runs (3, if not given, and some more of short ones) in processor time, of user and system, and the most
-memory of any. At the end stands what a byte and a line cost of that time, and how many instructions, which valgrind
-counts where it is there, once for each command on a tenth of each shape (counts.py).
+is held against what the domain says that it has to be (texts.py), and another one ends the run; of an earlier build's
+audit, whose words change, only the status and the last line count. What is told is the best of N runs (3, if not given,
+and some more of short ones) in processor time, of user and system, and the most memory of any. At the end stands what
+a byte and a line cost of that time, and how many instructions, which valgrind counts where it is there, once for each
+command on a tenth of each shape (counts.py).
 
 --only    the names of shapes, with commas between; `unkind` means all tables of unkind rows, and `forms` the forms of
           a certificate; `faulty` has faults, which audit explains

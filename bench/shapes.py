@@ -322,12 +322,8 @@ FAULTY = {"faulty": faulty}
 
 
 def write_faulty_answers(folder):
-    """Writes what audit has to say of the folder's files, as tests/audited/answers.py works it out, and what it says
-    without explanations."""
-    answer = answers.audit([f"{folder}/files"]).output()
-    said = answer.splitlines(keepends=True)
-    texts.write_text(f"{folder}/audited", answer)
-    texts.write_text(f"{folder}/verdicts", "".join(line for line in said if line.startswith(("flow", "found", "verdict"))))
+    """Writes what audit has to say of the folder's files, as tests/audited/answers.py works it out."""
+    texts.write_text(f"{folder}/audited", answers.audit([f"{folder}/files"]).output())
 
 
 def main():

@@ -4,7 +4,7 @@ bundle          without a certificate, for make and replay
 certified       with the certificate, for check
 files/          the files of the domain, for audit
 certificate     what make has to write
-verdicts        what check has to write, and audit without what explains it
+verdicts        what check has to write
 audited         what audit has to write
 travel          what replay has to write of the first flow
 facts           in JSON: the number of flows and of bytes, the time to live of the first flow, and for wants the list, a

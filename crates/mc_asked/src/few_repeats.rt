@@ -7,8 +7,8 @@ use mc_tables::drop_repeats;
 use std::alloc::{AllocError, Global};
 use std::marker::Model;
 
-/// The greatest count of numbers that are kept with all their repeats. So many are sorted before the memory
-/// of recent ones, of 1 MiB, would be cleared.
+/// The greatest count of numbers that are kept with all their repeats: to sort so many takes hardly longer
+/// than to fill the 1 MiB of those that are remembered.
 const MAX_WITH_ALL_REPEATS: usize = 4_096;
 
 /// The greatest count of numbers, 2 MiB of them, that are kept with the repeats that weren't found, of which

@@ -146,7 +146,8 @@ def listed_reports(rng, groups, hosts, count):
 
 
 def reports(rng, share):
-    """A router at the source and two more with five LANs each, whose lists have 60,000 lines."""
+    """A router at the source and two more with five LANs each, whose lists have 60,000 lines: some 15 times each of
+    4,096 reports."""
     plan = Plan(3)
     source_lan = plan.lan(0)
     plan.lan(0, 1)
@@ -157,7 +158,7 @@ def reports(rng, share):
     groups = [flow.group for flow in flows] + rng.sample(GROUPS, 100)
     lists = {}
     for lan in lans:
-        some = listed_reports(rng, rng.sample(groups, 150), hosts, 4096)
+        some = listed_reports(rng, rng.sample(groups, 150), hosts, int(4096 * share))
         lists[lan] = Reports(rng.choices(some, k=int(60000 * share)))
     return Domain(rng, plan, flows, silent(plan, lists))
 

@@ -280,4 +280,5 @@ class ManyWants(Made):
         lines = messages_of(records, in_each)
         if self.is_sorted:
             lines += messages_of([(1, "239.9.9.9", both)] * ((1 << 18) // len(both) + 1), in_each)
+        lines += messages_of([(1, "239.9.9.9", near)] * 3, in_each)  # of which all but the first are remembered
         return "".join(f"{line}\n" for line in lines)

@@ -39,7 +39,7 @@ WORDS = (
 )
 TRIED = 7
 # Pairs of sources that hosts ask for, and whether there are so many repeats that the program sorts them.
-MANY = ((1_000, False), (3_000, False), (5_000, True))
+MANY = ((1_000, False), (6_000, False), (5_000, True))
 FINDINGS = {"Duplicate", "Loop", "Stray", "Missed"}
 LINES = {
     "sent_onto", "circle", "take_out", "on_no_lan", "register_vif", "tunnel", "no_device", "no_vif_line",

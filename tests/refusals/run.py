@@ -228,7 +228,7 @@ def tries(program, programs_of_tests, library, room):
     case_files.write_folder(case_files.load(REFUSED_FILES), "folder", f"{room}/refused")
     yield TriedRefusal(program, library, ["audit", f"{room}/refused"], None)
     os.mkdir(f"{room}/many")
-    random_domains.ManyWants(0, 1_000, False).write(f"{room}/many")  # more than are kept with all their repeats
+    random_domains.ManyWants(0, 3_000, False).write(f"{room}/many")  # more than are kept with all their repeats
     yield Tried(program, library, ["audit", f"{room}/many"], None)
     for tests in programs_of_tests:
         yield from tests_about_memory(tests, library)

@@ -1,6 +1,6 @@
 -- Pairs that numbers take, one after another.
 use Rattle.std.proofs.Common.{◌≡◌, ℕ, Bool, true, false, cond, List, [], ◌∷◌, ◌++◌, filter, map, inl, inr}
-use Rattle.std.proofs.Common.{append_assoc, refl, sym, subst, ap, ◌∙◌}
+use Rattle.std.proofs.Common.{append_assoc, refl, subst, ap, ◌∙◌}
 use Rattle.std.specs.Prelude.{◌↔◌, Contains}
 use Rattle.std.proofs.lemmas.List.{map-append}
 use Rattle.std.proofs.lemmas.List.Elements.{Contains-append_left, Contains-push_cases}

@@ -7,9 +7,9 @@ use mc_tables::drop_repeats;
 use std::alloc::{AllocError, Global};
 use std::marker::Model;
 
-/// The greatest count of numbers that are kept with all their repeats: to sort so many takes hardly longer
-/// than to fill the 1 MiB of those that are remembered.
-const MAX_WITH_ALL_REPEATS: usize = 4_096;
+/// The greatest count of numbers that are kept with all their repeats: to sort so many takes ten times as long
+/// as to fill the 1 MiB of those that are remembered.
+const MAX_WITH_ALL_REPEATS: usize = 16_384;
 
 /// The greatest count of numbers, 2 MiB of them, that are kept with the repeats that weren't found, of which
 /// a list of many hosts is full.
@@ -105,12 +105,22 @@ impl FewRepeats {
     fn begin_to_remember(&mut self) -> Result<(), AllocError>
         ensures same { OnOk result (self.new ≡ self.old) }
     {
-        if !self.recent.is_empty() {
-            return Ok(());
-        }
         if let Some(first) = self.numbers.first() {
             let alloc = *self.numbers.allocator();
             self.recent = vec![in alloc; *first; MAX_RECENT]?;
+            self.limit = MAX_WITH_REPEATS;
+        }
+        Ok(())
+    }
+
+    /// Remembers numbers from now on, or, where they are remembered already, drops repeats.
+    fn pass_limit(&mut self) -> Result<(), AllocError>
+        ensures { OnOk result ((number : ℕ) → Contains self.new number ↔ Contains self.old number) }
+    {
+        if self.recent.is_empty() {
+            self.begin_to_remember()?;
+        } else {
+            self.drop_other_repeats();
         }
         Ok(())
     }
@@ -123,8 +133,7 @@ impl FewRepeats {
         self.numbers.push(number)?;
         self.remember(number);
         if self.numbers.len() > self.limit {
-            self.drop_other_repeats();
-            self.begin_to_remember()?;
+            self.pass_limit()?;
         }
         Ok(())
     }

@@ -21,11 +21,10 @@ invariant_of-self-2 c =
     (λ number among. Contains-append_left old (c.args.number ∷ []) number among)
     c.self.inside.recent.items c.self.invariant)
 
--- Dropping repeats and remembering others leaves the same numbers.
-pub returns-in_ok-begin_to_remember : goal.returns-in_ok-begin_to_remember
-returns-in_ok-begin_to_remember c = λ other.
-    subst (λ (items : List ℕ). Contains c.begin_to_remember.new.self other ↔ Contains items other)
+-- Remembering numbers, or dropping repeats, leaves the same ones.
+pub returns-in_ok-pass_limit : goal.returns-in_ok-pass_limit
+returns-in_ok-pass_limit c = λ other.
+    subst (λ (items : List ℕ). Contains c.pass_limit.new.self other ↔ Contains items other)
     (c.remember.ensures.same ∙ c.in_ok-push.ensures.items
     ∙ ap (λ (items : List ℕ). items ++ c.args.number ∷ []) c.self.view_is)
-    (subst (λ (items : List ℕ). Contains items other ↔ Contains c.remember.new.self other)
-    (sym c.in_ok-begin_to_remember.ensures.same) (c.drop_other_repeats.ensures.same other))
+    (c.in_ok-pass_limit.ensures other)

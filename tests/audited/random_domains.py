@@ -260,7 +260,7 @@ class Made:
 class ManyWants(Made):
     """A domain whose hosts ask for many sources that no flow has, again and again: some at once, others after all that
     are different. Each two are 131,071 apart, as many as the program remembers of them by their remainders, so that one
-    takes the place of the other; and if there is to be a sort of them, there are more than 2^18 of such pairs."""
+    takes the place of the other; and if there is to be a sort of them, they come more than 2^18 times in all."""
     APART = 131_071
 
     def __init__(self, seed, pairs, is_sorted):

@@ -8,13 +8,14 @@ use Rattle.mc_asked.specs.Answers.{AnswersValue, is_answered}
 use Rattle.mc_asked.specs.Indexes.{IsIndexOfWantedGroups}
 use Rattle.mc_asked.specs.ListWants.{Want}
 
--- The new numbers are the old ones and those of these pairs, but for their order and repeats: put in order beside
--- any others, they are the same pairs.
+-- The new numbers are the old ones and those of these pairs, but for their order and repeats: put in order
+-- beside any others, they are the same pairs.
 abbrev pub TakesPairs : (old new : List ℕ) → (pairs : List (ℕ × ℕ)) → Type 0
 TakesPairs old new pairs = (others : List (ℕ × ℕ)) →
     in_order (map pair_of new ++ others) ≡ in_order (map pair_of old ++ (pairs ++ others))
 
--- the numbers take those of these wants that no flow answers, where these are the groups of which a list wants flows
+-- The numbers take those of these wants that no flow answers, where these are the groups of which a list wants
+-- flows.
 abbrev pub TakesUnanswered : AnswersValue → (wanted_groups old new : List ℕ) → List Want → Type 0
 TakesUnanswered answers wanted_groups old new wants = (records : List Record) →
     IsIndexOfWantedGroups answers.flows records wanted_groups →

@@ -7,8 +7,8 @@ use mc_tables::drop_repeats;
 use std::alloc::{AllocError, Global};
 use std::marker::Model;
 
-/// The greatest count of numbers that are kept with all their repeats: to sort so many takes ten times as long
-/// as to fill the 1 MiB of those that are remembered.
+/// The greatest count of numbers that are kept with all their repeats: to sort so many takes far longer than
+/// to fill the 1 MiB of those that are remembered.
 const MAX_WITH_ALL_REPEATS: usize = 16_384;
 
 /// The greatest count of numbers, 2 MiB of them, that are kept with the repeats that weren't found, of which
@@ -92,8 +92,8 @@ impl FewRepeats {
         }
     }
 
-    /// Drops the repeats that weren't found. That none is left isn't proved, since what becomes of the numbers
-    /// is the same with repeats.
+    /// Drops the repeats that weren't found. That none is left isn't proved, since what becomes of the
+    /// numbers is the same with repeats.
     fn drop_other_repeats(&mut self)
         ensures same { (number : ℕ) → Contains self.new number ↔ Contains self.old number }
     {

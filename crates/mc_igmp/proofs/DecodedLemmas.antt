@@ -59,6 +59,16 @@ decode_of-all_decoded digits bytes count is twice decoded =
     (subst (λ s. list_all is_hex_digit s ≡ true) whole decoded.0)
     ∙ ap Ok (ap bytes_of_pairs (sym whole) ∙ sym decoded.1 ∙ take_all count bytes (omega arith))
 
+-- if all bytes at the front are decoded, they are the digits decoded
+pub decode_of-decoded_front : (digits room : List ℕ) (count : ℕ) → count ≤ length room
+    → length digits ≡ 2 * count → AreDecoded digits room count → decode_of digits ≡ Ok (take count room)
+decode_of-decoded_front digits room count within twice decoded =
+    let size = length-take-le count room within in
+    decode_of-all_decoded digits (take count room) count (sym size) (omega (arith, size, twice)) (
+      decoded.0,
+      take-take count count room (omega arith) ∙ decoded.1,
+    )
+
 -- digits of which a piece isn't all digits don't decode
 pub decode_of-non_digit_chunk : (digits : List ℕ) (i n : ℕ) → list_all is_hex_digit (chunk i n digits) ≡ false
     → (out : List ℕ) → decode_of digits ≢ Ok out
@@ -87,6 +97,20 @@ bytes_of_pairs-halves a b w size_a size_b is =
           ∙ ap (λ l. take 8 (drop 8 l)) joined ∙ ap (take 8) (drop_at p (q ++ w) 8 size_p)
           ∙ take_at q w 8 size_q,
     )
+
+-- the bytes of the first sixteen digits, twice in the lanes
+pub decoded_eight : (digits bytes text w : List ℕ) → 16 ≤ length digits → 8 ≤ length bytes
+    → text ≡ chunk 0 16 digits ++ chunk 0 16 digits → list_all is_hex_digit text ≡ true
+    → w ≡ bytes_of_pairs text
+    → AreDecoded digits (put_chunk 0 bytes (pick_l 0 (w ++ w) (range_with_len 0 8))) 8
+decoded_eight digits bytes text w fits room parts all is =
+    let a = chunk 0 16 digits in
+    let size : length a ≡ 16 = length-chunk 0 16 digits fits in
+    let both = subst (λ s. list_all is_hex_digit s ≡ true) parts all in
+    let all_a = subst (λ s. list_all is_hex_digit s ≡ true) (take_at a a 16 size)
+    (list_all-take is_hex_digit 16 (a ++ a) both) in
+    decoded_more 8 digits bytes _ 0 (omega (arith, fits)) (omega (arith, room)) all_a
+    (bytes_of_pairs-halves a a w size size (is ∙ ap bytes_of_pairs parts)).0 (refl, refl)
 
 pub decode_of-short : (digits bytes text w : List ℕ) → length digits ≡ 2 * length bytes
     → 8 ≤ length bytes → length bytes < 16

@@ -71,12 +71,12 @@ fn ones_complement_sum(message: &[u8]) -> u64
 {
     let mut sum = 0u64;
     let mut rest = message;
-    while !rest.is_empty() {
-        let (piece, others) = rest.split_at(rest.len().min(PIECE_LEN));
+    while rest.len() > PIECE_LEN {
+        let (piece, others) = rest.split_at(PIECE_LEN);
         sum = add_with_carries(sum, sum_of_pairs(piece));
         rest = others;
     }
-    sum
+    add_with_carries(sum, sum_of_pairs(rest))
 }
 
 /// Whether the words of a message, with the checksum among them, add up to all ones.

@@ -93,14 +93,36 @@ fn decode_short(digits: &[u8], bytes: &mut [u8]) -> bool
     true
 }
 
+/// Decodes the first eight bytes, and returns how many it decoded: none, if a digit isn't hexadecimal.
+#[inline(always)]
+fn decode_eight(digits: &[u8], bytes: &mut [u8]) -> usize
+    requires digits { 2 * HALF_OF_LANES ≤ length digits.now }
+    requires room { HALF_OF_LANES ≤ length bytes.old }
+    ensures decoded { AreDecoded digits.now bytes.new result }
+    ensures few { result ≤ HALF_OF_LANES }
+{
+    let front = u8x16::from_slice(digits);
+    let text = concat_lanes(front, front);
+    if !are_hex_digits(text) {
+        return 0;
+    }
+    bytes_of_hex_digits(text)
+        .extract::<0, 8>()
+        .copy_to_slice(bytes);
+    HALF_OF_LANES
+}
+
 /// Decodes the digits at the front of a text, sixteen bytes at a time, as long as there is room, and
-/// returns the number of bytes.
+/// returns the number of bytes. A line of a report of version 1 or 2 has eight.
 pub(crate) fn decode_prefix(text: &[u8], room: &mut [u8]) -> usize
     ensures decoded { AreDecoded text.now room.new result }
     ensures text { 2 * result ≤ length text.now }
     ensures room { result ≤ length room.old }
 {
     let most = room.len().min(text.len() / 2);
+    if most > HALF_OF_LANES && text[2 * HALF_OF_LANES] == b'\n' {
+        return decode_eight(text, room);
+    }
     let mut at = 0;
     'pieces: while LANES <= most - at {
         if !decode_lanes(text, room, at) {
@@ -147,5 +169,8 @@ pub(crate) fn decode_to_front(digits: &[u8], room: &mut [u8], decoded: usize) ->
     ensures found { result ≡ true → decode_of digits.now ≡ Ok (take (length digits.now / 2) room.new) }
     ensures only { result ≡ false → (out : List ℕ) → decode_of digits.now ≢ Ok out }
 {
+    if 2 * decoded == digits.len() {
+        return true;
+    }
     decode_all(digits, &mut room[..digits.len() / 2], decoded)
 }

@@ -27,13 +27,24 @@ fn join_line<'a>(begun: &'a mut Vec<u8>, bytes: &'a [u8]) -> Result<&'a [u8], Al
     Ok(begun.as_slice())
 }
 
+/// The place of the first line feed, which is the first byte where all digits of a line are decoded.
+#[inline(always)]
+fn find_line_feed(text: &[u8]) -> Option<usize>
+    ensures { result ≡ position (λ byte. byte == 10) text.now }
+{
+    match text {
+        [b'\n', ..] => Some(0),
+        _ => find_byte(b'\n', text),
+    }
+}
+
 /// The place of the first line feed of a text that begins with so many digits.
 fn line_feed_after_digits(digits: usize, text: &[u8]) -> Option<usize>
     requires within { digits ≤ length text.now }
     requires digits { list_all is_hex_digit (take digits text.now) ≡ true }
     ensures value { result ≡ position (λ byte. byte == 10) text.now }
 {
-    let place = find_byte(b'\n', &text[digits..])?;
+    let place = find_line_feed(&text[digits..])?;
     Some(digits + place)
 }
 

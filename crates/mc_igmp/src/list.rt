@@ -212,6 +212,7 @@ impl ReportList {
     }
 
     /// Appends the records of a report.
+    #[tactic(auto, unfolding(crate::specs::Records::records_in))]
     fn append(&mut self, records: &Records<'_>) -> Result<(), AllocError>
         ensures { OnOk result (self.new ≡ self.old ++ records.now) }
     {
@@ -220,6 +221,9 @@ impl ReportList {
             self.append_bytes(1, &older_record_bytes(group))?;
         }
         let (count, bytes) = group_records.parts();
+        if count == 0 {
+            return Ok(());
+        }
         self.append_bytes(count, bytes)
     }
 

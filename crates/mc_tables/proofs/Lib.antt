@@ -11,6 +11,7 @@ pub mod AddressLemmas
 pub mod ColonLemmas
 pub mod RowWordLemmas
 pub mod OifLemmas
+mod EntryInsertedLemmas
 pub mod EntryLemmas
 pub mod FlatLemmas
 pub mod PlainRowLemmas

@@ -3,6 +3,7 @@ use Rattle.std.proofs.Common.{◌≡◌, ℕ, zero, suc, ◌+◌, ◌<◌, true,
 use Rattle.std.proofs.Common.{◌++◌, length, get_or, Some, None, refl, sym}
 use Rattle.std.proofs.Common.{add-one, ap, subst, ◌∙◌, inl, inr, arith}
 use Rattle.std.specs.Prelude.{◌≢◌, is_some, replicate, slice_set}
+use Rattle.std.specs.BTreeMap.{is_at}
 use Rattle.std.specs.FinSet as set
 use Rattle.std.specs.List.{AllByRecursion, IsDistinct, list_any}
 use Rattle.std.proofs.lemmas.Bool.{cases_Bool}
@@ -11,8 +12,10 @@ use Rattle.std.proofs.lemmas.List.Folds.{list_any_at}
 use Rattle.std.proofs.lemmas.Map.Keys.{IsDistinct-head, IsDistinct-tail}
 use Rattle.mc_text.proofs.Lists.{AllByRecursion-get_or}
 use Rattle.mc_tables.specs.CacheTable.{key_cmp, same_key}
-use Rattle.mc_tables.specs.CacheNumbers.{IsPlaceOf, EntryNumbersValue, AddsNumber}
-use Rattle.mc_tables.specs.CacheNumbers.{numbers_at_places}
+use Rattle.mc_tables.specs.declared.listed.listed_entry_numbers.Inserted.TheVariants.{New, Repeated, Unlisted}
+use Rattle.mc_tables.specs.declared.listed.listed_entry_numbers.Vacancy.TheVariants as vacancy
+use Rattle.mc_tables.specs.CacheNumbers.{IsPlaceOf, EntryNumbersValue, AddsNumber, IsNumberInserted}
+use Rattle.mc_tables.specs.CacheNumbers.{IsVacancyFor, numbers_at_places}
 use Rattle.mc_tables.specs.CacheNumbers.{number_of_key, decoded_number}
 use Rattle.mc_tables.specs.ListedRows.{set_has_key}
 use Rattle.mc_tables.proofs.CacheLemmas.{key_cmp-total, same_key-equivalence}
@@ -176,3 +179,47 @@ listed_numbers_value-append_zeros keys ns more zeros s is kept =
       numbers = l;
     } in t) (ap (numbers_at_places keys) is ∙ numbers_at_places-append_zeros keys ns zeros)
     ∙ kept
+
+-- ---- a key's number, by where it may be stored; places without a number may have been added before
+
+-- stored at its vacant place, the number is the key's
+pub number_inserted-new : (key : ℕ × ℕ) (number place : ℕ) (keys : List (ℕ × ℕ)) (ns more : List ℕ)
+    (zeros : ℕ) (s : EntryNumbersValue)
+    → more ≡ ns ++ replicate zeros 0 → listed_numbers_value keys ns ≡ s → IsDistinct same_key keys
+    → IsVacancyFor keys more key (vacancy.At place)
+    → IsNumberInserted key number s (listed_numbers_value keys (slice_set more place (number + 1))) New
+number_inserted-new key number place keys ns more zeros s is_more is distinct (at, within, empty) =
+    let kept = listed_numbers_value-append_zeros keys ns more zeros s is_more is in (
+      set_has_key-listed_place keys more key place s kept at,
+      number_of_key-here keys more key place s kept distinct at ∙ ap decoded_number empty,
+      ap (λ (t : EntryNumbersValue). t.listed) kept,
+      λ q. adds_number-set key keys more place number distinct at within q
+          ∙ ap (λ (t : EntryNumbersValue). cond (is_at (key_cmp key) q) (Some number)
+          (number_of_key t.numbers q)) kept,
+    )
+
+-- a key that has one keeps it
+pub number_inserted-repeated : (key : ℕ × ℕ) (number : ℕ) (keys : List (ℕ × ℕ)) (ns more : List ℕ)
+    (zeros : ℕ) (s : EntryNumbersValue)
+    → more ≡ ns ++ replicate zeros 0 → listed_numbers_value keys ns ≡ s → IsDistinct same_key keys
+    → IsVacancyFor keys more key vacancy.Repeated
+    → IsNumberInserted key number s (listed_numbers_value keys more) Repeated
+number_inserted-repeated key number keys ns more zeros s is_more is distinct (place, at, full) =
+    let kept = listed_numbers_value-append_zeros keys ns more zeros s is_more is in (
+      set_has_key-listed_place keys more key place s kept at,
+      ap is_some (number_of_key-here keys more key place s kept distinct at)
+          ∙ is_some-decoded_number (get_or more place 0) full,
+      kept,
+    )
+
+-- a key that isn't listed gets none
+pub number_inserted-unlisted : (key : ℕ × ℕ) (number : ℕ) (keys : List (ℕ × ℕ)) (ns more : List ℕ)
+    (zeros : ℕ) (s : EntryNumbersValue)
+    → more ≡ ns ++ replicate zeros 0 → listed_numbers_value keys ns ≡ s
+    → IsVacancyFor keys more key vacancy.Unlisted
+    → IsNumberInserted key number s (listed_numbers_value keys more) Unlisted
+number_inserted-unlisted key number keys ns more zeros s is_more is none =
+    let kept = listed_numbers_value-append_zeros keys ns more zeros s is_more is in (
+      ap (λ (t : EntryNumbersValue). set_has_key t.listed key) (sym kept) ∙ contains-unlisted keys key none,
+      kept,
+    )

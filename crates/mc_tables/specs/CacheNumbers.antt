@@ -1,14 +1,17 @@
 -- How a cache's entries are stored: in a list, with the number there of each key that has one. A
 -- key is a source and a group.
-use Rattle.std.specs.Prelude.{◌≡◌, ℕ, zero, suc, ◌<◌, true, false, cond, List, [], ◌∷◌, length}
+use Rattle.std.specs.Prelude.{◌≡◌, ◌≢◌, ℕ, zero, suc, ◌<◌, true, false, cond, List, [], ◌∷◌, ◌++◌, length}
 use Rattle.std.specs.Prelude.{Option, Some, None, IfSome, is_some, get_or, slice_get}
 use Rattle.std.specs.Option.{option_map}
-use Rattle.std.specs.List.{filter_map}
+use Rattle.std.specs.List.{filter_map, list_any}
 use Rattle.std.specs.BTreeMap.{is_at}
 use Rattle.std.specs.Map.{lookup}
-use Rattle.mc_tables.specs.CacheTable.{EntryValue, CacheValue, key_cmp}
+use Rattle.mc_tables.specs.CacheTable.{EntryValue, CacheValue, key_cmp, same_key}
+use Rattle.mc_tables.specs.declared.cache.entry.Oif.{Oif}
 use Rattle.mc_tables.specs.declared.listed.listed_entry_numbers.Inserted.{Inserted}
 use Rattle.mc_tables.specs.declared.listed.listed_entry_numbers.Inserted.TheVariants.{New, Repeated, Unlisted}
+use Rattle.mc_tables.specs.declared.listed.listed_entry_numbers.Vacancy.{Vacancy}
+use Rattle.mc_tables.specs.declared.listed.listed_entry_numbers.Vacancy.TheVariants as vacancy
 use Rattle.mc_tables.specs.ListedRows.{ListedSet, set_has_key}
 
 -- a key with its number, as the key with the entry of that number
@@ -67,6 +70,20 @@ IsNumberInserted key number old new New =
 IsNumberInserted key number old new Repeated =
     (set_has_key old.listed key ≡ true) × (is_some (number_of_key old.numbers key) ≡ true) × (new ≡ old)
 IsNumberInserted key number old new Unlisted = (set_has_key old.listed key ≡ false) × (new ≡ old)
+
+-- What the answer says of where a key's number may be stored: `At place`, at the key's place, which
+-- has none; `Repeated`, its place has one; `Unlisted`, the key isn't listed.
+abbrev pub IsVacancyFor : (keys : List (ℕ × ℕ)) (stored : List ℕ) (key : ℕ × ℕ) → Vacancy → Type 0
+IsVacancyFor keys stored key (vacancy.At place) =
+    IsPlaceOf keys key place × (place < length stored) × (get_or stored place 0 ≡ 0)
+IsVacancyFor keys stored key vacancy.Repeated =
+    (place : ℕ) × IsPlaceOf keys key place × (get_or stored place 0 ≢ 0)
+IsVacancyFor keys stored key vacancy.Unlisted = list_any (same_key key) keys ≡ false
+
+-- the lists with one more, if a new number is inserted
+abbrev pub lists_with_new : List (ℕ × List Oif) → ℕ × List Oif → Inserted → List (ℕ × List Oif)
+lists_with_new lists more New = lists ++ more ∷ []
+lists_with_new lists more _ = lists
 
 -- ---- the rows that are kept
 

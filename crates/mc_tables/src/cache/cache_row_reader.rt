@@ -166,6 +166,7 @@ impl CacheRowReader {
 }
 
 /// Adds a row that was read, with its outgoing vifs, and returns whether it is kept.
+#[inline(always)]
 fn add_read_row(
     kept: &mut CacheRows,
     others: &mut UnlistedRows,
@@ -200,6 +201,7 @@ fn add_read_row(
 }
 
 /// Reads the row of a line that comes after `count` others, if that isn't too many.
+#[inline(always)]
 fn read_row_with_room(
     count: usize,
     line: &Line<'_>,

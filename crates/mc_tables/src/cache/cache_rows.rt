@@ -90,6 +90,7 @@ impl CacheRows {
 
     /// Adds a row with its outgoing vifs if it is to be kept, and returns whether it is. After an
     /// error the rows are of no use.
+    #[inline(always)]
     pub fn add(&mut self, row: &CacheRow, oifs: &[Oif]) -> Result<bool, TableFaultKind>
         requires room { length self.old.table.numbered < 65536 }
         requires at_most_32 { length oifs.now ≤ 32 }
@@ -126,6 +127,7 @@ impl CacheRows {
     }
 
     /// Adds an entry if its source and group can have a number, and returns whether they can.
+    #[inline(always)]
     fn add_entry(
         &mut self,
         key: &(Addr, Addr),
@@ -174,6 +176,7 @@ impl CacheRows {
 
     /// Adds an entry if its source and group can have a number and don't have one, and returns
     /// whether it was added, or why not.
+    #[inline(always)]
     fn insert_entry(
         &mut self,
         key: &(Addr, Addr),
@@ -188,16 +191,8 @@ impl CacheRows {
         ensures listed { self.new.listed ≡ self.old.listed }
         ensures refused { OnErr result (self.new.table.numbered ≡ self.old.table.numbered) }
     {
-        let number = self.entries.len() as u32;
-        self.entries.reserve(oifs.len())?;
-        match self.numbers.add(key, number)? {
-            Inserted::New => {
-                self.entries.push(iif, oifs)?;
-                Ok(Inserted::New)
-            }
-            Inserted::Repeated => Ok(Inserted::Repeated),
-            Inserted::Unlisted => Ok(Inserted::Unlisted),
-        }
+        let inserted = self.numbers.add_entry(key, &mut self.entries, iif, oifs)?;
+        Ok(inserted)
     }
 
     /// The same rows, with their groups sorted.

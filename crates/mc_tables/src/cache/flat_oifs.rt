@@ -1,7 +1,7 @@
 //! Lists of outgoing vifs, all in one vector.
 
 ghost use Rattle.std.specs.Prelude.{◌≡◌, ◌≤◌, ◌<◌, ◌+◌, ◌^◌, [], ◌∷◌, ◌++◌, length, slice_get, Some};
-ghost use Rattle.std.specs.Prelude.{IfOk, IsOk, OnErr, OnOk};
+ghost use Rattle.std.specs.Prelude.{IfOk, IsOk, OnErr, OnOk, vec_capacity, vec_len};
 ghost use Rattle.mc_tables.specs.FlatRows.{HasRoom};
 
 use crate::cache::entry::Oif;
@@ -17,6 +17,20 @@ struct FlatList<H: Copy> {
     /// How many there are.
     count: u8,
     head: H,
+}
+
+/// Adds outgoing vifs behind others. Most lists have one, for which a copy of memory takes longer.
+#[inline(always)]
+fn push_oifs(all: &mut Vec<Oif>, oifs: &[Oif]) -> Result<(), AllocError>
+    ensures items { OnOk result (all.new.items ≡ all.old.items ++ oifs.now) }
+    ensures refused { OnErr result (all.new.items ≡ all.old.items) }
+    ensures room { vec_len all.old + length oifs.now ≤ vec_capacity all.old → IsOk result }
+{
+    match oifs {
+        [oif] => all.push(*oif)?,
+        _ => all.extend_from_slice(oifs)?,
+    }
+    Ok(())
 }
 
 /// Lists of outgoing vifs, each with a head, such as an incoming vif. The value in contracts is the
@@ -76,19 +90,6 @@ impl<H: Copy> FlatOifs<H> {
         self.lists.len()
     }
 
-    /// Makes room for one more list, of so many outgoing vifs.
-    ///
-    /// # Errors
-    ///
-    /// `AllocError` if memory runs out.
-    pub fn reserve(&mut self, oifs: usize) -> Result<(), AllocError>
-        ensures lists { self.new.lists ≡ self.old.lists }
-        ensures room { OnOk result (HasRoom self.new oifs) }
-    {
-        self.lists.reserve(1)?;
-        self.oifs.reserve(oifs)
-    }
-
     /// Adds a list behind the others: at most 32 outgoing vifs, and at most 65,536 lists.
     ///
     /// # Errors
@@ -104,7 +105,7 @@ impl<H: Copy> FlatOifs<H> {
     {
         self.lists.reserve(1)?;
         let start = self.oifs.len() as u32;
-        self.oifs.extend_from_slice(oifs)?;
+        push_oifs(&mut self.oifs, oifs)?;
         self.lists.push(FlatList {
             start,
             count: oifs.len() as u8,

@@ -4,10 +4,12 @@ ghost use Rattle.std.specs.Prelude.{◌≡◌, ℕ, [], ◌<◌, ◌≤◌, ◌+
 ghost use Rattle.std.specs.Prelude.{Some, false};
 ghost use Rattle.std.specs.Prelude.{get_or, length, replicate};
 ghost use Rattle.std.specs.FinSet as set;
-ghost use Rattle.std.specs.List.{list_any};
+ghost use Rattle.std.specs.List.{IsDistinct};
 ghost use Rattle.mc_tables.specs.CacheNumbers.{IsNumberInserted, number_of_key, decoded_number};
-ghost use Rattle.mc_tables.specs.CacheTable.{key_cmp, same_key};
+ghost use Rattle.mc_tables.specs.CacheNumbers.{IsVacancyFor, lists_with_new};
+ghost use Rattle.mc_tables.specs.CacheTable.{same_key};
 
+use crate::cache::{FlatOifs, Oif};
 use crate::listed::listed_pairs::ListedPairs;
 use mc_text::Addr;
 use std::alloc::{AllocError, Global};
@@ -19,6 +21,17 @@ pub enum Inserted {
     /// They got it.
     New,
     /// They had one already.
+    Repeated,
+    /// They aren't listed.
+    Unlisted,
+}
+
+/// Where the number of a source and a group may be stored, or why it can't.
+#[derive(Clone, Copy, Debug)]
+enum Vacancy {
+    /// At this place, which is theirs and has no number.
+    At(usize),
+    /// They have a number already.
     Repeated,
     /// They aren't listed.
     Unlisted,
@@ -76,16 +89,67 @@ impl ListedEntryNumbers {
         ensures numbered { IfOk result (IsNumberInserted key.now number self.old self.new) }
         ensures refused { OnErr result (self.new ≡ self.old) }
     {
-        let Some(place) = self.pairs.place_of(key) else {
-            return Ok(Inserted::Unlisted);
-        };
-        ensure_places(&mut self.numbers, self.pairs.count())?;
-        if self.numbers[place] != 0 {
-            return Ok(Inserted::Repeated);
+        match vacancy_for(&self.pairs, &mut self.numbers, key)? {
+            Vacancy::At(place) => {
+                self.numbers[place] = number + 1;
+                Ok(Inserted::New)
+            }
+            Vacancy::Repeated => Ok(Inserted::Repeated),
+            Vacancy::Unlisted => Ok(Inserted::Unlisted),
         }
-        self.numbers[place] = number + 1;
-        Ok(Inserted::New)
     }
+
+    /// Adds an entry behind the others and gives its number to its source and group, if they are listed
+    /// and don't have one.
+    #[inline(always)]
+    pub fn add_entry(
+        &mut self,
+        key: &(Addr, Addr),
+        entries: &mut FlatOifs<u8>,
+        iif: u8,
+        oifs: &[Oif],
+    ) -> Result<Inserted, AllocError>
+        requires room { length entries.old.lists < 65536 }
+        requires at_most_32 { length oifs.now ≤ 32 }
+        ensures numbered { IfOk result
+            (IsNumberInserted key.now (length entries.old.lists) self.old self.new) }
+        ensures lists { IfOk result (λ inserted. entries.new.lists
+            ≡ lists_with_new entries.old.lists (iif, oifs.now) inserted) }
+        ensures refused { OnErr result (self.new ≡ self.old) }
+        ensures same { OnErr result (entries.new.lists ≡ entries.old.lists) }
+    {
+        match vacancy_for(&self.pairs, &mut self.numbers, key)? {
+            Vacancy::At(place) => {
+                let number = entries.len() as u32;
+                entries.push(iif, oifs)?;
+                self.numbers[place] = number + 1;
+                Ok(Inserted::New)
+            }
+            Vacancy::Repeated => Ok(Inserted::Repeated),
+            Vacancy::Unlisted => Ok(Inserted::Unlisted),
+        }
+    }
+}
+
+/// Where the number of a source and a group may be stored. Places without a number may be added.
+#[inline(always)]
+fn vacancy_for(
+    pairs: &ListedPairs,
+    numbers: &mut Vec<u32>,
+    key: &(Addr, Addr),
+) -> Result<Vacancy, AllocError>
+    ensures more { (zeros : ℕ) × (numbers.new.items ≡ numbers.old.items ++ replicate zeros 0) }
+    ensures vacancy { IfOk result (IsVacancyFor pairs.now numbers.new.items key.now) }
+    ensures distinct { IsDistinct same_key pairs.now }
+{
+    let Some(place) = pairs.place_of(key) else {
+        return Ok(Vacancy::Unlisted);
+    };
+    ensure_places(numbers, pairs.count())?;
+    if numbers[place] != 0 {
+        return Ok(Vacancy::Repeated);
+    }
+    Ok(Vacancy::At(place))
 }
 
 /// The number at a place.

@@ -1,14 +1,13 @@
-use Rattle.std.proofs.Common.{length, arith, ◌<◌, ◌≡◌, ◌%◌}
+use Rattle.std.proofs.Common.{arith}
 use Rattle.std.proofs.lemmas.Bool.Decides.{nat_tests}
 use Rattle.mc_igmp.proofs.ChecksumLemmas.{word_sum-take_drop, word_sum-none}
 use Rattle.mc_igmp.proofs.checksum.ones_complement_sum.Goals as goal
 
--- A piece shorter than the rest has an even length, so that no word is cut in two.
+-- A piece has an even length, so that no word is cut in two.
 pub loop-rest-preserved : goal.loop-rest-preserved
 loop-rest-preserved c =
     let rest = c.loop-rest.rest.now in
-    let even : c.min.result < length rest → c.min.result % 2 ≡ 0 = λ more. omega arith in
-    let parts = word_sum-take_drop c.min.result rest even in
+    let parts = word_sum-take_drop 65536 rest (λ _. omega arith) in
     let front = c.split_at.ensures.front in
     let back = c.split_at.ensures.back in
     rw back (omega (arith, rw (← front) at parts))

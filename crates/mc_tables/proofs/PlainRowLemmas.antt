@@ -1,7 +1,7 @@
 -- A line whose words are read from its front.
 use Rattle.std.proofs.Common.{◌≡◌, ℕ, zero, suc, ◌+◌, ◌-◌, ◌*◌, ◌<◌, ◌≤◌, true, false, List, [], ◌∷◌, ◌++◌}
 use Rattle.std.proofs.Common.{length, take}
-use Rattle.std.proofs.Common.{drop, get_or, Option, Some, None, Ok, refl, sym, ap, subst, ◌∙◌, arith}
+use Rattle.std.proofs.Common.{drop, get_or, Option, Some, None, Ok, refl, sym, ap, ap₂, subst, ◌∙◌, arith}
 use Rattle.std.specs.Prelude.{◌==◌, ◌&&◌, Bool, nat_le, nat_lt, not, position, filter, unwrap_or, IfSome}
 use Rattle.std.specs.List.{list_all, slice_split}
 use Rattle.std.specs.Char.{digit_value, is_ascii_digit}
@@ -12,7 +12,7 @@ use Rattle.std.proofs.lemmas.List.Splits.{slice_split_at}
 use Rattle.std.proofs.lemmas.List.Sums.{AllPass-from_list_all, list_all-from_AllPass}
 use Rattle.std.proofs.lemmas.List.Quantifiers.{position-Some}
 use Rattle.std.proofs.lemmas.List.{length-take-le, take-append-drop, drop_more}
-use Rattle.std.proofs.lemmas.List.{length-append, append_assoc}
+use Rattle.std.proofs.lemmas.List.{length-append, append_assoc, take_all, drop_all}
 use Rattle.std.proofs.lemmas.List.{get_or-take}
 use Rattle.std.proofs.lemmas.List.Folds.{list_all-append}
 use Rattle.std.proofs.lemmas.List.Elements.{All-from_get_or}
@@ -23,6 +23,7 @@ use Rattle.mc_text.specs.AddressWord.{printed_octets}
 use Rattle.mc_text.proofs.AddrLemmas.{length-printed_octets}
 use Rattle.mc_text.proofs.AddressDigitLemmas.{decoded_word_has_eight_digits}
 use Rattle.mc_text.proofs.LineLemmas.{words_of-word, words_of-spaces}
+use Rattle.mc_text.proofs.Searches.{fails_at_each, position-first, position-nowhere}
 use Rattle.std.specs.Prelude.{codes}
 use Rattle.std.specs.Str.{bytes_eq}
 use Rattle.std.proofs.lemmas.List.{take_rest}
@@ -129,6 +130,31 @@ counter_is_first_word line end decimal few within space =
       take end line,
       words_of-digits line end decimal within space,
       is_counter-decimal (take end line) decimal (omega (arith, size, few)),
+    )
+
+-- digits up to a line's end are its only word
+pub counter_is_whole_line : (line : List ℕ) → position (λ b. not (is_ascii_digit b)) line ≡ None
+    → 0 < length line → length line ≤ 20 → (counter : List ℕ)
+    × (words_of line ≡ counter ∷ words_of []) × (is_counter counter ≡ true)
+counter_is_whole_line line none some few =
+    let digit : (k : ℕ) → k < length line → is_ascii_digit (get_or line k 0) ≡ true =
+    λ k within. not-false _ (fails_at_each (λ b. not (is_ascii_digit b)) line 0 none k within) in
+    let no_space : (k : ℕ) → k < length line → (get_or line k 0 == 32) ≡ false =
+    λ k within. ne_eqb (get_or line k 0) 32
+    (λ is. let e : true ≡ false = sym (digit k within) ∙ ap is_ascii_digit is in absurd cc) in
+    let begins = position-first (λ b. not (b == 32)) line 0 0 some (λ k less. absurd (omega (arith, less)))
+    (not_from_false _ (no_space 0 some)) in
+    let ends = position-nowhere (λ b. b == 32) line 0 no_space in
+    let all = list_all-from_AllPass is_ascii_digit line
+    (All-from_get_or (λ c. is_ascii_digit c ≡ true) line 0 digit) in
+    let decimal : is_decimal_word line ≡ true =
+    and_from (nat_le 1 (length line)) _ (le-leb 1 (length line) (omega (arith, some))) all in
+    let size : length line ≡ unwrap_or (position (λ b. b == 32) line) (length line) = rw ends refl in (
+      line,
+      words_of-word line line 0 (length line) begins refl size
+          ∙ ap₂ (λ w r. w ∷ words_of r) (take_all (length line) line (omega arith))
+          (drop_all (length line) line (omega arith)),
+      is_counter-decimal line decimal few,
     )
 
 -- ---- spaces

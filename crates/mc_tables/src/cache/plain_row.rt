@@ -2,7 +2,7 @@
 //! `cache_line`.
 
 ghost use Rattle.std.specs.Prelude.{◌≡◌, ℕ, [], ◌∷◌, ◌++◌, ◌==◌, not, List, IfOk};
-ghost use Rattle.std.specs.Prelude.{IfSome, Ok, Some, take};
+ghost use Rattle.std.specs.Prelude.{IfSome, None, Ok, Some, take};
 ghost use Rattle.std.specs.Prelude.{drop, length, ◌<◌, ◌≤◌};
 ghost use Rattle.std.specs.Prelude.{position, true};
 ghost use Rattle.std.specs.Char.{is_ascii_digit};
@@ -108,13 +108,28 @@ fn iif_at_front(line: &[u8]) -> Option<(u8, &[u8])>
     two_digit_iif_at_front(line)
 }
 
-/// What follows the digits of the counter that a line begins with, its space first.
-#[tactic(auto, using(crate::proofs::PlainRowLemmas::front_digits_are_decimal, crate::proofs::PlainRowLemmas::counter_is_first_word))]
+/// What follows the counter that a line of digits consists of: nothing.
+#[tactic(auto, using(crate::proofs::PlainRowLemmas::counter_is_whole_line))]
+fn after_all_digits(line: &[u8]) -> Option<&[u8]>
+    requires digits { position (λ b. not (is_ascii_digit b)) line.now ≡ None }
+    ensures { IfSome result (λ after. (counter : List ℕ)
+        × (words_of line.now ≡ counter ∷ words_of after.now) × (is_counter counter ≡ true)) }
+{
+    if line.is_empty() || line.len() > 20 {
+        return None;
+    }
+    Some(&[])
+}
+
+/// What follows the digits of the counter that a line begins with, its space first. Nothing follows
+/// the last one of a row without outgoing vifs.
 fn after_digits(line: &[u8]) -> Option<&[u8]>
     ensures { IfSome result (λ after. (counter : List ℕ)
         × (words_of line.now ≡ counter ∷ words_of after.now) × (is_counter counter ≡ true)) }
 {
-    let end = digits_end(line)?;
+    let Some(end) = digits_end(line) else {
+        return after_all_digits(line);
+    };
     if end == 0 || end > 20 || line[end] != b' ' {
         return None;
     }

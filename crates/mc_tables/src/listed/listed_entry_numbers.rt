@@ -83,15 +83,15 @@ impl ListedEntryNumbers {
         number_at_place(&self.numbers, place)
     }
 
-    /// Gives a source and a group this number, if they are listed and don't have one.
-    pub fn add(&mut self, key: &(Addr, Addr), number: u32) -> Result<Inserted, AllocError>
-        requires bounded { number < 65536 }
-        ensures numbered { IfOk result (IsNumberInserted key.now number self.old self.new) }
+    /// Gives a source and a group the number 0, if they are listed and don't have one: for who asks only
+    /// which have one.
+    pub fn add(&mut self, key: &(Addr, Addr)) -> Result<Inserted, AllocError>
+        ensures numbered { IfOk result (IsNumberInserted key.now 0 self.old self.new) }
         ensures refused { OnErr result (self.new ≡ self.old) }
     {
         match vacancy_for(&self.pairs, &mut self.numbers, key)? {
             Vacancy::At(place) => {
-                self.numbers[place] = number + 1;
+                self.numbers[place] = 1;
                 Ok(Inserted::New)
             }
             Vacancy::Repeated => Ok(Inserted::Repeated),

@@ -102,7 +102,7 @@ impl SummarySoFar {
         ensures first { self.new.first ≡ self.old.first }
         ensures unlisted { self.new.unlisted ≡ self.old.unlisted }
     {
-        self.unresolved.add(key, 0)?;
+        self.unresolved.add(key)?;
         Ok(())
     }
 

@@ -11,8 +11,8 @@ use Rattle.mc_tables.proofs.cache.plain_row.after_digits.Goals as goal
 pub returns : goal.returns
 returns c =
     let line = c.args.line.now in
-    let end = c.in_ok-end.end in
-    let place = sym c.in_ok-end.ensures in
+    let end = c.in-Some.end in
+    let place = sym c.in-Some.ensures in
     let first = position-Some (λ b. not (is_ascii_digit b)) line end 0 place in
     let found = counter_is_first_word line end (front_digits_are_decimal line end place c.if-end-eq0.false)
     c.if-end-gt20.false first.0 c.if-line-end-ne32.false in (

@@ -23,7 +23,7 @@ returns-in-At-clause-numbered c =
     let keys = c.self.inside.pairs in
     let stored = c.vacancy_for.new.numbers.items in
     let more = c.vacancy_for.ensures.more in
-    number_inserted-new key c.args.number c.in-At.place keys c.self.inside.numbers.items stored more.0
+    number_inserted-new key 0 c.in-At.place keys c.self.inside.numbers.items stored more.0
     c.args.self.now more.1 c.self.view_is c.vacancy_for.ensures.distinct
     (subst (IsVacancyFor keys stored key) c.in-At.is c.in_ok-place.ensures.vacancy)
 
@@ -34,7 +34,7 @@ returns-in-Repeated-clause-numbered c =
     let keys = c.self.inside.pairs in
     let stored = c.vacancy_for.new.numbers.items in
     let more = c.vacancy_for.ensures.more in
-    number_inserted-repeated key c.args.number keys c.self.inside.numbers.items stored more.0
+    number_inserted-repeated key 0 keys c.self.inside.numbers.items stored more.0
     c.args.self.now more.1 c.self.view_is c.vacancy_for.ensures.distinct
     (subst (IsVacancyFor keys stored key) c.in-Repeated.is c.in_ok-place.ensures.vacancy)
 
@@ -45,6 +45,6 @@ returns-in-Unlisted-clause-numbered c =
     let keys = c.self.inside.pairs in
     let stored = c.vacancy_for.new.numbers.items in
     let more = c.vacancy_for.ensures.more in
-    number_inserted-unlisted key c.args.number keys c.self.inside.numbers.items stored more.0
+    number_inserted-unlisted key 0 keys c.self.inside.numbers.items stored more.0
     c.args.self.now more.1 c.self.view_is
     (subst (IsVacancyFor keys stored key) c.in-Unlisted.is c.in_ok-place.ensures.vacancy)

@@ -34,6 +34,7 @@ pub struct CacheWords<'a> {
 
 /// Reads a row into `row`, and its outgoing vifs into `oifs`, by ascending vif, in place of what was
 /// there. The row isn't returned, since that would copy it.
+#[inline(always)]
 #[tactic(auto, using(crate::proofs::EntryLemmas::oifs_in_gives_at_most_32))]
 pub fn read_row(
     line: &[u8],
@@ -60,6 +61,7 @@ pub fn read_row(
 }
 
 /// Reads a row word by word.
+#[cold]
 #[tactic(auto, using(crate::proofs::RowWordLemmas::row_in_too_few_words))]
 fn read_row_by_words(
     line: &[u8],

@@ -152,19 +152,29 @@ fn after_marked_counters(line: &[u8]) -> Option<&[u8]>
     MarkedLine::of(line)?.after_counters()
 }
 
+/// What follows the three counters that are a line's first words, which are read one after another.
+#[cold]
+fn after_unmarked_counters(line: &[u8]) -> Option<&[u8]>
+    ensures { IfSome result (λ after. HasCounters line.now after.now) }
+{
+    let rest = after_counter(line)?;
+    let rest = after_counter(rest)?;
+    after_counter(rest)
+}
+
 /// What follows the three counters that are a line's first words.
+#[inline(always)]
 fn after_counters(line: &[u8]) -> Option<&[u8]>
     ensures { IfSome result (λ after. HasCounters line.now after.now) }
 {
     if let Some(after) = after_marked_counters(line) {
         return Some(after);
     }
-    let rest = after_counter(line)?;
-    let rest = after_counter(rest)?;
-    after_counter(rest)
+    after_unmarked_counters(line)
 }
 
 /// The resolved row that a line begins with, and what follows its counters: the outgoing vifs.
+#[inline(always)]
 pub fn row_at_front(line: &[u8], order: Order) -> Option<(CacheRow, &[u8])>
     ensures { (oifs : List Oif) → IfSome result (λ found.
         oifs_in (words_of found.1.now) ≡ Ok oifs →
@@ -181,8 +191,25 @@ pub fn row_at_front(line: &[u8], order: Order) -> Option<(CacheRow, &[u8])>
     Some((row, rest))
 }
 
-/// The outgoing vif that a line begins with, and what follows it. Most are printed in seven bytes.
+/// The outgoing vif that a line begins with, in any number of bytes, and what follows it.
+#[cold]
 #[tactic(auto, using(crate::proofs::PlainRowLemmas::vif_in_range))]
+fn unprinted_oif_at_front(line: &[u8]) -> Option<(Oif, &[u8])>
+    ensures word { IfSome result (λ found. (word : List ℕ)
+        × (words_of line.now ≡ word ∷ words_of found.1.now)
+        × (oif_in word ≡ Ok (found.0.vif, found.0.threshold))) }
+    ensures vif { IfSome result (λ found. found.0.vif ≤ 31) }
+    ensures shorter { IfSome result (λ found. length found.1.now < length line.now) }
+{
+    let (vif, rest) = digits_before(without_spaces(line), b':')?;
+    let (threshold, rest) = digits_before(rest, b' ')?;
+    let vif = number(vif, 0, MAX_VIF)?;
+    let threshold = number(threshold, 1, MAX_THRESHOLD)?;
+    Some((Oif { vif, threshold }, rest))
+}
+
+/// The outgoing vif that a line begins with, and what follows it. Most are printed in seven bytes.
+#[inline(always)]
 fn oif_at_front(line: &[u8]) -> Option<(Oif, &[u8])>
     ensures word { IfSome result (λ found. (word : List ℕ)
         × (words_of line.now ≡ word ∷ words_of found.1.now)
@@ -193,15 +220,12 @@ fn oif_at_front(line: &[u8]) -> Option<(Oif, &[u8])>
     if let Some(found) = printed_oif_at_front(line) {
         return Some(found);
     }
-    let (vif, rest) = digits_before(without_spaces(line), b':')?;
-    let (threshold, rest) = digits_before(rest, b' ')?;
-    let vif = number(vif, 0, MAX_VIF)?;
-    let threshold = number(threshold, 1, MAX_THRESHOLD)?;
-    Some((Oif { vif, threshold }, rest))
+    unprinted_oif_at_front(line)
 }
 
 /// Reads the outgoing vifs that a line consists of, if they ascend, and returns whether it did. After false
 /// `oifs` may hold a part of them.
+#[inline(always)]
 #[tactic(auto, using(crate::proofs::PlainRowLemmas::greater_oif_is_appended, crate::proofs::OifLemmas::oifs_in_by_steps))]
 pub fn read_ascending_oifs(line: &[u8], oifs: &mut Vec<Oif>) -> Result<bool, AllocError>
     requires empty { oifs.old.items ≡ [] }

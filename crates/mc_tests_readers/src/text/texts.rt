@@ -106,3 +106,29 @@ fn numbers(rt: HostRuntime) {
     assert!(rt; find_byte(b':', b"110").is_none());
     assert!(rt; find_byte(b':', b"").is_none());
 }
+
+/// Whether a line feed is found at each place of a text of so many digits, and none where there is none.
+fn is_found_at_each_place(alloc: Global, len: usize) -> Result<bool, AllocError> {
+    let mut text = vec![in alloc; b'0'; len]?;
+    let mut all = find_byte(b'\n', &text).is_none();
+    for place in 0..len {
+        text[place] = b'\n';
+        all &= find_byte(b'\n', &text) == Some(place);
+        text[place] = b'0';
+    }
+    Ok(all)
+}
+
+#[test]
+fn line_feeds(rt: HostRuntime) -> Result<(), AllocError> {
+    let alloc = rt.alloc();
+    assert!(rt; is_found_at_each_place(alloc, 1)?);
+    assert!(rt; is_found_at_each_place(alloc, 63)?);
+    assert!(rt; is_found_at_each_place(alloc, 64)?);
+    assert!(rt; is_found_at_each_place(alloc, 65)?);
+    assert!(rt; is_found_at_each_place(alloc, 300)?);
+    // the first one counts
+    assert!(rt; find_byte(b'\n', b"0123456789\n0123456789\n0123456789\n0123456789\n0123456789\n0123456789\n")
+        == Some(10));
+    Ok(())
+}

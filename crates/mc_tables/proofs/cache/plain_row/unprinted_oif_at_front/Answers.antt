@@ -1,7 +1,7 @@
 -- Digits, a colon, digits and a space: the first word is an outgoing vif with these two numbers.
 use Rattle.std.proofs.Common.{sym, ◌∙◌}
 use Rattle.mc_tables.proofs.PlainRowLemmas.{words_of-oif}
-use Rattle.mc_tables.proofs.cache.plain_row.oif_at_front.Goals as goal
+use Rattle.mc_tables.proofs.cache.plain_row.unprinted_oif_at_front.Goals as goal
 
 pub returns-clause-word : goal.returns-clause-word
 returns-clause-word c =

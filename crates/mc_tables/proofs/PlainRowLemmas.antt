@@ -1,12 +1,13 @@
 -- A line whose words are read from its front.
 use Rattle.std.proofs.Common.{◌≡◌, ℕ, zero, suc, ◌+◌, ◌-◌, ◌*◌, ◌<◌, ◌≤◌, true, false, List, [], ◌∷◌, ◌++◌}
 use Rattle.std.proofs.Common.{length, take}
-use Rattle.std.proofs.Common.{drop, get_or, Option, Some, None, Ok, refl, sym, ap, ap₂, subst, ◌∙◌, arith}
+use Rattle.std.proofs.Common.{drop, get_or, Option, Some, None, Ok, refl, sym, ap, ap₂, subst, ◌∙◌, inl, inr, arith}
 use Rattle.std.specs.Prelude.{◌==◌, ◌&&◌, Bool, nat_le, nat_lt, not, position, filter, unwrap_or, IfSome}
 use Rattle.std.specs.List.{list_all, slice_split}
 use Rattle.std.specs.Char.{digit_value, is_ascii_digit}
 use Rattle.std.proofs.lemmas.Str.{digit_value_digit}
-use Rattle.std.proofs.lemmas.Bool.{ne_eqb, not-true, not-false, not_from_false, and_parts, and_from}
+use Rattle.std.proofs.lemmas.Bool.{cases_Bool, eqb-true, ne_eqb, not-true, not-false, not_from_false}
+use Rattle.std.proofs.lemmas.Bool.{and_parts, and_from}
 use Rattle.std.proofs.lemmas.Bool.{leb-true, le-leb, ltb-true, lt-ltb}
 use Rattle.std.proofs.lemmas.List.Splits.{slice_split_at}
 use Rattle.std.proofs.lemmas.List.Sums.{AllPass-from_list_all, list_all-from_AllPass}
@@ -28,6 +29,7 @@ use Rattle.std.specs.Prelude.{codes}
 use Rattle.std.specs.Str.{bytes_eq}
 use Rattle.std.proofs.lemmas.List.{take_rest}
 use Rattle.mc_tables.specs.FlatRows.{row_with_oifs}
+use Rattle.mc_tables.specs.RowWords.{StartsWithIif}
 use Rattle.mc_tables.specs.TableWords.{is_decimal_word, is_counter, number_in, address_in}
 use Rattle.mc_tables.specs.declared.cache.entry.Oif.{Oif}
 use Rattle.mc_text.specs.Steps.{◌>>=◌}
@@ -387,6 +389,25 @@ two_digit_iif_is_first_word (a ∷ b ∷ c ∷ rest) long tens units top space =
       number_in-two_digits 31 a b tens units top,
     )
 two_digit_iif_is_first_word line long tens units top space = grind arith
+
+-- so the incoming vif, whichever of the two it is
+pub iif_is_first_word : (line : List ℕ) (iif : ℕ) → 3 ≤ length line → StartsWithIif line → iif ≤ 31
+    → (get_or line 1 0 ≡ 32 → iif ≡ get_or line 0 0 - 48)
+    → (is_ascii_digit (get_or line 1 0) ≡ true
+    → iif ≡ (get_or line 0 0 - 48) * 10 + (get_or line 1 0 - 48))
+    → (word : List ℕ) × (words_of line ≡ word ∷ words_of (take (length line - 3) (drop 3 line)))
+    × (is_decimal_word word ≡ true) × (number_in 0 31 word ≡ Some iif)
+iif_is_first_word line iif long starts top one two =
+    elim (cases_Bool (get_or line 1 0 == 32)) [
+      | inl space ↦
+          let second = eqb-true (get_or line 1 0) 32 space in
+          rw (one second) (one_digit_iif_is_first_word line long starts.first second starts.behind)
+      | inr other ↦
+          let second : is_ascii_digit (get_or line 1 0) ≡ true = rw other at starts.second in
+          let is = two second in
+          rw is (two_digit_iif_is_first_word line long starts.first second (omega (arith, is, top))
+          starts.behind)
+    ]
 
 -- a number for a vif is at most 31
 pub vif_in_range : (word : List ℕ) (v : ℕ) → number_in 0 31 word ≡ Some v → v ≤ 31

@@ -1,6 +1,8 @@
 -- The words of a line of the kernel's two tables, in their order (ipmr_vif_seq_show and
 -- ipmr_mfc_seq_show in net/ipv4/ipmr.c).
-use Rattle.std.specs.Prelude.{◌≡◌, ℕ, ◌≤◌, List, [], ◌∷◌, length, take, drop, Some}
+use Rattle.std.specs.Prelude.{◌≡◌, ◌==◌, ◌||◌, ℕ, ◌≤◌, List, [], ◌∷◌, length, take, drop, Some, true}
+use Rattle.std.specs.Prelude.{slice_index}
+use Rattle.std.specs.Char.{is_ascii_digit}
 use Rattle.mc_text.specs.Lines.{words_of}
 use Rattle.mc_text.specs.declared.text.addr.Order.{Order}
 use Rattle.mc_tables.specs.TableWords.{address_in}
@@ -33,3 +35,10 @@ pub record HasAddresses (order : Order) (line : List ℕ) (group origin : ℕ) :
   pub words : words_of line ≡ take 8 line ∷ take 8 (drop 9 line) ∷ words_of (drop 18 line)
   pub group_read : address_in order (take 8 line) ≡ Some group
   pub origin_read : address_in order (take 8 (drop 9 line)) ≡ Some origin
+
+-- a line begins with an incoming vif that is printed in three bytes (`%-3hd`): two decimal digits, or
+-- one and a space, and a space
+pub record StartsWithIif (line : List ℕ) : Type 0 where
+  pub first : is_ascii_digit (slice_index line 0) ≡ true
+  pub second : (slice_index line 1 == 32 || is_ascii_digit (slice_index line 1)) ≡ true
+  pub behind : slice_index line 2 ≡ 32

@@ -3,7 +3,7 @@
 
 ghost use Rattle.std.specs.Prelude.{◌≡◌, ℕ, [], ◌∷◌, ◌++◌, ◌==◌, not, List, IfOk};
 ghost use Rattle.std.specs.Prelude.{IfSome, None, Ok, Some, take};
-ghost use Rattle.std.specs.Prelude.{drop, length, ◌<◌, ◌≤◌};
+ghost use Rattle.std.specs.Prelude.{◌+◌, ◌-◌, ◌*◌, drop, length, ◌<◌, ◌≤◌};
 ghost use Rattle.std.specs.Prelude.{position, true};
 ghost use Rattle.std.specs.Char.{is_ascii_digit};
 ghost use Rattle.mc_text.specs.Lines.{words_of};
@@ -12,6 +12,7 @@ ghost use Rattle.mc_tables.specs.TableWords.{is_counter, is_decimal_word, number
 ghost use Rattle.mc_tables.specs.CacheReading.{oif_in, oifs_in, row_in_words};
 ghost use Rattle.mc_tables.specs.FlatRows.{row_with_oifs};
 ghost use Rattle.mc_tables.specs.Counters.{HasCounters};
+ghost use Rattle.mc_tables.specs.RowWords.{StartsWithIif};
 
 use crate::cache::cache_row::CacheRow;
 use crate::cache::entry::Oif;
@@ -62,50 +63,46 @@ fn digits_before(line: &[u8], stop: u8) -> Option<(&[u8], &[u8])>
     Some((&line[..end], &line[end + 1..]))
 }
 
-/// The incoming vif of one digit, printed in three bytes, that a line begins with, and what follows
-/// it.
+/// Whether a line begins with one or two decimal digits that are printed in three bytes. Nothing here
+/// branches on how many they are, since a processor predicts that badly.
 #[inline(always)]
-#[tactic(auto, using(crate::proofs::PlainRowLemmas::one_digit_iif_is_first_word))]
-fn one_digit_iif_at_front(line: &[u8]) -> Option<(u8, &[u8])>
-    ensures { IfSome result (λ found. (word : List ℕ)
-        × (words_of line.now ≡ word ∷ words_of found.1.now) × (is_decimal_word word ≡ true)
-        × (number_in 0 31 word ≡ Some found.0)) }
+fn starts_with_iif(line: &[u8]) -> bool
+    requires long { 3 ≤ length line.now }
+    ensures { result ≡ true → StartsWithIif line.now }
 {
-    if line.len() < 3 || !line[0].is_ascii_digit() || line[1] != b' ' || line[2] != b' ' {
-        return None;
-    }
-    let iif = line[0] - b'0';
-    Some((iif, &line[3..]))
+    let units = (line[1] == b' ') | line[1].is_ascii_digit();
+    line[0].is_ascii_digit() & units & (line[2] == b' ')
 }
 
-/// The incoming vif of two digits that a line begins with, and what follows it.
+/// The number of two digits, or of one before a space. Of other bytes it is any number.
 #[inline(always)]
-#[tactic(auto, using(crate::proofs::PlainRowLemmas::two_digit_iif_is_first_word))]
-fn two_digit_iif_at_front(line: &[u8]) -> Option<(u8, &[u8])>
-    ensures { IfSome result (λ found. (word : List ℕ)
-        × (words_of line.now ≡ word ∷ words_of found.1.now) × (is_decimal_word word ≡ true)
-        × (number_in 0 31 word ≡ Some found.0)) }
+fn iif_of_bytes(first: u8, second: u8) -> u8
+    ensures one { is_ascii_digit first ≡ true → second ≡ 32 → result ≡ first - 48 }
+    ensures two { is_ascii_digit first ≡ true → is_ascii_digit second ≡ true
+        → result ≡ (first - 48) * 10 + (second - 48) }
 {
-    if line.len() < 3 || !line[0].is_ascii_digit() || !line[1].is_ascii_digit() {
-        return None;
-    }
-    let iif = (line[0] - b'0') * 10 + (line[1] - b'0');
-    if iif > MAX_VIF || line[2] != b' ' {
-        return None;
-    }
-    Some((iif, &line[3..]))
+    let digit = first.wrapping_sub(b'0');
+    let both = digit
+        .wrapping_mul(10)
+        .wrapping_add(second.wrapping_sub(b'0'));
+    if second == b' ' { digit } else { both }
 }
 
 /// The incoming vif that a line begins with, printed in three bytes, and what follows it.
+#[inline(always)]
 fn iif_at_front(line: &[u8]) -> Option<(u8, &[u8])>
     ensures { IfSome result (λ found. (word : List ℕ)
         × (words_of line.now ≡ word ∷ words_of found.1.now) × (is_decimal_word word ≡ true)
         × (number_in 0 31 word ≡ Some found.0)) }
 {
-    if let Some(found) = one_digit_iif_at_front(line) {
-        return Some(found);
+    if line.len() < 3 || !starts_with_iif(line) {
+        return None;
     }
-    two_digit_iif_at_front(line)
+    let iif = iif_of_bytes(line[0], line[1]);
+    if iif > MAX_VIF {
+        return None;
+    }
+    Some((iif, &line[3..]))
 }
 
 /// What follows the counter that a line of digits consists of: nothing.

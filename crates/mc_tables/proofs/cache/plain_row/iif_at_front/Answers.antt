@@ -1,0 +1,10 @@
+use Rattle.mc_tables.proofs.PlainRowLemmas.{iif_is_first_word}
+use Rattle.mc_tables.proofs.cache.plain_row.iif_at_front.Goals as goal
+
+-- One or two digits and a space are the first word, and their number is at most 31.
+pub returns : goal.returns
+returns c =
+    let starts = c.starts_with_iif.ensures c.if-not-starts_with_iif.false in
+    iif_is_first_word c.args.line.now c.iif_of_bytes-iif.result c.if-line-lt3.false starts
+    c.if-iif-gt-MAX_VIF.false (c.iif_of_bytes-iif.ensures.one starts.first)
+    (c.iif_of_bytes-iif.ensures.two starts.first)

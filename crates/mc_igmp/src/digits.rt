@@ -159,6 +159,14 @@ fn decode_all(digits: &[u8], bytes: &mut [u8], decoded: usize) -> bool
     decode_lanes(digits, bytes, last)
 }
 
+/// Whether so many bytes are all that the digits write.
+fn are_all_decoded(digits: &[u8], decoded: usize) -> bool
+    requires within { 2 * decoded ≤ length digits.now }
+    ensures { result ≡ true → length digits.now ≡ 2 * decoded }
+{
+    2 * decoded == digits.len()
+}
+
 /// Decodes the digits to the front of `room`, where the first `decoded` bytes are decoded already, and
 /// returns whether all are hexadecimal.
 pub(crate) fn decode_to_front(digits: &[u8], room: &mut [u8], decoded: usize) -> bool
@@ -169,7 +177,7 @@ pub(crate) fn decode_to_front(digits: &[u8], room: &mut [u8], decoded: usize) ->
     ensures found { result ≡ true → decode_of digits.now ≡ Ok (take (length digits.now / 2) room.new) }
     ensures only { result ≡ false → (out : List ℕ) → decode_of digits.now ≢ Ok out }
 {
-    if 2 * decoded == digits.len() {
+    if are_all_decoded(digits, decoded) {
         return true;
     }
     decode_all(digits, &mut room[..digits.len() / 2], decoded)

@@ -88,6 +88,14 @@ fn iif_of_bytes(first: u8, second: u8) -> u8
     if second == b' ' { digit } else { both }
 }
 
+/// Whether an incoming vif may have this number.
+#[inline(always)]
+fn is_iif(number: u8) -> bool
+    ensures { result ≡ true → number ≤ 31 }
+{
+    number <= MAX_VIF
+}
+
 /// The incoming vif that a line begins with, printed in three bytes, and what follows it.
 #[inline(always)]
 fn iif_at_front(line: &[u8]) -> Option<(u8, &[u8])>
@@ -99,7 +107,7 @@ fn iif_at_front(line: &[u8]) -> Option<(u8, &[u8])>
         return None;
     }
     let iif = iif_of_bytes(line[0], line[1]);
-    if iif > MAX_VIF {
+    if !is_iif(iif) {
         return None;
     }
     Some((iif, &line[3..]))

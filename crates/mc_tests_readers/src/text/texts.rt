@@ -128,7 +128,11 @@ fn line_feeds(rt: HostRuntime) -> Result<(), AllocError> {
     assert!(rt; is_found_at_each_place(alloc, 65)?);
     assert!(rt; is_found_at_each_place(alloc, 300)?);
     // the first one counts
-    assert!(rt; find_byte(b'\n', b"0123456789\n0123456789\n0123456789\n0123456789\n0123456789\n0123456789\n")
-        == Some(10));
+    assert!(rt;
+        find_byte(
+            b'\n',
+            b"0123456789\n0123456789\n0123456789\n0123456789\n0123456789\n0123456789\n"
+        ) == Some(10)
+    );
     Ok(())
 }

@@ -6,5 +6,5 @@ pub returns : goal.returns
 returns c =
     let starts = c.starts_with_iif.ensures c.if-not-starts_with_iif.false in
     iif_is_first_word c.args.line.now c.iif_of_bytes-iif.result c.if-line-lt3.false starts
-    c.if-iif-gt-MAX_VIF.false (c.iif_of_bytes-iif.ensures.one starts.first)
+    (c.is_iif.ensures c.if-not-is_iif.false) (c.iif_of_bytes-iif.ensures.one starts.first)
     (c.iif_of_bytes-iif.ensures.two starts.first)

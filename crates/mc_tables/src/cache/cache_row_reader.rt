@@ -96,6 +96,7 @@ impl CacheRowReader {
     }
 
     /// Reads the row of a line and adds it.
+    #[inline(always)]
     fn add_row(&mut self, line: &Line<'_>) -> Result<(), TableFaultKind>
         ensures added { OnOk result (line_added self.old (line_text line.now) ≡ Ok self.new) }
         ensures fault { IfErr result (λ fault. fault ≢ Memory →
@@ -110,6 +111,7 @@ impl CacheRowReader {
     }
 
     /// Reads the row of a line, adds it, and adds it to the summary.
+    #[inline(always)]
     pub fn add_summarized(
         &mut self,
         line: &Line<'_>,
@@ -138,6 +140,7 @@ impl CacheRowReader {
 
     /// The fault of the text whose line has this fault: an earlier row that repeats another one is
     /// reported first.
+    #[cold]
     pub fn earliest_fault(&mut self, line: u32, kind: TableFaultKind) -> TableFault
         ensures memory { kind ≡ Memory → result ≡ out_of_memory }
         ensures first { kind ≢ Memory →
@@ -240,6 +243,7 @@ impl TableRows for CacheRowReader {
 
     ghost is_valid = { λ so_far. IsValidCache so_far.rows.table };
 
+    #[inline(always)]
     #[tactic(auto, using(crate::proofs::RowRuleLemmas::line_added_keeps_valid_cache))]
     fn add_line(&mut self, ended: u32, line: &Line<'_>) -> Result<(), TableFault> {
         if ended == 0 {

@@ -70,6 +70,7 @@ impl<V: RowFold> EachRow<V> {
     }
 
     /// Reads the row of a line and hands it on.
+    #[inline(always)]
     fn add_row(&mut self, line: &Line<'_>) -> Result<(), TableFaultKind>
         ensures added { OnOk result (each_row_added V.after self.old (line_text line.now) ≡ Ok self.new) }
         ensures fault { IfErr result (λ fault. fault ≢ Memory →
@@ -119,6 +120,7 @@ impl<V: RowFold> TableRows for EachRow<V> {
 
     ghost is_valid = { λ _. ⊤ };
 
+    #[inline(always)]
     fn add_line(&mut self, ended: u32, line: &Line<'_>) -> Result<(), TableFault> {
         if ended == 0 {
             return check_header(line, b"Group");

@@ -95,6 +95,7 @@ impl<H: Copy> FlatOifs<H> {
     /// # Errors
     ///
     /// `AllocError` if there is no room and memory runs out.
+    #[inline(always)]
     #[tactic(auto, using(crate::proofs::FlatLemmas::lists_of_push))]
     pub fn push(&mut self, head: H, oifs: &[Oif]) -> Result<(), AllocError>
         requires count { length self.old.lists < 65536 }

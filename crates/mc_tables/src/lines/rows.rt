@@ -90,6 +90,7 @@ pub fn read_piece<R: TableRows>(
 }
 
 /// Reads a line that lies in this piece as a whole, up to its line feed at `end`.
+#[inline(always)]
 fn read_whole_line<R: TableRows>(
     lines: &mut LineBuffer,
     rows: &mut R,
@@ -115,6 +116,7 @@ fn read_whole_line<R: TableRows>(
 
 /// Reads more of a line that has begun, and returns how many bytes it took: those up to the line
 /// feed and it, or all.
+#[cold]
 fn read_begun_line<R: TableRows>(
     lines: &mut LineBuffer,
     rows: &mut R,

@@ -75,6 +75,7 @@ impl TableRows for SummarizedRows {
     ghost is_valid = { λ so_far. IsValidCache so_far.rows.rows.table
         × HasValidEntries (finished_summary so_far.summary) };
 
+    #[inline(always)]
     fn add_line(&mut self, ended: u32, line: &Line<'_>) -> Result<(), TableFault> {
         if ended == 0 {
             return check_header(line, b"Group");

@@ -73,6 +73,7 @@ impl SummarySoFar {
     }
 
     /// Adds a row with its outgoing vifs. `kept` is whether the table keeps the row.
+    #[inline(always)]
     pub fn add(&mut self, row: &CacheRow, oifs: &[Oif], kept: bool) -> Result<(), TableFaultKind>
         requires kept { kept ≡ is_kept_by_set self.old.listed (row_with_oifs row.now oifs.now) }
         requires room { length self.old.first.table.numbered < 65536 }

@@ -53,6 +53,7 @@ fn is_sent_by(copy: &CarriedCopy, router: RouterNo, vif: u8) -> bool
 }
 
 /// Lets a copy that its LAN carries wait at the LAN's interfaces other than its sender.
+#[inline(always)]
 fn wait_at_hearers(
     waiting: &mut VecDeque<WaitingCopy>,
     view: &FlowView<'_>,
@@ -134,6 +135,7 @@ impl Copies {
 
     /// Sends the taken copy on by a vif of its router, with one less to live. Whether that puts it on a
     /// LAN.
+    #[inline(always)]
     fn send(&mut self, view: &FlowView<'_>, taken: &WaitingCopy, vif: u8) -> Result<bool, Memory>
         requires positive { 0 < taken.now.ttl }
         ensures ok { OnOk result (self.new ≡ leave (net_in view.now) (taken.now.ttl - 1)
@@ -161,6 +163,7 @@ impl Copies {
     }
 
     /// Sends the taken copy on by each outgoing vif whose threshold its time to live exceeds.
+    #[inline(always)]
     fn send_all(
         &mut self,
         view: &FlowView<'_>,
@@ -189,6 +192,7 @@ impl Copies {
     }
 
     /// Does what the router does with a copy that waits at its vif. The copy still waits afterwards.
+    #[inline(always)]
     fn forward(&mut self, flow: &FlowWithRows<'_>, taken: &WaitingCopy) -> Result<Outcome, Memory>
         ensures ok { OnOk result (self.new ≡ handle (net_in flow.now) (Some taken.now) self.old) }
         ensures outcome { IfOk result (λ outcome. outcome_value outcome ≡

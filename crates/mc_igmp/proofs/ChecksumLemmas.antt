@@ -27,12 +27,6 @@ word_sum-last [] h = refl
 word_sum-last (a ∷ []) h = refl
 word_sum-last _ h = absurd (omega arith)
 
--- the sum of no bytes
-pub word_sum-none : (s : List ℕ) → length s ≡ 0 → word_sum s ≡ 0
-unfolding word_sum
-word_sum-none [] h = refl
-word_sum-none (a ∷ rest) h = absurd (omega arith)
-
 -- the sum is that of the first n bytes and of the others, if no word is split
 pub word_sum-take_drop : (n : ℕ) (s : List ℕ) → (n < length s → n % 2 ≡ 0)
     → word_sum s ≡ word_sum (take n s) + word_sum (drop n s)

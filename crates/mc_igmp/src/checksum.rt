@@ -62,6 +62,16 @@ fn sum_of_pairs(piece: &[u8]) -> u64
     sum + u64::from(sum_of_words(rest))
 }
 
+/// The first piece of a message, and what follows it. No word is cut in two.
+fn split_piece(message: &[u8]) -> (&[u8], &[u8])
+    requires more { PIECE_LEN < length message.now }
+    ensures words { word_sum result.0.now + word_sum result.1.now ≡ word_sum message.now }
+    ensures bounded { length result.0.now ≤ PIECE_LEN }
+    ensures shorter { length result.1.now < length message.now }
+{
+    message.split_at(PIECE_LEN)
+}
+
 /// The one's complement sum of the words of a message. A message of at most `PIECE_LEN` bytes, as is
 /// each that fits in an IP packet, is summed at once, and the carries are added at the end.
 fn ones_complement_sum(message: &[u8]) -> u64
@@ -72,7 +82,7 @@ fn ones_complement_sum(message: &[u8]) -> u64
     let mut sum = 0u64;
     let mut rest = message;
     while rest.len() > PIECE_LEN {
-        let (piece, others) = rest.split_at(PIECE_LEN);
+        let (piece, others) = split_piece(rest);
         sum = add_with_carries(sum, sum_of_pairs(piece));
         rest = others;
     }

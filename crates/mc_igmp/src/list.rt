@@ -221,6 +221,7 @@ impl ReportList {
             self.append_bytes(1, &older_record_bytes(group))?;
         }
         let (count, bytes) = group_records.parts();
+        // a report of version 1 or 2 has no others
         if count == 0 {
             return Ok(());
         }

@@ -22,7 +22,8 @@ kept_of_lists numbers lists groups =
 kept_of_lists-same : (old new : EntryNumbersValue) (lists more : List (ℕ × List Oif)) (groups : List ℕ)
     → new ≡ old → more ≡ lists → kept_of_lists new more groups ≡ kept_of_lists old lists groups
 kept_of_lists-same old new lists more groups same same_lists =
-    ap (λ ls. kept_of_lists new ls groups) same_lists ∙ ap (λ numbers. kept_of_lists numbers lists groups) same
+    ap (λ ls. kept_of_lists new ls groups) same_lists
+    ∙ ap (λ numbers. kept_of_lists numbers lists groups) same
 
 -- The entry's number is how many entries there were, which is the place at which it was pushed.
 pub entry_inserted-of_lists : (key : ℕ × ℕ) (iif : ℕ) (oifs : List Oif) (old new : EntryNumbersValue)
@@ -39,7 +40,8 @@ entry_inserted-of_lists key iif oifs old new lists more groups New are_numbers o
     let grown = from_entries-insert key entry (entries_by_key old.numbers es)
     (entries_by_key new.numbers (es ++ entry ∷ []))
     (lookup-entries_by_key_push key entry es old.numbers new.numbers are_numbers
-    (subst (λ (n : ℕ). AddsNumber key n old.numbers new.numbers) (sym (length-map lists entry_of)) own.3)) in (
+    (subst (λ (n : ℕ). AddsNumber key n old.numbers new.numbers) (sym (length-map lists entry_of))
+    own.3)) in (
       own.0,
       is_some_get-entries_by_key key old.numbers es are_numbers ∙ ap is_some own.1,
       ap (λ (all : List EntryValue). kept_rows_value new.listed new.numbers all groups) pushed

@@ -1,7 +1,7 @@
 -- A line whose words are read from its front.
 use Rattle.std.proofs.Common.{◌≡◌, ℕ, zero, suc, ◌+◌, ◌-◌, ◌*◌, ◌<◌, ◌≤◌, true, false, List, [], ◌∷◌, ◌++◌}
-use Rattle.std.proofs.Common.{length, take}
-use Rattle.std.proofs.Common.{drop, get_or, Option, Some, None, Ok, refl, sym, ap, ap₂, subst, ◌∙◌, inl, inr, arith}
+use Rattle.std.proofs.Common.{length, take, drop, get_or, Option, Some, None, Ok}
+use Rattle.std.proofs.Common.{refl, sym, ap, ap₂, subst, ◌∙◌, inl, inr, arith}
 use Rattle.std.specs.Prelude.{◌==◌, ◌&&◌, Bool, nat_le, nat_lt, not, position, filter, unwrap_or, IfSome}
 use Rattle.std.specs.List.{list_all, slice_split}
 use Rattle.std.specs.Char.{digit_value, is_ascii_digit}
@@ -356,7 +356,7 @@ two_digit_oif_is_first_word line long first tens units top colon of_threshold th
 -- ---- an incoming vif
 
 -- a digit and two spaces are a first word that denotes an incoming vif
-pub one_digit_iif_is_first_word : (line : List ℕ) → 3 ≤ length line → is_ascii_digit (get_or line 0 0) ≡ true
+one_digit_iif_is_first_word : (line : List ℕ) → 3 ≤ length line → is_ascii_digit (get_or line 0 0) ≡ true
     → get_or line 1 0 ≡ 32 → get_or line 2 0 ≡ 32 → (word : List ℕ)
     × (words_of line ≡ word ∷ words_of (take (length line - 3) (drop 3 line)))
     × (is_decimal_word word ≡ true) × (number_in 0 31 word ≡ Some (get_or line 0 0 - 48))
@@ -374,7 +374,7 @@ one_digit_iif_is_first_word (a ∷ b ∷ c ∷ rest) long digit first second =
 one_digit_iif_is_first_word line long digit first second = grind arith
 
 -- and so are two digits and a space
-pub two_digit_iif_is_first_word : (line : List ℕ) → 3 ≤ length line → is_ascii_digit (get_or line 0 0) ≡ true
+two_digit_iif_is_first_word : (line : List ℕ) → 3 ≤ length line → is_ascii_digit (get_or line 0 0) ≡ true
     → is_ascii_digit (get_or line 1 0) ≡ true
     → (get_or line 0 0 - 48) * 10 + (get_or line 1 0 - 48) ≤ 31 → get_or line 2 0 ≡ 32
     → (word : List ℕ) × (words_of line ≡ word ∷ words_of (take (length line - 3) (drop 3 line)))

@@ -71,8 +71,9 @@ IsNumberInserted key number old new Repeated =
     (set_has_key old.listed key ≡ true) × (is_some (number_of_key old.numbers key) ≡ true) × (new ≡ old)
 IsNumberInserted key number old new Unlisted = (set_has_key old.listed key ≡ false) × (new ≡ old)
 
--- What the answer says of where a key's number may be stored: `At place`, at the key's place, which
--- has none; `Repeated`, its place has one; `Unlisted`, the key isn't listed.
+-- Only contracts of private functions use this definition and the next one. What the answer says of
+-- where a key's number may be stored: `At place`, at the key's place, which has none; `Repeated`,
+-- its place has one; `Unlisted`, the key isn't listed.
 abbrev pub IsVacancyFor : (keys : List (ℕ × ℕ)) (stored : List ℕ) (key : ℕ × ℕ) → Vacancy → Type 0
 IsVacancyFor keys stored key (vacancy.At place) =
     IsPlaceOf keys key place × (place < length stored) × (get_or stored place 0 ≡ 0)

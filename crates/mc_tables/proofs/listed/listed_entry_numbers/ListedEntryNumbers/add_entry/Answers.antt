@@ -33,8 +33,9 @@ returns-in_ok-push-in-At-clause-numbered c =
     let keys = c.self.inside.pairs in
     let stored = c.vacancy_for.new.numbers.items in
     let more = c.vacancy_for.ensures.more in
-    rw c.len-number.ensures (number_inserted-new key (length c.args.entries.now.lists) c.in-At.place keys c.self.inside.numbers.items stored more.0
-    c.args.self.now more.1 c.self.view_is c.vacancy_for.ensures.distinct
+    let number = length c.args.entries.now.lists in
+    rw c.len-number.ensures (number_inserted-new key number c.in-At.place keys c.self.inside.numbers.items
+    stored more.0 c.args.self.now more.1 c.self.view_is c.vacancy_for.ensures.distinct
     (subst (IsVacancyFor keys stored key) c.in-At.is c.in_ok-place.ensures.vacancy))
 
 -- The place holds a number, which is the key's own, as no other key has the place.
@@ -44,7 +45,8 @@ returns-in-Repeated-clause-numbered c =
     let keys = c.self.inside.pairs in
     let stored = c.vacancy_for.new.numbers.items in
     let more = c.vacancy_for.ensures.more in
-    number_inserted-repeated key (length c.args.entries.now.lists) keys c.self.inside.numbers.items stored more.0
+    let number = length c.args.entries.now.lists in
+    number_inserted-repeated key number keys c.self.inside.numbers.items stored more.0
     c.args.self.now more.1 c.self.view_is c.vacancy_for.ensures.distinct
     (subst (IsVacancyFor keys stored key) c.in-Repeated.is c.in_ok-place.ensures.vacancy)
 
@@ -55,6 +57,7 @@ returns-in-Unlisted-clause-numbered c =
     let keys = c.self.inside.pairs in
     let stored = c.vacancy_for.new.numbers.items in
     let more = c.vacancy_for.ensures.more in
-    number_inserted-unlisted key (length c.args.entries.now.lists) keys c.self.inside.numbers.items stored more.0
+    let number = length c.args.entries.now.lists in
+    number_inserted-unlisted key number keys c.self.inside.numbers.items stored more.0
     c.args.self.now more.1 c.self.view_is
     (subst (IsVacancyFor keys stored key) c.in-Unlisted.is c.in_ok-place.ensures.vacancy)

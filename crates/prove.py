@@ -6,7 +6,8 @@ usage: prove.py [--jobs N] CRATE      a crate of crates.txt
 Each is proved by `rt lib` (beside.py), which knows by checksums what is proved already, and takes moments where nothing
 has changed, in the library or below it. So a run that follows one that was ended goes on where that was. N libraries
 are proved at once: if not given, as many as there are processors and 4 GB of free memory each, at most 4. Those above
-which most is left to prove, one after the other, begin first.
+which most is left to prove, one after the other, begin first, and those that are proved beside them have a lower
+priority, since each has more jobs than there are processors for all.
 
 A line says when a library is proved, and what that took. Where one isn't, what `rt` said of it follows on standard
 error; then no other begins, those that have begun may end, and the status is 1.
@@ -25,6 +26,7 @@ LIST = os.path.join(os.path.dirname(HERE), "crates.txt")
 CORES = len(os.sched_getaffinity(0))
 MOST = 4  # more gain nothing, since most libraries stand on one another
 MEMORY_OF_CHECK = 4_000_000_000
+NICER = 5  # how much lower the priority is beside each library above which more is left
 
 
 def free_memory():
@@ -91,6 +93,7 @@ class Run:
     def __init__(self, libraries, jobs):
         self.libraries, self.jobs = libraries, jobs
         self.waiting, self.running = in_order(libraries), {}
+        self.places = {name: place for place, name in enumerate(self.waiting)}
         self.proved, self.failed = set(), []
 
     def begin(self):
@@ -102,7 +105,12 @@ class Run:
                 words = [sys.executable, os.path.join(HERE, "beside.py")]
                 how = {"cwd": os.path.join(HERE, name), "stdin": subprocess.DEVNULL}
                 process = subprocess.Popen(words, stdout=said, stderr=subprocess.STDOUT, **how)
+                os.setpriority(os.PRIO_PROCESS, process.pid, os.nice(0) + NICER * self.before(name))
                 self.running[process.pid] = name, process, said, time.monotonic()
+
+    def before(self, name):
+        """How many are being proved above which more is left than above this one."""
+        return sum(self.places[other] < self.places[name] for other, *_ in self.running.values())
 
     def end(self):
         """Waits until one has ended, and says how."""

@@ -85,6 +85,11 @@ class Tree:
         with open(f"{self.top}/{path}", "w", encoding="utf-8") as file:
             file.write(text)
 
+    def read_file(self, path):
+        """The text of a file of the tree."""
+        with open(f"{self.top}/{path}", encoding="utf-8") as file:
+            return file.read()
+
     def begin(self, *words):
         """Begins a command at the top of the tree, with an empty log."""
         self.write_file("log")
@@ -103,8 +108,7 @@ class Tree:
 
     def lines(self):
         """The lines of the log."""
-        with open(self.log, encoding="utf-8") as file:
-            return file.read().splitlines()
+        return self.read_file("log").splitlines()
 
     def proved(self):
         """The crates that were proved in the last run, and none was begun in vain."""
@@ -175,6 +179,16 @@ def longest(tree):
     tree.make_crates("top: short far\nfar: near\nnear:\nshort:\n", short="x" * 50, near="x" * 30, far="x" * 30)
     assert tree.prove(1, "top")[0] == 0, tree.lines()
     assert [it for it in tree.lines() if it.startswith("begin")] == ["begin near", "begin short", "begin far"]
+
+
+@case
+def priority(tree):
+    """Those that are proved beside one above which more is left have a lower priority, each a lower one."""
+    texts = {"far": "x", "near": "with small", "short": f"with small\n{'x' * 20}", "small": "takes 0.1"}
+    tree.make_crates("top: far short small\nfar: near\nnear:\nshort:\nsmall:\n", **texts)
+    assert tree.prove(3, "top")[0] == 0, tree.lines()
+    nice = [int(tree.read_file(f"crates/{name}/out/nice")) - os.nice(0) for name in ("short", "near", "small")]
+    assert nice == [0, 5, 10], nice
 
 
 @case

@@ -76,7 +76,7 @@ rule 'a view of a flow' 1..1 "$(lines 'struct (FlowView|FlowRows|FlowNet|FlowTab
 rule 'an item for each LAN, in a vector' 1..1 "$(lines ': Vec<Option<' $sources)"
 rule 'the text and the answer of a run' 1..1 "$(lines 'struct (RunOutput|RunText|Verdicts) ' $sources)"
 # (words, since a line holds more or fewer of them as names are short or long; those of comments aside)
-rule 'words that prove what the runs answer' 400..665 "$(cat $(find crates/mc_run/proofs -path "*/run_*/Answers.antt") | grep -v '^ *--' | wc -w)"
+rule 'words that prove what the runs answer' 400..665 "$(cat $(find crates/mc_commands/proofs crates/mc_run/proofs -path "*/run_*/Answers.antt") | grep -v '^ *--' | wc -w)"
 
 # --- names ---
 rule 'identifiers that hold a word of several meanings' 0..0 "$(python3 tests/house/words.py | wc -l)"
@@ -96,10 +96,10 @@ rule 'windows of the tools that stand again' 0..0 "$(python3 tests/house/duplica
 
 # --- edits that must fail ---
 # (an edit that names a clause is refused by that clause alone, and not by a proof that no longer fits)
-first_five='mc_run mc_replay mc_forward mc_check mc_maker'
-others=$(cd "$edits" && ls -d */must-fail | sed 's|/must-fail||' | grep -vxF "$(echo $first_five | tr ' ' '\n')")
-rule 'of these five crates those without edits' 0..0 "$(for name in $first_five; do [ "$(edited "$name")" -gt 0 ] || echo "$name"; done | wc -l)"
-rule 'edits of the runs, the replayer, the checker and the maker that name no clause' 0..0 "$(unnamed $first_five)"
+first_six='mc_run mc_commands mc_replay mc_forward mc_check mc_maker'
+others=$(cd "$edits" && ls -d */must-fail | sed 's|/must-fail||' | grep -vxF "$(echo $first_six | tr ' ' '\n')")
+rule 'of these six crates those without edits' 0..0 "$(for name in $first_six; do [ "$(edited "$name")" -gt 0 ] || echo "$name"; done | wc -l)"
+rule 'edits of the runs, the replayer, the checker and the maker that name no clause' 0..0 "$(unnamed $first_six)"
 rule 'edits of the other crates that name no clause' 0.."$(($(edited $others) / 5))" "$(unnamed $others)"
 
 # --- the operators' tools ---

@@ -8,7 +8,7 @@ use Rattle.mc_files.specs.Files.{FileText}
 use Rattle.mc_forward.specs.Domains.{DomainValue}
 use Rattle.mc_run.specs.FlowCounts.{are_right}
 use Rattle.mc_run.specs.AuditPieces.{output_of}
-use Rattle.mc_run.specs.Failures.{is_write}
+use Rattle.mc_commands.specs.Failures.{is_write}
 use Rattle.mc_run.specs.AuditedFiles.{LeftOutValue, MeansAudited, is_whole}
 use Rattle.mc_run.specs.AuditRun.{IsAuditText, IsAudited}
 use Rattle.mc_run.specs.AuditClaims.{SaysOfEach, SaysWhichAreRight, WritesWhichAreRight}
@@ -17,10 +17,10 @@ use Rattle.mc_input.specs.ExcludedRouters.{files_with_exclusions}
 use Rattle.mc_input.specs.Meaning.{FilesMeanDomain}
 use Rattle.mc_cli.specs.declared.audit_options.AuditOptions.{AuditOptions}
 use Rattle.mc_run.specs.declared.audit.audit_output.AuditOutput.{AuditOutput}
-use Rattle.mc_run.specs.declared.fault.RunFault.{RunFault}
-use Rattle.mc_run.specs.declared.run_output.RunOutput.{RunOutput}
-use Rattle.mc_run.proofs.RunInputLemmas.{of_domain-implication}
-use Rattle.mc_run.proofs.RunLemmas.{IsOutputOf, is_output_of-implication}
+use Rattle.mc_commands.specs.declared.fault.RunFault.{RunFault}
+use Rattle.mc_commands.specs.declared.run_output.RunOutput.{RunOutput}
+use Rattle.mc_commands.proofs.RunInputLemmas.{of_domain-implication}
+use Rattle.mc_commands.proofs.RunLemmas.{IsOutputOf, is_output_of-implication}
 use Rattle.mc_run.proofs.FlowAnswerLemmas.{and-true_left, keeps_headline-all_certified}
 use Rattle.mc_run.proofs.FlowClaimLemmas.{writes_which_are_right-audited, yes_or_finding-audited}
 

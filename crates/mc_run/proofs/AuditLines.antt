@@ -12,8 +12,8 @@ use Rattle.mc_run.specs.AuditEnd.{end_lines}
 use Rattle.mc_run.specs.AuditedFiles.{AuditedValue, excluded, is_whole}
 use Rattle.mc_run.specs.AuditRun.{AreFlowAnswers, is_yes, trees_shown}
 use Rattle.mc_cli.specs.declared.audit_options.AuditOptions.{AuditOptions}
-use Rattle.mc_run.proofs.VerdictLines.{AreLinesWithoutYes, no_yes_line-append, no_yes_line-if}
-use Rattle.mc_run.proofs.VerdictLines.{no_yes_line-no_lines}
+use Rattle.mc_commands.proofs.VerdictLines.{AreLinesWithoutYes, no_yes_line-append, no_yes_line-if}
+use Rattle.mc_commands.proofs.VerdictLines.{no_yes_line-no_lines}
 use Rattle.mc_run.proofs.LinesWithoutYes.{no_yes_line-objects}
 use Rattle.mc_run.proofs.FlowLinesWithoutYes.{no_yes_line-all_answers}
 use Rattle.mc_run.proofs.EndLinesWithoutYes.{no_yes_line-end_lines}

@@ -9,26 +9,25 @@ use Rattle.mc_run.specs.AuditRun.{HasCounts, IsAuditText}
 use Rattle.mc_run.specs.AuditClaims.{SaysOfEach, SaysWhichAreRight}
 use Rattle.mc_run.specs.AuditExclusions.{AreFoundInWhole}
 use Rattle.mc_run.specs.AuditYes.{AuditSaysYes, FilesKeepHeadline}
-use Rattle.mc_run.specs.Failures.{is_write}
-use Rattle.mc_run.specs.InputMeaning.{AreRefusedWithout}
-use Rattle.mc_run.specs.RunOutput.{Answers, IsOutputWritten, Writes, WritesPart}
+use Rattle.mc_commands.specs.Failures.{is_write}
+use Rattle.mc_commands.specs.InputMeaning.{AreRefusedWithout}
+use Rattle.mc_commands.specs.RunOutput.{Answers, IsOutputWritten, Writes, WritesPart}
 use Rattle.mc_cli.specs.declared.audit_options.AuditOptions.{AuditOptions}
 use Rattle.mc_run.specs.declared.audit.audit_output.AuditAnswer.{AuditAnswer}
 use Rattle.mc_run.specs.declared.audit.audit_output.AuditCounts.{AuditCounts}
 use Rattle.mc_run.specs.declared.audit.audit_output.AuditOutput.{AuditOutput}
-use Rattle.mc_run.specs.declared.fault.RunFault.{RunFault}
-use Rattle.mc_run.specs.declared.fault.RunFault.TheVariants.{Write}
-use Rattle.mc_run.specs.declared.run_output.RunOutput.{RunOutput}
+use Rattle.mc_commands.specs.declared.fault.RunFault.{RunFault}
+use Rattle.mc_commands.specs.declared.fault.RunFault.TheVariants.{Write}
+use Rattle.mc_commands.specs.declared.run_output.RunOutput.{RunOutput}
 use Rattle.mc_run.proofs.AuditTextLemmas.{audit_answer-gives, is_output_written-parts, audit_counts-gives}
 use Rattle.mc_run.proofs.AuditTextLemmas.{audit_write_fault-gives, audit_yes-gives}
 use Rattle.mc_run.proofs.AuditLemmas.{is_output_of-each_flow, headline_of_files-audit_yes}
 use Rattle.mc_run.proofs.AuditLemmas.{is_write_fault-audit_output, is_output_of-which_are_right}
 use Rattle.mc_run.proofs.AuditLemmas.{is_output_of-audit}
-use Rattle.mc_run.proofs.RunLemmas.{IsOutputOf, writes_part-output_written, answers-output_written}
-use Rattle.mc_run.proofs.RunLemmas.{writes-output_written}
-use Rattle.mc_run.proofs.YesRunLemmas.{headline-audit_says_yes}
+use Rattle.mc_commands.proofs.RunLemmas.{IsOutputOf, writes_part-output_written, answers-output_written}
+use Rattle.mc_commands.proofs.RunLemmas.{writes-output_written}
 use Rattle.mc_run.proofs.WholeDomainLemmas.{is_output_of-found_in_whole}
-use Rattle.mc_run.proofs.YesLines.{says_yes_by_line-verdict_yes, says_yes_by_line-yes_object}
+use Rattle.mc_run.proofs.YesLines.{headline-audit_says_yes, says_yes_by_line-verdict_yes, says_yes_by_line-yes_object}
 
 -- the text that was put together is that of these files
 abbrev pub HasText : Option (List FileText) → AuditOptions → (left : LeftOutValue)

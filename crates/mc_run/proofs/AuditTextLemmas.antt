@@ -22,10 +22,10 @@ use Rattle.mc_cli.specs.declared.audit_options.AuditOptions.{AuditOptions}
 use Rattle.mc_run.specs.declared.audit.audit_output.AuditAnswer.{AuditAnswer}
 use Rattle.mc_run.specs.declared.audit.audit_output.AuditCounts.{AuditCounts}
 use Rattle.mc_run.specs.declared.audit.audit_output.AuditOutput.{AuditOutput}
-use Rattle.mc_run.specs.declared.fault.RunFault.{RunFault}
-use Rattle.mc_run.specs.declared.fault.RunFault.TheVariants.{Write}
-use Rattle.mc_run.specs.RunOutput.{IsOutputWritten}
-use Rattle.mc_run.specs.declared.run_output.RunOutput.{RunOutput}
+use Rattle.mc_commands.specs.declared.fault.RunFault.{RunFault}
+use Rattle.mc_commands.specs.declared.fault.RunFault.TheVariants.{Write}
+use Rattle.mc_commands.specs.RunOutput.{IsOutputWritten}
+use Rattle.mc_commands.specs.declared.run_output.RunOutput.{RunOutput}
 use Rattle.mc_run.specs.declared.audit.flow_status.FlowCounts.{FlowCounts}
 use Rattle.mc_run.proofs.AuditFlows.{is_yes-zero_wrong}
 

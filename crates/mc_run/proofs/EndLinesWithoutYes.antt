@@ -32,8 +32,8 @@ use Rattle.mc_run.specs.AuditEnd.{end_text_or_objects, strict_lines, strict_line
 use Rattle.mc_run.specs.AuditEnd.{summary_of_flows, end_objects, end_text}
 use Rattle.mc_cli.specs.declared.audit_options.AuditOptions.{AuditOptions}
 use Rattle.mc_explain.proofs.LineFeedLemmas.{number, no_feed-from_list_all, no_feed-append}
-use Rattle.mc_run.proofs.VerdictLines.{AreLinesWithoutYes, BeginsWithOtherByte, no_yes_line-append}
-use Rattle.mc_run.proofs.VerdictLines.{no_yes_line-if, no_yes_line-no_lines, no_yes_line-text_line}
+use Rattle.mc_commands.proofs.VerdictLines.{AreLinesWithoutYes, BeginsWithOtherByte, no_yes_line-append}
+use Rattle.mc_commands.proofs.VerdictLines.{no_yes_line-if, no_yes_line-no_lines, no_yes_line-text_line}
 use Rattle.mc_run.proofs.LinesWithoutYes.{begins-excluded_line, begins-row_line}
 use Rattle.mc_run.proofs.LinesWithoutYes.{no_yes_line-indented_lines, no_yes_line-lines}
 use Rattle.mc_run.proofs.LinesWithoutYes.{no_yes_line-objects}

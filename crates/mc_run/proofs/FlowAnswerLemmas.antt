@@ -20,7 +20,7 @@ use Rattle.mc_run.specs.AuditedFiles.{AuditedValue, excluded, is_whole}
 use Rattle.mc_run.specs.AuditRun.{AreFlowAnswers, IsAudited, IsFlowAnswer, is_yes, trees_shown}
 use Rattle.mc_run.specs.AuditClaims.{HasLinesOfEachFlow}
 use Rattle.mc_run.specs.AuditYes.{KeepsHeadlineByLists}
-use Rattle.mc_run.specs.MakeRun.{AreExamined, IsExamined, are_certified, certified_lists}
+use Rattle.mc_commands.specs.MakeRun.{AreExamined, IsExamined, are_certified, certified_lists}
 use Rattle.mc_cli.specs.declared.audit_options.AuditOptions.{AuditOptions}
 
 -- ---- the answers of flows

@@ -47,9 +47,9 @@ use Rattle.mc_replay.specs.declared.finding.Finding.TheVariants.{Clean, Duplicat
 use Rattle.mc_replay.specs.declared.travel.FinishedTravel.{FinishedTravel}
 use Rattle.mc_explain.specs.ShownNeed.{IsShownFromIfAny}
 use Rattle.mc_replay.specs.declared.travel.Travel.{Travel}
-use Rattle.mc_run.specs.MakeRun.{AreRight}
+use Rattle.mc_commands.specs.MakeRun.{AreRight}
 use Rattle.mc_cli.specs.declared.audit_options.AuditOptions.{AuditOptions}
-use Rattle.mc_run.proofs.MakeLemmas.{are_certified-are_right}
+use Rattle.mc_commands.proofs.MakeLemmas.{are_certified-are_right}
 use Rattle.mc_run.proofs.FlowAnswerLemmas.{has_lines-each_answer, are_right-examinations}
 use Rattle.mc_run.proofs.FlowAnswerLemmas.{are_examined-answers, examinations_of}
 

@@ -39,8 +39,8 @@ use Rattle.mc_run.specs.AuditText.{shown_by_text, shown_from_text}
 use Rattle.mc_run.specs.AuditFlowText.{answer_lines, is_hidden, right_lines_or_object, wrong_lines_or_object}
 use Rattle.mc_cli.specs.declared.audit_options.AuditOptions.{AuditOptions}
 use Rattle.mc_explain.proofs.LineFeedLemmas.{number, no_feed-from_list_all, no_feed-append}
-use Rattle.mc_run.proofs.VerdictLines.{AreLinesWithoutYes, no_yes_line-append, no_yes_line-if}
-use Rattle.mc_run.proofs.VerdictLines.{no_yes_line-no_lines, no_yes_line-text_line}
+use Rattle.mc_commands.proofs.VerdictLines.{AreLinesWithoutYes, no_yes_line-append, no_yes_line-if}
+use Rattle.mc_commands.proofs.VerdictLines.{no_yes_line-no_lines, no_yes_line-text_line}
 use Rattle.mc_run.proofs.LinesWithoutYes.{finding_text-no_yes, no_yes_line-events_if_shown}
 use Rattle.mc_run.proofs.LinesWithoutYes.{no_yes_line-found_flow_line, no_yes_line-indented_lines}
 use Rattle.mc_run.proofs.LinesWithoutYes.{no_yes_line-objects, no_yes_line-right_line}

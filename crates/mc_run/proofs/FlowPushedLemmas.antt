@@ -38,7 +38,7 @@ use Rattle.mc_explain.specs.ExplanationValues.{ExplanationValue}
 use Rattle.mc_run.proofs.ExplanationLemmas.{unsaid}
 use Rattle.mc_run.specs.AuditFlowText.{is_hidden, known_right, right_flow_lines, status_of_right}
 use Rattle.mc_run.specs.AuditFlowText.{status_of_wrong, with_shown_tree, wrong_flow_lines}
-use Rattle.mc_run.specs.MakeRun.{IsExamined}
+use Rattle.mc_commands.specs.MakeRun.{IsExamined}
 use Rattle.mc_cli.specs.declared.audit_options.AuditOptions.{AuditOptions}
 use Rattle.mc_run.specs.declared.audit.flow_status.FlowStatus.{FlowStatus}
 

@@ -1,19 +1,3 @@
--- any run: its text, its answer and its fault
-mod RunInputLemmas
-mod RunLemmas
-mod YesRunLemmas
-mod FaultLemmas
--- the runs of the commands but `audit`
-mod WantsReadingLemmas
-mod WantsLemmas
-mod CheckTextLemmas
-mod VerdictLines
-mod CheckLemmas
-mod MadeSoFarLemmas
-mod MakeLemmas
-mod CertifiedLemmas
-mod ReplayLemmas
-mod PackingLemmas
 -- the lines of one flow in an audit
 mod ExplanationLemmas
 mod MissedLemmas
@@ -34,6 +18,7 @@ mod FlowClaimLemmas
 mod AuditLemmas
 mod WholeDomainLemmas
 mod YesLines
+mod AuditFaultLemmas
 mod AuditOutputLemmas
 -- an audit of the same files is the same
 mod UniqueTravel
@@ -44,6 +29,3 @@ mod UniqueExplanation
 mod UniqueFlowLines
 mod UniqueFlowAnswers
 mod UniqueAudit
--- the text of a refusal
-mod LineFrontLemmas
-mod RefusalTextLemmas

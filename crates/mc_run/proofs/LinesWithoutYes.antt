@@ -17,16 +17,16 @@ use Rattle.mc_explain.specs.ExcludedText.{IsExcludedLine}
 use Rattle.mc_theory.specs.Lists.{In}
 use Rattle.mc_explain.specs.UnlistedLines.{AreLines, IsUnlistedLine, with_line_feed}
 use Rattle.mc_json.specs.ObjectLines.{AreObjectLines, BeginsObject, IsNotVerdict}
-use Rattle.mc_run.specs.AuditYes.{AreYesWords, yes_object}
+use Rattle.mc_commands.specs.CheckRun.{AreYesWords, yes_object}
 use Rattle.mc_run.specs.AuditText.{events_if_shown, right_line, found_flow_line, known_word}
-use Rattle.mc_run.specs.ReplayRun.{event_line, event_lines}
-use Rattle.mc_run.specs.VerdictText.{flow_words}
+use Rattle.mc_commands.specs.ReplayRun.{event_line, event_lines}
+use Rattle.mc_commands.specs.VerdictText.{flow_words}
 use Rattle.mc_explain.proofs.LineFeedLemmas.{no_feed-dotted, number, no_feed-from_list_all}
 use Rattle.mc_explain.proofs.LineFeedLemmas.{no_feed-router_name, no_feed-append}
-use Rattle.mc_run.proofs.VerdictLines.{AreLinesWithoutYes, BeginsWithOtherByte, no_yes_line-append}
-use Rattle.mc_run.proofs.VerdictLines.{no_yes_line-line, lan_name-no_line_feed}
-use Rattle.mc_run.proofs.VerdictLines.{router_and_vif-no_line_feed, no_yes_line-no_lines}
-use Rattle.mc_run.proofs.VerdictLines.{no_yes_line-text_line, no_yes_line-verdict_line}
+use Rattle.mc_commands.proofs.VerdictLines.{AreLinesWithoutYes, BeginsWithOtherByte, no_yes_line-append}
+use Rattle.mc_commands.proofs.VerdictLines.{no_yes_line-line, lan_name-no_line_feed}
+use Rattle.mc_commands.proofs.VerdictLines.{router_and_vif-no_line_feed, no_yes_line-no_lines}
+use Rattle.mc_commands.proofs.VerdictLines.{no_yes_line-text_line, no_yes_line-verdict_line}
 
 -- ---- lines of text
 

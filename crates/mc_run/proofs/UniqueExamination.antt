@@ -17,7 +17,7 @@ use Rattle.mc_maker.specs.ExaminedFlights.{IsFinishedTravelOf, HasExaminedFlight
 use Rattle.mc_maker.specs.declared.examined_flights.ExaminedFlights.{ExaminedFlights}
 use Rattle.mc_maker.specs.declared.examined_flights.ExaminedFlights.TheVariants.{Certified, FoundAtTtl255}
 use Rattle.mc_maker.specs.declared.examined_flights.ExaminedFlights.TheVariants.{FoundAtFlowTtl}
-use Rattle.mc_run.specs.MakeRun.{IsExamined}
+use Rattle.mc_commands.specs.MakeRun.{IsExamined}
 use Rattle.mc_run.proofs.UniqueTravel.{IsSameFinishedTravel, entries_by_lan-unique}
 use Rattle.mc_run.proofs.UniqueTravel.{is_finished_travel-unique, is_travel_to-unique}
 

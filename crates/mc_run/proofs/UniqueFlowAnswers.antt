@@ -23,7 +23,7 @@ use Rattle.mc_run.specs.AuditRun.{IsFlowAnswer, trees_shown}
 use Rattle.mc_explain.specs.ExplanationValues.{ExplanationValue}
 use Rattle.mc_run.specs.AuditFlowText.{answer_lines, is_hidden, known_right, right_flow_lines}
 use Rattle.mc_run.specs.AuditFlowText.{shown_trees_with, with_shown_tree}
-use Rattle.mc_run.specs.MakeRun.{IsExamined}
+use Rattle.mc_commands.specs.MakeRun.{IsExamined}
 use Rattle.mc_cli.specs.declared.audit_options.AuditOptions.{AuditOptions}
 use Rattle.mc_run.proofs.UniqueExamination.{HaveSameFlights, examined_flights-unique}
 use Rattle.mc_run.proofs.UniqueExplanation.{IsSameExplanation, is_explanation-unique}

@@ -33,7 +33,7 @@ use Rattle.mc_explain.specs.ExplanationValues.{ExplanationValue}
 use Rattle.mc_run.specs.AuditText.{behind_text, events_if_shown, explanation_lines, searched_lines}
 use Rattle.mc_run.specs.AuditText.{second_behind_text, found_flow_line, shown_by_text, wrong_lines}
 use Rattle.mc_run.specs.AuditFlowText.{wrong_lines_or_object}
-use Rattle.mc_run.specs.ReplayRun.{event_lines}
+use Rattle.mc_commands.specs.ReplayRun.{event_lines}
 use Rattle.mc_run.proofs.UniqueTravel.{IsSameFinishedTravel}
 use Rattle.mc_run.proofs.UniqueSearch.{HaveSameSearch}
 use Rattle.mc_run.proofs.UniqueBehind.{HaveSameBehind, IsSameBehind}

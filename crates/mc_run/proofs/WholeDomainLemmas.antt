@@ -30,12 +30,12 @@ use Rattle.mc_run.specs.AuditExclusions.{AreFoundInWhole, SaysYesOrFoundInWhole}
 use Rattle.mc_explain.specs.ExplanationValues.{ExplanationValue}
 use Rattle.mc_run.specs.AuditFlowText.{answer_lines}
 use Rattle.mc_cli.specs.declared.audit_options.AuditOptions.{AuditOptions}
-use Rattle.mc_run.specs.declared.fault.RunFault.{RunFault}
-use Rattle.mc_run.specs.declared.run_output.RunOutput.{RunOutput}
+use Rattle.mc_commands.specs.declared.fault.RunFault.{RunFault}
+use Rattle.mc_commands.specs.declared.run_output.RunOutput.{RunOutput}
 use Rattle.mc_run.proofs.FlowPushedLemmas.{is_first_pick_travel-of_examined}
 use Rattle.mc_run.proofs.FlowAnswerLemmas.{has_lines-each_answer}
 use Rattle.mc_run.proofs.FlowClaimLemmas.{says_yes_of-certified}
-use Rattle.mc_run.proofs.RunLemmas.{IsOutputOf, is_output_of-implication}
+use Rattle.mc_commands.proofs.RunLemmas.{IsOutputOf, is_output_of-implication}
 
 -- a fault is found at the flow's TTL or at 255
 found_ttl-flow_ttl_or_255 : (d : DomainValue) (flow : ℕ) (x : ExaminedFlights) → IsDomain d

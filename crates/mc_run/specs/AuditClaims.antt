@@ -29,7 +29,7 @@ use Rattle.mc_run.specs.AuditExplanation.{IsExplanation}
 use Rattle.mc_run.specs.AuditFlowText.{right_flow_lines, wrong_flow_lines}
 use Rattle.mc_run.specs.AuditText.{found_flow_line}
 use Rattle.mc_run.specs.AuditedFiles.{AuditedValue, LeftOutValue, MeansAuditedWhere, excluded, is_whole}
-use Rattle.mc_run.specs.MakeRun.{AreRight}
+use Rattle.mc_commands.specs.MakeRun.{AreRight}
 
 -- ---- the lines of each flow
 

@@ -11,7 +11,7 @@ use Rattle.mc_json.specs.EndData.{summary_data, unlisted_lines, verdict_data, wi
 use Rattle.mc_json.specs.RowData.{line_of}
 use Rattle.mc_input.specs.AskedOfFiles.{UnansweredWantsValue}
 use Rattle.mc_run.specs.AuditAsked.{asked_lines}
-use Rattle.mc_run.specs.VerdictText.{last_line}
+use Rattle.mc_commands.specs.VerdictText.{last_line}
 use Rattle.mc_cli.specs.declared.audit_options.AuditOptions.{AuditOptions}
 use Rattle.mc_run.specs.FlowCounts.{FlowAnswer, count, is_right, is_unknown, is_unwanted, is_wrong}
 

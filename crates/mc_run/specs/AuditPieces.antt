@@ -31,8 +31,8 @@ use Rattle.mc_cli.specs.declared.audit_options.AuditOptions.{AuditOptions}
 use Rattle.mc_run.specs.declared.audit.audited_domain.AuditedDomain.{AuditedDomain}
 use Rattle.mc_run.specs.declared.audit.audit_output.AuditAnswer.{AuditAnswer}
 use Rattle.mc_run.specs.declared.audit.audit_output.AuditOutput.{AuditOutput}
-use Rattle.mc_run.specs.declared.fault.RunFault.{RunFault}
-use Rattle.mc_run.specs.declared.run_output.RunOutput.{RunOutput}
+use Rattle.mc_commands.specs.declared.fault.RunFault.{RunFault}
+use Rattle.mc_commands.specs.declared.run_output.RunOutput.{RunOutput}
 use Rattle.mc_run.specs.declared.audit.flow_status.FlowStatus.{FlowStatus}
 use Rattle.mc_run.specs.declared.audit.flow_status.FlowCounts.{FlowCounts}
 use Rattle.mc_run.specs.declared.audit.reasons.Reasons.{Reasons}

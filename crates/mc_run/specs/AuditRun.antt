@@ -22,7 +22,7 @@ use Rattle.mc_run.specs.AuditEnd.{end_lines, verdict_line}
 use Rattle.mc_run.specs.AuditExplanation.{IsExplanation}
 use Rattle.mc_run.specs.AuditFlowText.{answer_lines, known_right, shown_trees_with}
 use Rattle.mc_run.specs.AuditedFiles.{AuditedValue, LeftOutValue, MeansAuditedWhere, excluded, is_whole}
-use Rattle.mc_run.specs.MakeRun.{IsExamined}
+use Rattle.mc_commands.specs.MakeRun.{IsExamined}
 use Rattle.mc_run.specs.declared.audit.audit_output.AuditCounts.{AuditCounts}
 
 -- ---- what is printed of each flow

@@ -18,8 +18,8 @@ use Rattle.mc_explain.specs.declared.causes.behind.Behind.{Behind}
 use Rattle.mc_explain.specs.declared.searches.searching.LanSearch.{LanSearch}
 use Rattle.mc_explain.specs.declared.causes.Cause.{Cause}
 use Rattle.mc_explain.specs.declared.causes.explanation.ShownBy.{ShownBy}
-use Rattle.mc_run.specs.ReplayRun.{event_lines}
-use Rattle.mc_run.specs.VerdictText.{flow_line, flow_words}
+use Rattle.mc_commands.specs.ReplayRun.{event_lines}
+use Rattle.mc_commands.specs.VerdictText.{flow_line, flow_words}
 
 -- ---- a flow that is right
 

@@ -1,14 +1,15 @@
 -- What a yes of `audit` promises (docs/PROMISES.md). `AuditSaysYes` and `FilesKeepHeadline` are to be
 -- trusted: after a yes, by the answer or by the line that was written, the headline holds for each flow of
 -- the domain that the files mean. By `IsYesLineLast` the line of a yes stands nowhere else in a text.
-use Rattle.std.specs.Prelude.{◌≡◌, ◌⊎◌, ℕ, Bool, true, List, ◌++◌, codes, if◌then◌else◌, Option, Result, Ok}
+use Rattle.std.specs.Prelude.{◌≡◌, ◌⊎◌, ℕ, Bool, true, List, ◌++◌, codes, Option, Result, Ok}
 use Rattle.mc_files.specs.Files.{FileText}
 use Rattle.mc_forward.specs.Domains.{DomainValue}
 use Rattle.mc_maker.specs.declared.examination.Examined.{Examined}
 use Rattle.mc_input.specs.Meaning.{FilesMeanDomain, MeansDomainWhere}
-use Rattle.mc_run.specs.CheckRun.{IsLineStart, KeepsHeadline, WroteAtStart, WroteYes}
-use Rattle.mc_run.specs.MakeRun.{AreExamined, certified_lists}
-use Rattle.mc_run.specs.declared.fault.RunFault.{RunFault}
+use Rattle.mc_commands.specs.CheckRun.{AreYesWords, IsLineStart, KeepsHeadline, WroteAtStart, WroteYes}
+use Rattle.mc_commands.specs.CheckRun.{yes_object, yes_words}
+use Rattle.mc_commands.specs.MakeRun.{AreExamined, certified_lists}
+use Rattle.mc_commands.specs.declared.fault.RunFault.{RunFault}
 
 -- ---- the headline
 
@@ -23,18 +24,6 @@ abbrev pub FilesKeepHeadline : List FileText → Type 0
 FilesKeepHeadline = MeansDomainWhere FilesMeanDomain KeepsHeadlineByLists
 
 -- ---- the line that says yes
-
--- the line of a yes in JSON, but for its line feed
-abbrev pub yes_object : List ℕ
-yes_object = codes "{\"verdict\":\"yes\"}"
-
--- These are words that begin the line of a yes: the text's, or the object of JSON.
-abbrev pub AreYesWords : (words : List ℕ) → Type 0
-AreYesWords words = (words ≡ codes "verdict yes") ⊎ (words ≡ yes_object)
-
--- the words of a yes in this form
-abbrev pub yes_words : (json : Bool) → List ℕ
-yes_words json = if json then yes_object else codes "verdict yes"
 
 -- Where the words of a yes are at the start of a line of the text, the answer is yes, the words are those of
 -- this form, and the line is the last one.

@@ -18,19 +18,19 @@ use Rattle.mc_run.specs.AuditRun.{HasCounts, IsAuditText}
 use Rattle.mc_run.specs.AuditClaims.{SaysOfEach, SaysWhichAreRight}
 use Rattle.mc_run.specs.AuditExclusions.{AreFoundInWhole}
 use Rattle.mc_run.specs.AuditYes.{AuditSaysYes, FilesKeepHeadline}
-use Rattle.mc_run.specs.CheckRun.{BundleKeepsHeadline, IsVerdictText, SaysYes}
-use Rattle.mc_run.specs.Faults.{IsFaultOfAudit, IsFaultOfCheck, IsFaultOfMake, IsFaultOfPack}
-use Rattle.mc_run.specs.Faults.{IsFaultOfReplay, IsFaultOfWants}
-use Rattle.mc_run.specs.InputMeaning.{AreRefusedWithout, IsRefusedFor}
-use Rattle.mc_run.specs.MakeRun.{IsMadeText, SaysAllRight}
-use Rattle.mc_run.specs.PackingRun.{IsPackRunAnswer, IsDeviceOrMemoryFault}
-use Rattle.mc_run.specs.ReplayRun.{IsReplayRefused, IsTravelText}
-use Rattle.mc_run.specs.RunOutput.{Answers, IsWrittenWhole, WritesPart}
-use Rattle.mc_run.specs.WantsRun.{answer_line, AnswersWants, WritesPartOfLine}
+use Rattle.mc_commands.specs.CheckRun.{BundleKeepsHeadline, IsVerdictText, SaysYes}
+use Rattle.mc_commands.specs.Faults.{IsFaultOfAudit, IsFaultOfCheck, IsFaultOfMake, IsFaultOfPack}
+use Rattle.mc_commands.specs.Faults.{IsFaultOfReplay, IsFaultOfWants}
+use Rattle.mc_commands.specs.InputMeaning.{AreRefusedWithout, IsRefusedFor}
+use Rattle.mc_commands.specs.MakeRun.{IsMadeText, SaysAllRight}
+use Rattle.mc_commands.specs.PackingRun.{IsPackRunAnswer, IsDeviceOrMemoryFault}
+use Rattle.mc_commands.specs.ReplayRun.{IsReplayRefused, IsTravelText}
+use Rattle.mc_commands.specs.RunOutput.{Answers, IsWrittenWhole, WritesPart}
+use Rattle.mc_commands.specs.WantsRun.{answer_line, AnswersWants, WritesPartOfLine}
 use Rattle.mc_cli.specs.declared.audit_options.AuditOptions.{AuditOptions}
 use Rattle.mc_run.specs.declared.audit.audit_output.AuditAnswer.{AuditAnswer}
-use Rattle.mc_run.specs.declared.fault.RunFault.{RunFault}
-use Rattle.mc_run.specs.declared.fault.RunFault.TheVariants.{Write}
+use Rattle.mc_commands.specs.declared.fault.RunFault.{RunFault}
+use Rattle.mc_commands.specs.declared.fault.RunFault.TheVariants.{Write}
 
 -- If the run's input is known, the answer is right, with some text, or the fault is. The text of an answer
 -- was written whole, or a part of it where the output failed.

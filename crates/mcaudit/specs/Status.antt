@@ -2,7 +2,7 @@
 -- section "The program").
 use Rattle.std.specs.Prelude.{ℕ, Bool, true, false, Result, Ok, Err}
 use Rattle.mc_cli.specs.declared.fault.WordsFault.TheVariants as words
-use Rattle.mc_run.specs.declared.fault.RunFault.TheVariants as run
+use Rattle.mc_commands.specs.declared.fault.RunFault.TheVariants as run
 use Rattle.mcaudit.specs.declared.failure.Failure.{Failure}
 use Rattle.mcaudit.specs.declared.failure.Failure.TheVariants.{Words, Run}
 

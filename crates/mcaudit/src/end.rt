@@ -8,8 +8,8 @@ ghost use Rattle.mcaudit.specs.Status.{exit_status_of_answer};
 use crate::failure::Failure;
 use crate::standard_error::ToStandardError;
 use mc_cli::{AuditWords, Task};
+use mc_commands::{RunFault, print_refused_files};
 use mc_files::PieceSource;
-use mc_run::{RunFault, print_refused_files};
 use std::process::ExitCode;
 
 /// The status of an answer: 0 for yes, 1 for no, and the failure's own where there is none.

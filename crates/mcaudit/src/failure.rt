@@ -5,7 +5,7 @@ ghost use Rattle.mcaudit.specs.declared.failure.Failure.TheVariants.{Words, Run}
 ghost use Rattle.mcaudit.specs.Status.{exit_status_of_failure};
 
 use mc_cli::WordsFault;
-use mc_run::RunFault;
+use mc_commands::RunFault;
 use thiserror::Error;
 
 /// Why the program gives no answer. `Display` gives the text for standard error.

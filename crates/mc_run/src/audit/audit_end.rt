@@ -8,7 +8,7 @@ ghost use Rattle.mc_run.specs.AuditPieces.{end_objects_of, end_text_of, end_text
 use crate::audit::audit_asked::push_asked_lines;
 use crate::audit::audited_domain::AuditedDomain;
 use crate::audit::flow_status::FlowCounts;
-use crate::shown::verdict_text::push_overall_verdict;
+use mc_commands::push_overall_verdict;
 use mc_explain::{
     list_excluded_routers, push_excluded_routers, push_unlisted, push_verdict_reason,
 };

@@ -10,7 +10,7 @@ ghost use Rattle.mc_run.specs.AuditPieces.{audited_value};
 ghost use Rattle.mc_run.specs.AuditExplanation.{ArePrintedCauses, is_remedy as says_remedy};
 ghost use Rattle.mc_run.specs.AuditExplanation.{without_remedies};
 ghost use Rattle.mc_run.specs.AuditedFiles.{is_whole};
-ghost use Rattle.mc_run.specs.MakeRun.{IsExamined};
+ghost use Rattle.mc_commands.specs.MakeRun.{IsExamined};
 
 use crate::audit::audit_right::push_checked;
 use crate::audit::audit_wrong::push_wrong;

@@ -4,8 +4,7 @@ ghost use Rattle.std.specs.Prelude.{◌≡◌, IfOk, Ok};
 ghost use Rattle.mc_run.specs.AuditPieces.{output_of, yes_of};
 ghost use Rattle.mc_run.specs.declared.audit.audit_output.AuditOutput.{AuditOutput as AuditOutputValue};
 
-use crate::fault::RunFault;
-use crate::run_output::RunOutput;
+use mc_commands::{RunFault, RunOutput};
 
 /// What an audit counts beside its verdict.
 #[derive(Clone, Copy, Debug, PartialEq, Eq)]

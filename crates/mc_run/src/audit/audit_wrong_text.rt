@@ -9,8 +9,7 @@ ghost use Rattle.mc_run.specs.AuditText.{events_if_shown, found_flow_line, known
 use crate::audit::audit_explanation::push_explanation;
 use crate::audit::audit_shown_by::push_shown_by;
 use crate::audit::audited_domain::AuditedDomain;
-use crate::shown::travel_text::push_events;
-use crate::shown::verdict_text::FlowWords;
+use mc_commands::{FlowWords, push_events};
 use mc_explain::{Certainty, Explanation};
 use mc_forward::FlowView;
 use mc_replay::{Finding, Travel};

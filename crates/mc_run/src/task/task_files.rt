@@ -2,15 +2,14 @@
 
 ghost use Rattle.std.specs.Prelude.{◌≡◌, ◌≢◌, ◌<◌, IfErr};
 ghost use Rattle.mc_text.specs.Device.{failures_after};
-ghost use Rattle.mc_run.specs.Failures.{is_read, is_write};
+ghost use Rattle.mc_commands.specs.Failures.{is_read, is_write};
 ghost use Rattle.mc_run.specs.TaskRuns.{IsAuditRun, IsPackRun, enough_of, is_enough};
 
 use crate::audit::audit_output::{AuditAnswer, AuditCounts};
 use crate::audit::left_out::LeftOut;
 use crate::audit::run_audit;
-use crate::commands::pack::run_pack;
-use crate::fault::RunFault;
 use mc_cli::AuditWords;
+use mc_commands::{RunFault, run_pack};
 use mc_files::PieceSource;
 use mc_text::Output;
 use std::alloc::Global;

@@ -2,14 +2,10 @@
 
 ghost use Rattle.std.specs.Prelude.{◌≡◌, ◌≢◌, ◌<◌, IfErr};
 ghost use Rattle.mc_text.specs.Device.{failures_after};
-ghost use Rattle.mc_run.specs.Failures.{is_read, is_write};
+ghost use Rattle.mc_commands.specs.Failures.{is_read, is_write};
 ghost use Rattle.mc_run.specs.TaskRuns.{IsCheckRun, IsMakeRun, IsReplayRun, IsWantsRun};
 
-use crate::commands::check::run_check;
-use crate::commands::make::run_make;
-use crate::commands::replay::run_replay;
-use crate::commands::wants::run_wants;
-use crate::fault::RunFault;
+use mc_commands::{RunFault, run_check, run_make, run_replay, run_wants};
 use mc_replay::{First, Last};
 use mc_text::{Addr, Input, Output};
 use std::alloc::Global;

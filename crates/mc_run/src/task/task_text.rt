@@ -2,10 +2,10 @@
 
 ghost use Rattle.std.specs.Prelude.{◌≡◌, ◌≢◌, ◌<◌, IfErr};
 ghost use Rattle.mc_text.specs.Device.{failures_after};
-ghost use Rattle.mc_run.specs.Failures.{is_write};
+ghost use Rattle.mc_commands.specs.Failures.{is_write};
 ghost use Rattle.mc_run.specs.TaskRuns.{IsTextRun};
 
-use crate::fault::RunFault;
+use mc_commands::RunFault;
 use mc_text::{Output, write_all};
 
 /// The program's name and its version, the one of the file VERSION, with a line feed.

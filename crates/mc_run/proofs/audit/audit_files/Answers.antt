@@ -7,7 +7,7 @@ use Rattle.mc_run.specs.AuditedFiles.{left_out}
 use Rattle.mc_run.specs.AuditRun.{HasCounts, IsAudited}
 use Rattle.mc_run.proofs.AuditTextLemmas.{of_domain-means_audited}
 use Rattle.std.proofs.lemmas.Result.{err_from_is_err_and}
-use Rattle.mc_run.proofs.FaultLemmas.{is_fault_of_audit-exclusion_fault}
+use Rattle.mc_commands.proofs.FaultLemmas.{is_fault_of_audit-exclusion_fault}
 use Rattle.mc_run.proofs.audit.audit_files.Goals as goal
 
 -- The domain, the summaries and the wants were read from the files without what is left out, and the ignored

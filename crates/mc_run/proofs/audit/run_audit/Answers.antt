@@ -1,7 +1,7 @@
 use Rattle.mc_run.specs.AuditedFiles.{left_out}
-use Rattle.mc_run.specs.Faults.{IsFaultOfAudit}
+use Rattle.mc_commands.specs.Faults.{IsFaultOfAudit}
 use Rattle.mc_run.proofs.AuditOutputLemmas.{IsRunOf, has_counts-run, is_run-of_steps}
-use Rattle.mc_run.proofs.FaultLemmas.{fault-of_audit_answer}
+use Rattle.mc_run.proofs.AuditFaultLemmas.{fault-of_audit_answer}
 use Rattle.mc_run.proofs.audit.run_audit.Given as given
 use Rattle.mc_run.proofs.audit.run_audit.Goals as goal
 

@@ -1,5 +1,5 @@
-use Rattle.mc_run.proofs.YesLines.{has_line-check_text, is_last_line_yes-check_text, has_line-audit_text}
-use Rattle.mc_run.proofs.YesLines.{is_last_line_yes-audit_text, audit_yes-no_excluded_router}
+use Rattle.mc_commands.proofs.YesLines.{has_line-check_text, is_last_line_yes-check_text}
+use Rattle.mc_run.proofs.YesLines.{has_line-audit_text, is_last_line_yes-audit_text, audit_yes-no_excluded_router}
 use Rattle.mc_run.proofs.laws.verdict_yes_line_only_where_all_right.Goals as goal
 
 -- The last line is written after the lines of the flows, each of which ends with a line feed.

@@ -1,5 +1,5 @@
 use Rattle.mc_run.proofs.FlowPushedLemmas.{is_first_pick_travel-of_examined}
-use Rattle.mc_run.proofs.MadeSoFarLemmas.{is_examined-of_examination}
+use Rattle.mc_commands.proofs.MadeSoFarLemmas.{is_examined-of_examination}
 use Rattle.mc_run.proofs.audit.audit_flow.push_flow.Goals as goal
 
 -- The examination promises each fact of its result apart. Together they are `IsExamined`, where the travel is

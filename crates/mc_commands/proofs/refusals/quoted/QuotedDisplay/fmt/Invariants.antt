@@ -1,0 +1,11 @@
+use Rattle.std.proofs.Common.{take}
+use Rattle.std.specs.Fmt.{HasWritten, IsPlainFormatter}
+use Rattle.mc_commands.specs.RefusalText.{quoted}
+use Rattle.mc_commands.proofs.refusals.quoted.QuotedDisplay.fmt.Given as goal
+
+-- the bytes so far are written
+abbrev pub invariant-loop-byte : goal.invariant-loop-byte
+invariant-loop-byte g l =
+    IsPlainFormatter l.initial.f
+    → HasWritten g.W.Write.write_str_gives l.initial.f
+    (quoted (take l.byte-index l.byte-items)) l.f

@@ -33,14 +33,14 @@ plain_tests x is =
     (tests.0, tests.1, none.1)
 
 -- so a byte that isn't escaped leaves the lexemes behind the string
-lex-plain : (x : ℕ) (xs : List ℕ) → is_plain x ≡ true → lex in_string (x ∷ xs) ≡ lex in_string xs
+pub lex-plain : (x : ℕ) (xs : List ℕ) → is_plain x ≡ true → lex in_string (x ∷ xs) ≡ lex in_string xs
 unfolding lex
 lex-plain x xs is =
     let tests = plain_tests x is in
     string_byte (x == 34) (x == 92) (is_operator x) (is_space x) x xs (λ m. lex m xs) tests.0 tests.1
 
 -- and denotes itself
-content-plain_byte : (x : ℕ) (xs : List ℕ) → is_plain x ≡ true
+pub content-plain_byte : (x : ℕ) (xs : List ℕ) → is_plain x ≡ true
     → content plain (x ∷ xs) ≡ prepend (x ∷ []) (content plain xs)
 unfolding content
 content-plain_byte x xs is = let tests = plain_tests x is in rw (tests.0, tests.1, tests.2) refl

@@ -3,6 +3,7 @@ pub mod DistinctLemmas
 pub mod Documents
 pub mod Fields
 pub mod JsonStringLemmas
+pub mod PlainTextLemmas
 pub mod JsonValues
 pub mod StoredTrees
 pub mod KeyLemmas

@@ -1,8 +1,9 @@
 -- The values of lists and objects, read from JSON's tokens one after the other.
 use Rattle.std.proofs.Common.{◌≡◌, ℕ, ◌+◌, ◌-◌, ◌<◌, ◌≤◌, List, [], ◌∷◌, ◌++◌, length}
 use Rattle.std.proofs.Common.{Option, Some, None, option_map, option_and_then, decimal, ◌^◌, refl, ap}
-use Rattle.std.proofs.Common.{subst, ◌∙◌}
+use Rattle.std.proofs.Common.{subst, ◌∙◌, Bool, true, false}
 use Rattle.std.proofs.Common.{arith, append-nil}
+use Rattle.std.specs.Prelude.{MatchBool}
 use Rattle.json.specs.Token.{Token}
 use Rattle.json.specs.Json as json
 use Rattle.json.specs.Json.{parse_map, after_end_array, read_key, items, members, value, if_last}
@@ -255,3 +256,8 @@ read-from_Reads levels text d rest le is none =
     ap (λ o. option_and_then of_json (option_and_then (λ p. if_last p.0 p.1) o))
     (j.1 ∙ ap (λ r. Some (j.0, r)) none)
     ∙ j.2
+
+-- what follows from the first of two cases
+pub match_bool-map : (b : Bool) (A B C : Type 0) → (A → B) → MatchBool b A C → MatchBool b B C
+match_bool-map true A B C f is = f is
+match_bool-map false A B C f is = is

@@ -10,6 +10,7 @@ ghost use Rattle.mc_cert.specs.Writable.{IsWritableTreeFor};
 
 use crate::certificate::Certificate;
 use crate::compact_entry::read_entry;
+use crate::compact_names::LikelyNames;
 use crate::entry::MAX_ENTRIES;
 use crate::pieces::{after_prefix, read_number, read_until_quote};
 use crate::reached::Reached;
@@ -60,6 +61,7 @@ fn read_tree<'a>(
         return Err(NotCompact);
     };
     let mut entries = Vec::new(alloc);
+    let mut likely = LikelyNames::of_first();
     let mut separator: &[u8] = b"";
     for _number in 0..MAX_ENTRIES {
         if rest.starts_with(b"]") {
@@ -68,9 +70,10 @@ fn read_tree<'a>(
         let Some(after) = after_prefix(rest, separator) else {
             return Err(NotCompact);
         };
-        let Some((entry, after)) = read_entry(topology, after) else {
+        let Some((entry, after)) = read_entry(topology, &likely, after) else {
             return Err(NotCompact);
         };
+        likely = likely.after(entry.lan, entry.forwarder);
         entries.push(entry)?;
         rest = after;
         separator = b",";

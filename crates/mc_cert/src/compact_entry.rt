@@ -1,36 +1,16 @@
 //! Reads the entries of a tree in the form that `Certificate::to_json` writes.
 
 ghost use Rattle.std.specs.Prelude.{◌≡◌, ◌++◌, ◌<◌, ◌≤◌, IfSome, codes, decimal, length};
-ghost use Rattle.mc_topology.specs.Topology.{lan_name, router_name};
 ghost use Rattle.mc_cert.specs.CertificateText.{entry_text, forwarder_text};
 ghost use Rattle.mc_cert.specs.Writable.{IsWritableEntryFor};
 
-use crate::pieces::{after_prefix, read_number, read_until_quote};
+use crate::compact_names::{LikelyNames, read_lan, read_router};
+use crate::pieces::{after_prefix, read_number};
 use crate::reached::Reached;
-use mc_topology::{LanNo, RouterNo, Topology};
-
-/// Reads a LAN, by its name up to the next quotation mark; the rest begins with that.
-fn read_lan<'a>(topology: &Topology, text: &'a [u8]) -> Option<(LanNo, &'a [u8])>
-    ensures text { IfSome result (λ parsed. text.now ≡ lan_name topology.now parsed.0 ++ parsed.1.now) }
-    ensures listed { IfSome result (λ parsed. parsed.0 < length topology.now.lans) }
-{
-    let (name, rest) = read_until_quote(text)?;
-    let lan = topology.lan_no(name)?;
-    Some((lan, rest))
-}
-
-/// Reads a router, by its name up to the next quotation mark; the rest begins with that.
-fn read_router<'a>(topology: &Topology, text: &'a [u8]) -> Option<(RouterNo, &'a [u8])>
-    ensures text { IfSome result (λ parsed. text.now ≡ router_name topology.now parsed.0
-        ++ parsed.1.now) }
-    ensures listed { IfSome result (λ parsed. parsed.0 < length topology.now.routers) }
-{
-    let (name, rest) = read_until_quote(text)?;
-    let router = topology.router_no(name)?;
-    Some((router, rest))
-}
+use mc_topology::{RouterNo, Topology};
 
 /// Reads a need and a rank with their keys, and gives the rest of the text.
+#[inline(always)]
 fn read_numbers(text: &[u8]) -> Option<(u8, u8, &[u8])>
     ensures text { IfSome result (λ parsed. text.now ≡
         (codes "\",\"need\":" ++ decimal parsed.0 ++ codes ",\"rank\":" ++ decimal parsed.1)
@@ -48,8 +28,10 @@ fn read_numbers(text: &[u8]) -> Option<(u8, u8, &[u8])>
 }
 
 /// Reads the interface that sends with its keys, if the text begins with them, and gives the rest.
+#[inline(always)]
 fn read_forwarder<'a>(
     topology: &Topology,
+    likely: &LikelyNames,
     text: &'a [u8],
 ) -> Option<(Option<(RouterNo, u8)>, &'a [u8])>
     ensures text { IfSome result (λ parsed. text.now ≡ forwarder_text topology.now parsed.0
@@ -61,7 +43,7 @@ fn read_forwarder<'a>(
     let Some(named) = after_prefix(text, b",\"router\":\"") else {
         return Some((None, text));
     };
-    let Some((router, rest)) = read_router(topology, named) else {
+    let Some((router, rest)) = read_router(topology, likely, named) else {
         return None;
     };
     let rest = after_prefix(rest, b"\",\"vif\":")?;
@@ -72,18 +54,23 @@ fn read_forwarder<'a>(
     Some((Some((router, vif as u8)), rest))
 }
 
-/// Reads an entry, and gives the rest of the text.
-pub(crate) fn read_entry<'a>(topology: &Topology, text: &'a [u8]) -> Option<(Reached, &'a [u8])>
+/// Reads an entry, which is likely to have these names, and gives the rest of the text.
+#[inline(always)]
+pub(crate) fn read_entry<'a>(
+    topology: &Topology,
+    likely: &LikelyNames,
+    text: &'a [u8],
+) -> Option<(Reached, &'a [u8])>
     ensures text { IfSome result (λ parsed. text.now ≡ entry_text topology.now parsed.0
         ++ parsed.1.now) }
     ensures writable { IfSome result (λ parsed. IsWritableEntryFor topology.now parsed.0) }
 {
     let rest = after_prefix(text, b"{\"lan\":\"")?;
-    let Some((lan, rest)) = read_lan(topology, rest) else {
+    let Some((lan, rest)) = read_lan(topology, likely, rest) else {
         return None;
     };
     let (need, rank, rest) = read_numbers(rest)?;
-    let Some((forwarder, rest)) = read_forwarder(topology, rest) else {
+    let Some((forwarder, rest)) = read_forwarder(topology, likely, rest) else {
         return None;
     };
     let rest = after_prefix(rest, b"}")?;

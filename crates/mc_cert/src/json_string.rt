@@ -33,6 +33,7 @@ impl<'a> JsonText<'a> {
 }
 
 /// Whether a string has this byte unescaped.
+#[inline(always)]
 fn is_plain(byte: u8) -> bool
     ensures { result ≡ is_plain byte }
 {
@@ -119,6 +120,7 @@ fn read_escaped(alloc: Global, text: &[u8]) -> Result<(Vec<u8>, &[u8]), NotRead>
 }
 
 /// Reads a string, and gives the rest of the text.
+#[inline(always)]
 pub(crate) fn read_string(alloc: Global, text: &[u8]) -> Result<(JsonText<'_>, &[u8]), NotRead>
     ensures content { IfOk result (λ parsed. content plain text.now ≡ Some (text_bytes parsed.0)) }
     ensures rest { IfOk result (λ parsed. lex in_string text.now ≡ lex between parsed.1.now) }

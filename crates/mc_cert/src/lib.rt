@@ -5,6 +5,7 @@
 mod certificate;
 mod compact;
 mod compact_entry;
+mod compact_names;
 mod distinct;
 mod entry;
 mod fault;

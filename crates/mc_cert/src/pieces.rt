@@ -1,17 +1,32 @@
 //! Reads pieces from the start of a text, for reading it in one pass.
 
-ghost use Rattle.std.specs.Prelude.{◌≡◌, ◌+◌, ◌*◌, ◌++◌, ◌∷◌, ◌<◌, ◌≤◌, IfSome, decimal};
+ghost use Rattle.std.specs.Prelude.{◌≡◌, ◌+◌, ◌*◌, ◌++◌, ◌∷◌, ◌<◌, ◌≤◌, IfSome, decimal, drop};
 
 use mc_text::find_byte;
 
 /// The rest of the text after this prefix.
+#[inline(always)]
 pub(crate) fn after_prefix<'a>(text: &'a [u8], front: &[u8]) -> Option<&'a [u8]>
     ensures { IfSome result (λ rest. text.now ≡ front.now ++ rest.now) }
 {
     text.strip_prefix(front)
 }
 
+/// The rest of the text after this name, if it begins with a quotation mark.
+#[inline(always)]
+pub(crate) fn after_name<'a>(text: &'a [u8], name: &str) -> Option<&'a [u8]>
+    ensures text { IfSome result (λ rest. text.now ≡ name.now ++ rest.now) }
+    ensures quote { IfSome result (λ rest. rest.now ≡ 34 ∷ drop 1 rest.now) }
+{
+    let rest = after_prefix(text, name.as_bytes())?;
+    match rest {
+        [b'"', ..] => Some(rest),
+        _ => None,
+    }
+}
+
 /// Reads a decimal digit, and gives the rest of the text.
+#[inline(always)]
 fn read_digit(text: &[u8]) -> Option<(u32, &[u8])>
     ensures text { IfSome result (λ parsed. text.now ≡ (48 + parsed.0) ∷ parsed.1.now) }
     ensures small { IfSome result (λ parsed. parsed.0 < 10) }
@@ -24,6 +39,7 @@ fn read_digit(text: &[u8]) -> Option<(u32, &[u8])>
 }
 
 /// The number with the next digit appended, if the text begins with one, and the rest of the text.
+#[inline(always)]
 fn with_next_digit(number: u32, text: &[u8]) -> (u32, &[u8])
     requires some { 0 < number }
     requires small { number < 100000000 }
@@ -38,6 +54,7 @@ fn with_next_digit(number: u32, text: &[u8]) -> (u32, &[u8])
 }
 
 /// Reads a decimal number of at most four digits without a leading zero, and gives the rest of the text.
+#[inline(always)]
 pub(crate) fn read_number(text: &[u8]) -> Option<(u32, &[u8])>
     ensures text { IfSome result (λ parsed. text.now ≡ decimal parsed.0 ++ parsed.1.now) }
     ensures small { IfSome result (λ parsed. parsed.0 < 10000) }
@@ -52,6 +69,7 @@ pub(crate) fn read_number(text: &[u8]) -> Option<(u32, &[u8])>
 }
 
 /// The text up to the next quotation mark, and the rest, which begins with that.
+#[inline(always)]
 pub(crate) fn read_until_quote(text: &[u8]) -> Option<(&str, &[u8])>
     ensures { IfSome result (λ parsed. text.now ≡ parsed.0.now ++ parsed.1.now) }
 {

@@ -2,20 +2,23 @@
 //! one of at most four digits isn't read.
 
 ghost use Rattle.std.specs.Prelude.{◌≡◌, ◌<◌, ◌++◌, ◌∷◌, ◌||◌, ℕ, List, Some, None, true, false, IfSome};
-ghost use Rattle.std.specs.Prelude.{IfOk, MatchBool};
+ghost use Rattle.std.specs.Prelude.{IfOk, IsTrue, MatchBool};
 ghost use Rattle.std.specs.Prelude.{[], decimal, option_map};
 ghost use Rattle.json.specs.Json.{after_end_array, read_key};
-ghost use Rattle.json.specs.Lex.{between, lex, after_value, punctuate, begins_colon, tokens};
+ghost use Rattle.json.specs.Lex.{between, in_string, lex, after_value, punctuate, begins_colon, tokens};
+ghost use Rattle.json.specs.Text.{content, plain};
 ghost use Rattle.json.specs.Token.{begin_object, begin_array, string, number};
 ghost use Rattle.json.specs.Word.{is_operator, is_space, ends_word};
+ghost use Rattle.mc_topology.specs.Names.{is_name};
 ghost use Rattle.mc_cert.specs.JsonString.{text_bytes};
 ghost use Rattle.mc_cert.specs.Keys.{key_name};
 ghost use Rattle.mc_cert.specs.TokenReader.{tokens_at, may_begin, may_close, BeginsWith};
 
 use crate::json_string::{JsonText, read_string};
 use crate::key::Key;
-use crate::pieces::read_number;
+use crate::pieces::{after_name, read_number};
 use crate::tokens::NotRead;
+use mc_topology::{LanNo, RouterNo};
 use std::alloc::Global;
 use std::marker::Model;
 
@@ -32,6 +35,7 @@ pub(crate) enum Place {
 
 impl Place {
     /// Whether a value or a key may begin here.
+    #[inline(always)]
     fn may_begin(self) -> bool
         ensures { result ≡ may_begin self }
     {
@@ -39,6 +43,7 @@ impl Place {
     }
 
     /// Whether an object or a list may end here.
+    #[inline(always)]
     fn may_close(self) -> bool
         ensures { result ≡ may_close self }
     {
@@ -52,6 +57,9 @@ pub(crate) struct TokenReader<'a> {
     alloc: Global,
     rest: &'a [u8],
     place: Place,
+    /// The LAN and the router that are likely to be named next.
+    likely_lan: LanNo,
+    likely_router: RouterNo,
 }
 
 impl<'a> Model for TokenReader<'a> {
@@ -67,6 +75,7 @@ impl<'a> Model for TokenReader<'a> {
 }
 
 /// Whether the byte is white space.
+#[inline(always)]
 fn is_space(byte: u8) -> bool
     ensures { result ≡ is_space byte }
 {
@@ -74,6 +83,7 @@ fn is_space(byte: u8) -> bool
 }
 
 /// The text without the white space at its start.
+#[inline(always)]
 fn skip_space(text: &[u8]) -> &[u8]
     ensures { lex between text.now ≡ lex between result.now }
 {
@@ -85,6 +95,7 @@ fn skip_space(text: &[u8]) -> &[u8]
 }
 
 /// The rest of the text after this byte, which white space may precede.
+#[inline(always)]
 fn after_byte(text: &[u8], byte: u8) -> Option<&[u8]>
     ensures { IfSome result (λ rest. BeginsWith byte text.now rest.now) }
 {
@@ -95,6 +106,7 @@ fn after_byte(text: &[u8], byte: u8) -> Option<&[u8]>
 }
 
 /// The rest of the text after this byte, with which a value begins, if one may begin here.
+#[inline(always)]
 fn begin(place: Place, text: &[u8], byte: u8) -> Result<&[u8], NotRead>
     ensures place { IfOk result (λ _. may_begin place ≡ true) }
     ensures rest { IfOk result (λ rest. BeginsWith byte text.now rest.now) }
@@ -106,6 +118,7 @@ fn begin(place: Place, text: &[u8], byte: u8) -> Result<&[u8], NotRead>
 }
 
 /// Passes the comma that may follow a value.
+#[inline(always)]
 fn after_value(text: &[u8]) -> (Place, &[u8])
     ensures { tokens_at result.0 result.1.now ≡ punctuate after_value (lex between text.now) }
 {
@@ -115,7 +128,33 @@ fn after_value(text: &[u8]) -> (Place, &[u8])
     }
 }
 
+/// Reads a key in any form, whose opening quotation mark has been passed, and gives the rest of the text.
+#[cold]
+fn read_any_key(alloc: Global, text: &[u8]) -> Result<(Key, &[u8]), NotRead>
+    ensures content { IfOk result (λ parsed. content plain text.now ≡ Some (key_name parsed.0)) }
+    ensures rest { IfOk result (λ parsed. lex in_string text.now ≡ lex between parsed.1.now) }
+{
+    let (name, rest) = read_string(alloc, text)?;
+    let Some(key) = Key::of_name(name.as_bytes()) else {
+        return Err(NotRead);
+    };
+    Ok((key, rest))
+}
+
+/// Reads a key whose opening quotation mark has been passed, and gives the rest of the text.
+#[inline(always)]
+fn read_key(alloc: Global, text: &[u8]) -> Result<(Key, &[u8]), NotRead>
+    ensures content { IfOk result (λ parsed. content plain text.now ≡ Some (key_name parsed.0)) }
+    ensures rest { IfOk result (λ parsed. lex in_string text.now ≡ lex between parsed.1.now) }
+{
+    match Key::at_front(text) {
+        Some(found) => Ok(found),
+        None => read_any_key(alloc, text),
+    }
+}
+
 /// Whether a word ends before this byte.
+#[inline(always)]
 fn is_end_of_word(byte: u8) -> bool
     ensures { result ≡ true → (is_operator byte || is_space byte) ≡ true }
 {
@@ -123,6 +162,7 @@ fn is_end_of_word(byte: u8) -> bool
 }
 
 /// Whether a number has ended before this text.
+#[inline(always)]
 fn ends_number(text: &[u8]) -> bool
     ensures { result ≡ true → ends_word text.now ≡ true }
 {
@@ -133,6 +173,7 @@ fn ends_number(text: &[u8]) -> bool
 }
 
 /// Whether no colon is next.
+#[inline(always)]
 fn ends_value(text: &[u8]) -> bool
     ensures { result ≡ true → begins_colon (lex between text.now) ≡ false }
 {
@@ -153,7 +194,37 @@ impl<'a> TokenReader<'a> {
             alloc,
             rest: text,
             place: Place::Fresh,
+            likely_lan: LanNo(0),
+            likely_router: RouterNo(0),
         }
+    }
+
+    /// The LAN that is likely to be named next.
+    #[inline(always)]
+    pub(crate) fn likely_lan(&self) -> LanNo {
+        self.likely_lan
+    }
+
+    /// The router that is likely to be named next.
+    #[inline(always)]
+    pub(crate) fn likely_router(&self) -> RouterNo {
+        self.likely_router
+    }
+
+    /// Says which LAN is likely to be named next.
+    #[inline(always)]
+    pub(crate) fn expect_lan(&mut self, lan: LanNo)
+        ensures { self.new ≡ self.old }
+    {
+        self.likely_lan = lan;
+    }
+
+    /// Says which router is likely to be named next.
+    #[inline(always)]
+    pub(crate) fn expect_router(&mut self, router: RouterNo)
+        ensures { self.new ≡ self.old }
+    {
+        self.likely_router = router;
     }
 
     /// Whether no token is left.
@@ -164,6 +235,7 @@ impl<'a> TokenReader<'a> {
     }
 
     /// Passes the brace at an object's start.
+    #[inline(always)]
     pub(crate) fn open_object(&mut self) -> Result<(), NotRead>
         ensures { IfOk result (λ _. self.old ≡ begin_object ∷ self.new) }
     {
@@ -185,6 +257,7 @@ impl<'a> TokenReader<'a> {
 
     /// Passes the bracket at a list's end, if it is next, and else leaves the reader before an object or a
     /// list.
+    #[inline(always)]
     pub(crate) fn take_end_of_list(&mut self) -> Result<bool, NotRead>
         ensures { IfOk result (λ closed. MatchBool closed (after_end_array self.old ≡ Some self.new)
             ((after_end_array self.old ≡ None) × (self.new ≡ self.old))) }
@@ -203,15 +276,13 @@ impl<'a> TokenReader<'a> {
     }
 
     /// Reads the next key of an object, or passes the brace at its end.
+    #[inline(always)]
     pub(crate) fn next_key(&mut self) -> Result<Option<Key>, NotRead>
         ensures { IfOk result (λ key. read_key self.old ≡ Some (option_map key_name key, self.new)) }
     {
         match skip_space(self.rest) {
             [b'"', text @ ..] if self.place.may_begin() => {
-                let (name, rest) = read_string(self.alloc, text)?;
-                let Some(key) = Key::of_name(name.as_bytes()) else {
-                    return Err(NotRead);
-                };
+                let (key, rest) = read_key(self.alloc, text)?;
                 let Some(rest) = after_byte(rest, b':') else {
                     return Err(NotRead);
                 };
@@ -230,6 +301,7 @@ impl<'a> TokenReader<'a> {
     }
 
     /// Reads a text.
+    #[inline(always)]
     pub(crate) fn text(&mut self) -> Result<JsonText<'a>, NotRead>
         ensures { IfOk result (λ text. self.old ≡ string (text_bytes text) ∷ self.new) }
     {
@@ -244,7 +316,31 @@ impl<'a> TokenReader<'a> {
         Ok(text)
     }
 
+    /// Passes this name, if it is the text that is next, and is written without escapes. Else the reader stays
+    /// where it is.
+    #[inline(always)]
+    pub(crate) fn pass_name(&mut self, name: &str) -> bool
+        requires named { IsTrue (is_name name.now) }
+        ensures { MatchBool result (self.old ≡ string name.now ∷ self.new) (self.new ≡ self.old) }
+    {
+        let Ok(inside) = begin(self.place, self.rest, b'"') else {
+            return false;
+        };
+        let Some(quoted) = after_name(inside, name) else {
+            return false;
+        };
+        let rest = &quoted[1..];
+        if !ends_value(rest) {
+            return false;
+        }
+        let (place, rest) = after_value(rest);
+        self.rest = rest;
+        self.place = place;
+        true
+    }
+
     /// Reads a whole number of at most four digits.
+    #[inline(always)]
     pub(crate) fn number(&mut self) -> Result<u32, NotRead>
         ensures number { IfOk result (λ n. self.old ≡ number (decimal n) ∷ self.new) }
         ensures small { IfOk result (λ number. number < 10000) }

@@ -1,4 +1,4 @@
-use Rattle.std.proofs.Common.{◌≡◌, get_or, true, Some, sym, ap, ◌∙◌, ◌∷◌, arith}
+use Rattle.std.proofs.Common.{◌≡◌, get_or, true, sym, ap, ◌∙◌, ◌∷◌, arith}
 use Rattle.json.specs.Json.{read_key}
 use Rattle.json.specs.Token.{end_object}
 use Rattle.mc_cert.specs.Keys.{key_name}
@@ -7,8 +7,8 @@ use Rattle.mc_cert.proofs.TokenReaderLemmas.{begins-skipped, token-key, token-en
 use Rattle.mc_cert.proofs.token_reader.TokenReader.next_key.Goals as goal
 
 -- A string and a colon, where a key may begin, are the token of a key.
-pub returns-in-Some-after_byte : goal.returns-in-Some-after_byte
-returns-in-Some-after_byte c =
+pub returns-in-Some : goal.returns-in-Some
+returns-in-Some c =
     let skipped = c.skip_space.result.now in
     let first : get_or skipped 0 0 ≡ 34 = grind arith in
     let may : may_begin c.self.inside.place ≡ true = grind arith in
@@ -16,9 +16,8 @@ returns-in-Some-after_byte c =
     first
     in
     ap read_key (sym c.self.view_is ∙ token-key c.self.inside.place c.self.inside.rest.now _
-    (key_name c.in-Some.key) c.in_ok-name-in-34.rest.now c.in-Some-after_byte.rest.now may begins
-    (c.in_ok-name-in-34.ensures.content ∙ ap Some (sym c.as_bytes.ensures ∙ c.in-Some.ensures))
-    c.in_ok-name-in-34.ensures.rest c.in-Some-after_byte.ensures)
+    (key_name c.in_ok-key-in-34.key) c.in_ok-key-in-34.rest.now c.in-Some.rest.now may begins
+    c.in_ok-key-in-34.ensures.content c.in_ok-key-in-34.ensures.rest c.in-Some.ensures)
 
 -- A closing brace, where an object may end, is the token of its end.
 pub returns-in-125 : goal.returns-in-125

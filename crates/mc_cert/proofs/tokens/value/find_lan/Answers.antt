@@ -2,7 +2,7 @@ use Rattle.std.proofs.Common.{◌∷◌, refl, sym, ap, ◌∙◌}
 use Rattle.json.specs.Token.{string as string_token}
 use Rattle.serde_json.specs.Data.{string}
 use Rattle.mc_cert.proofs.TokenLemmas.{Reads-string}
-use Rattle.mc_cert.proofs.tokens.value.lan_value.Goals as goal
+use Rattle.mc_cert.proofs.tokens.value.find_lan.Goals as goal
 
 -- The text is the name by which the LAN was found.
 pub returns : goal.returns

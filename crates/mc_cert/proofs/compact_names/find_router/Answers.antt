@@ -1,6 +1,6 @@
 use Rattle.std.proofs.Common.{sym}
 use Rattle.mc_cert.proofs.PieceLemmas.{router_name-from_router_no_of}
-use Rattle.mc_cert.proofs.compact_entry.read_router.Goals as goal
+use Rattle.mc_cert.proofs.compact_names.find_router.Goals as goal
 
 -- The router that is found by a name has this name.
 pub returns-clause-text : goal.returns-clause-text

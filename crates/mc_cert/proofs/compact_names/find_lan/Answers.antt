@@ -1,6 +1,6 @@
 use Rattle.std.proofs.Common.{sym}
 use Rattle.mc_cert.proofs.PieceLemmas.{lan_name-from_index_of}
-use Rattle.mc_cert.proofs.compact_entry.read_lan.Goals as goal
+use Rattle.mc_cert.proofs.compact_names.find_lan.Goals as goal
 
 -- The LAN that is found by a name has this name.
 pub returns-clause-text : goal.returns-clause-text

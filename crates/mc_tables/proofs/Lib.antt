@@ -18,6 +18,7 @@ pub mod PlainRowLemmas
 pub mod FourOifLemmas
 pub mod AddressWordLemmas
 pub mod MarkedLemmas
+pub mod EndedLineLemmas
 pub mod CacheLemmas
 pub mod CacheLookupLemmas
 pub mod CacheMapLemmas

@@ -76,7 +76,7 @@ trailing_ones-set n r k fits is less =
     ]
 
 -- the marks of what follows a line's front
-are_marks-drop : (passes : ℕ → Bool) (line : List ℕ) (m n : ℕ) → AreMarks passes line m
+pub are_marks-drop : (passes : ℕ → Bool) (line : List ℕ) (m n : ℕ) → AreMarks passes line m
     → AreMarks passes (drop n line) (m / 2 ^ n)
 are_marks-drop passes line m n marks k set =
     let at = marks (n + k) (sym (ap (λ x. x % 2) (shr-shr m n k)) ∙ set) in
@@ -308,16 +308,6 @@ digits_or_spaces-run digits spaces n run k less =
     elim (cases_lt 0 (bit_at digits k)) [
       | inl digit ↦ inl (omega (arith, digit, bit_at-lt digits k))
       | inr none ↦ inr (omega (arith, none, is, bit_at-lt spaces k))
-    ]
-
--- they are within the line
-pub digits_or_spaces-within : (line : List ℕ) (digits spaces n : ℕ) → AreMarks is_ascii_digit line digits
-    → AreMarks (λ b. b == 32) line spaces → AreDigitsOrSpaces digits spaces n → n ≤ length line
-digits_or_spaces-within line digits spaces zero of_digits of_spaces known = omega arith
-digits_or_spaces-within line digits spaces (suc n) of_digits of_spaces known =
-    elim (known n (omega arith)) [
-      | inl digit ↦ (let at = of_digits n digit in omega (arith, at.0))
-      | inr space ↦ (let at = of_spaces n space in omega (arith, at.0))
     ]
 
 -- three counters are a line's first words

@@ -1,6 +1,7 @@
 -- The three counters of a cache's row (packets, bytes, packets from a wrong vif), of which nothing
 -- is kept. Only contracts of private functions use these definitions.
-use Rattle.std.specs.Prelude.{◌≡◌, ℕ, ◌+◌, ◌<◌, ◌==◌, min, Bool, true, List, ◌∷◌, length, slice_index}
+use Rattle.std.specs.Prelude.{◌≡◌, ℕ, ◌+◌, ◌<◌, ◌==◌, min, Bool, true, List, [], ◌∷◌, ◌++◌, length}
+use Rattle.std.specs.Prelude.{slice_index}
 use Rattle.std.specs.Int.{bit_at}
 use Rattle.std.specs.Char.{is_ascii_digit}
 use Rattle.mc_text.specs.Lines.{words_of}
@@ -23,10 +24,11 @@ AreMarks passes bytes marks =
     (place : ℕ) → bit_at marks place ≡ 1
     → (place < length bytes) × (passes (slice_index bytes place) ≡ true)
 
--- the bytes that are marked as digits are digits, and those that are marked as spaces are spaces
+-- the bytes that are marked as digits are digits, and those that are marked as spaces are spaces; the
+-- line's end counts as one
 pub record IsMarked (line : MarkedLine) : Type 0 where
   pub digits : AreMarks is_ascii_digit line.bytes.now line.digits
-  pub spaces : AreMarks (λ byte. byte == 32) line.bytes.now line.spaces
+  pub spaces : AreMarks (λ byte. byte == 32) (line.bytes.now ++ 32 ∷ []) line.spaces
 
 -- the bits of `ends` mark the digits that have a space after them
 abbrev pub AreLastDigits : ℕ → ℕ → ℕ → Type 0

@@ -24,6 +24,9 @@ use crate::lines::table_words::{MAX_VIF, number};
 use mc_text::Order;
 use std::alloc::AllocError;
 
+/// The place of the first counter's spaces: both addresses take nine bytes, and the incoming vif takes three.
+const COUNTERS_START: usize = 21;
+
 /// The place of the first byte that isn't a space.
 fn word_start(line: &[u8]) -> Option<usize>
     ensures { result ≡ position (λ byte. not (byte == 32)) line.now }
@@ -96,12 +99,13 @@ fn is_iif(number: u8) -> bool
     number <= MAX_VIF
 }
 
-/// The incoming vif that a line begins with, printed in three bytes, and what follows it.
+/// The incoming vif that a line begins with, printed in three bytes.
 #[inline(always)]
-fn iif_at_front(line: &[u8]) -> Option<(u8, &[u8])>
-    ensures { IfSome result (λ found. (word : List ℕ)
-        × (words_of line.now ≡ word ∷ words_of found.1.now) × (is_decimal_word word ≡ true)
-        × (number_in 0 31 word ≡ Some found.0)) }
+fn iif_at_front(line: &[u8]) -> Option<u8>
+    ensures word { IfSome result (λ iif. (word : List ℕ)
+        × (words_of line.now ≡ word ∷ words_of (drop 3 line.now)) × (is_decimal_word word ≡ true)
+        × (number_in 0 31 word ≡ Some iif)) }
+    ensures long { IfSome result (λ _. 3 ≤ length line.now) }
 {
     if line.len() < 3 || !starts_with_iif(line) {
         return None;
@@ -110,7 +114,7 @@ fn iif_at_front(line: &[u8]) -> Option<(u8, &[u8])>
     if !is_iif(iif) {
         return None;
     }
-    Some((iif, &line[3..]))
+    Some(iif)
 }
 
 /// What follows the counter that a line of digits consists of: nothing.
@@ -149,12 +153,14 @@ fn after_counter(line: &[u8]) -> Option<&[u8]>
     after_digits(without_spaces(line))
 }
 
-/// What follows the three counters that are a line's first words, if they are near its front.
+/// What follows the three counters that are the first words of a line from a place on, if they are near
+/// that place.
 #[inline(always)]
-fn after_marked_counters(line: &[u8]) -> Option<&[u8]>
-    ensures { IfSome result (λ after. HasCounters line.now after.now) }
+fn after_marked_counters(line: &[u8], start: usize) -> Option<&[u8]>
+    requires start { start ≤ length line.now }
+    ensures { IfSome result (λ after. HasCounters (drop start line.now) after.now) }
 {
-    MarkedLine::of(line)?.after_counters()
+    MarkedLine::of(line, start)?.after_counters()
 }
 
 /// What follows the three counters that are a line's first words, which are read one after another.
@@ -167,15 +173,17 @@ fn after_unmarked_counters(line: &[u8]) -> Option<&[u8]>
     after_counter(rest)
 }
 
-/// What follows the three counters that are a line's first words.
+/// What follows the three counters that are the first words of a line from a place on.
 #[inline(always)]
-fn after_counters(line: &[u8]) -> Option<&[u8]>
-    ensures { IfSome result (λ after. HasCounters line.now after.now) }
+#[tactic(auto, using(std::proofs::lemmas::List::take_rest))]
+fn after_counters(line: &[u8], start: usize) -> Option<&[u8]>
+    requires start { start ≤ length line.now }
+    ensures { IfSome result (λ after. HasCounters (drop start line.now) after.now) }
 {
-    if let Some(after) = after_marked_counters(line) {
+    if let Some(after) = after_marked_counters(line, start) {
         return Some(after);
     }
-    after_unmarked_counters(line)
+    after_unmarked_counters(&line[start..])
 }
 
 /// The resolved row that a line begins with, and what follows its counters: the outgoing vifs.
@@ -186,8 +194,8 @@ pub fn row_at_front(line: &[u8], order: Order) -> Option<(CacheRow, &[u8])>
         row_in_words order (words_of line.now) ≡ Ok (row_with_oifs found.0 oifs)) }
 {
     let (group, origin) = addresses_at_front(line, order)?;
-    let (iif, rest) = iif_at_front(after_addresses(line))?;
-    let rest = after_counters(rest)?;
+    let iif = iif_at_front(after_addresses(line))?;
+    let rest = after_counters(line, COUNTERS_START)?;
     let row = CacheRow {
         group,
         origin,

@@ -1,7 +1,7 @@
 //! Finds the counters of a row by bit masks of the line's digits and spaces, so that its bytes
 //! aren't tested one by one.
 
-ghost use Rattle.std.specs.Prelude.{◌≡◌, ℕ, ◌<◌, ◌≤◌, ◌==◌, IfSome, drop, length};
+ghost use Rattle.std.specs.Prelude.{◌≡◌, ℕ, ◌+◌, ◌<◌, ◌≤◌, ◌==◌, ◌⊎◌, ◌^◌, ◌/◌, IfSome, drop, length};
 ghost use Rattle.std.specs.Int.{bit_at};
 ghost use Rattle.std.specs.Char.{is_ascii_digit};
 ghost use Rattle.mc_tables.specs.Counters.{AreLastDigits, AreMarks, HasCounters, IsMarked};
@@ -15,7 +15,7 @@ const LANES: usize = 32;
 const MAX_COUNTER_WIDTH: usize = 20;
 
 /// A line, and which of the bytes at its front are decimal digits and which are spaces. The lowest
-/// bit is for the first byte.
+/// bit is for the first byte. The end of a line of fewer bytes than are marked counts as a space.
 #[derive(Clone, Copy)]
 pub struct MarkedLine<'a> {
     pub bytes: &'a [u8],
@@ -61,6 +61,24 @@ fn lowest_set_bit(marks: u64) -> usize
     marks.trailing_zeros() as usize
 }
 
+/// The marks without so many at the front.
+#[inline(always)]
+fn without_marks(marks: u64, count: usize) -> u64
+    requires within { count ≤ 32 }
+    ensures { result ≡ marks / 2 ^ count }
+{
+    marks >> count
+}
+
+/// The marks, and one more.
+#[inline(always)]
+fn with_mark(marks: u64, place: usize) -> u64
+    requires within { place < 32 }
+    ensures { (number : ℕ) → bit_at result number ≡ 1 → (bit_at marks number ≡ 1) ⊎ (number ≡ place) }
+{
+    marks | (1 << place)
+}
+
 /// The digits that have a space after them.
 #[inline(always)]
 fn last_digits(digits: u64, spaces: u64) -> u64
@@ -80,20 +98,54 @@ fn without_front(line: &[u8], count: usize) -> &[u8]
 }
 
 impl<'a> MarkedLine<'a> {
-    /// Marks a line, if it is long enough.
+    /// Marks a line of at least as many bytes as are marked.
     #[inline(always)]
-    pub fn of(line: &'a [u8]) -> Option<MarkedLine<'a>>
-        ensures bytes { IfSome result (λ marked. marked.bytes.now ≡ line.now) }
-        ensures marked { IfSome result IsMarked }
+    fn of_front(line: &'a [u8]) -> MarkedLine<'a>
+        requires within { LANES ≤ length line.now }
+        ensures bytes { result.bytes.now ≡ line.now }
+        ensures marked { IsMarked result }
     {
-        if line.len() < LANES {
-            return None;
-        }
-        Some(MarkedLine {
+        MarkedLine {
             bytes: line,
             digits: digit_marks(line),
             spaces: space_marks(line),
-        })
+        }
+    }
+
+    /// Marks what a line has from a place on, of fewer bytes than are marked, by the last bytes of the whole
+    /// line.
+    #[inline(always)]
+    fn of_end(line: &'a [u8], start: usize) -> MarkedLine<'a>
+        requires within { LANES ≤ length line.now }
+        requires start { start ≤ length line.now }
+        requires few { length line.now < start + LANES }
+        ensures bytes { result.bytes.now ≡ drop start line.now }
+        ensures marked { IsMarked result }
+    {
+        let bytes = without_front(line, start);
+        let end = without_front(line, line.len() - LANES);
+        let before = LANES - bytes.len();
+        MarkedLine {
+            bytes,
+            digits: without_marks(digit_marks(end), before),
+            spaces: with_mark(without_marks(space_marks(end), before), bytes.len()),
+        }
+    }
+
+    /// Marks what a line has from a place on, if the line is long enough.
+    #[inline(always)]
+    pub fn of(line: &'a [u8], start: usize) -> Option<MarkedLine<'a>>
+        requires start { start ≤ length line.now }
+        ensures bytes { IfSome result (λ marked. marked.bytes.now ≡ drop start line.now) }
+        ensures marked { IfSome result IsMarked }
+    {
+        if line.len() - start >= LANES {
+            return Some(MarkedLine::of_front(without_front(line, start)));
+        }
+        if line.len() < LANES {
+            return None;
+        }
+        Some(MarkedLine::of_end(line, start))
     }
 
     /// What follows the three counters that are the line's first words. `None` if one of them has
@@ -122,6 +174,6 @@ impl<'a> MarkedLine<'a> {
         if front_run_length(self.digits | self.spaces) < end {
             return None;
         }
-        Some(without_front(self.bytes, end))
+        Some(without_front(self.bytes, end.min(self.bytes.len())))
     }
 }

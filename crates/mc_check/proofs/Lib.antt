@@ -3,3 +3,4 @@ pub mod FirstEntriesLemmas
 pub mod VerdictLemmas
 pub mod CheckAllLemmas
 pub mod FeedsLemmas
+pub mod FedLemmas

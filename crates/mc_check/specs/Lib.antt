@@ -1,3 +1,4 @@
 pub mod Reasons
 pub mod ReasonText
 pub mod Verdicts
+pub mod FedLans

@@ -4,6 +4,7 @@ ghost use Rattle.std.specs.Prelude.{◌≡◌, ◌<◌, ◌^◌, All, IfOk, None
 ghost use Rattle.mc_theory.specs.Reasons.{first_reason, twice};
 ghost use Rattle.mc_forward.specs.Domains.{net_of};
 ghost use Rattle.mc_forward.specs.FlightsInDomain.{net_in};
+ghost use Rattle.mc_check.specs.FedLans.{AreFed};
 ghost use Rattle.mc_check.specs.Reasons.{optional_reason_value};
 ghost use Rattle.mc_check.specs.Verdicts.{YesCountsEntries, NoGivesFirstReason, YesIffAccepted};
 ghost use Rattle.mc_check.specs.Verdicts.{HoldsForEachFlow, IsCorrectVerdict};
@@ -11,7 +12,7 @@ ghost use Rattle.mc_check.specs.Verdicts.{verdict_by};
 ghost use Rattle.mc_check.specs.Verdicts.{YesDelivers, YesIsRight, YesIsSafe, YesKeepsHeadline};
 
 use crate::entries_by_lan::{EntriesByLan, put_first_entries};
-use crate::fed::unfed_reason;
+use crate::fed::unmarked_reason;
 use crate::routers::routers_reason;
 use crate::served::{has_source, lans_reason};
 use crate::verdict::{Reason, Verdict};
@@ -20,19 +21,26 @@ use mc_forward::{Domain, FlowView, PerLan};
 use mc_text::Memory;
 use std::alloc::Global;
 
-/// The first reason to refuse a flow's entries, where no two of them name the same LAN.
-fn reason_for_distinct_lans(view: &FlowView<'_>, by_lan: &EntriesByLan<'_>) -> Option<Reason>
+/// The first reason to refuse a flow's entries, where no two of them name the same LAN. Of the LANs, those
+/// that are known to be fed are marked.
+fn reason_for_distinct_lans(
+    view: &FlowView<'_>,
+    by_lan: &EntriesByLan<'_>,
+    mut fed: Vec<bool>,
+) -> Option<Reason>
     requires distinct { twice [] by_lan.now ≡ None }
+    requires lans { length fed.items ≡ length view.now.domain.topology.lans }
+    requires fed { AreFed (net_in view.now) by_lan.now fed.items }
     ensures reason { optional_reason_value result ≡ first_reason (net_in view.now)
         (length view.now.domain.topology.lans) by_lan.now }
 {
     if !has_source(view, by_lan) {
         return Some(Reason::BadSource);
     }
-    if let Some(reason) = routers_reason(view, by_lan) {
+    if let Some(reason) = routers_reason(view, by_lan, &mut fed) {
         return Some(reason);
     }
-    if let Some(reason) = unfed_reason(view, by_lan) {
+    if let Some(reason) = unmarked_reason(view, by_lan, &fed) {
         return Some(reason);
     }
     lans_reason(view, by_lan)
@@ -55,7 +63,8 @@ fn first_reason_of(
         return Ok(Some(reason));
     }
     let by_lan = EntriesByLan::new(entries, firsts);
-    Ok(reason_for_distinct_lans(&FlowView::new(domain, flow), &by_lan))
+    let fed = vec![in alloc; false; domain.topology().lans() as usize]?;
+    Ok(reason_for_distinct_lans(&FlowView::new(domain, flow), &by_lan, fed))
 }
 
 /// No with the first reason, or yes if there is none.

@@ -1,12 +1,13 @@
 //! Checks that each entry's forwarder sends onto its LAN.
 
-ghost use Rattle.std.specs.Prelude.{◌≡◌, Some};
+ghost use Rattle.std.specs.Prelude.{◌≡◌, All, IsTrue, None, Some, []};
 ghost use Rattle.mc_theory.specs.Certificates.{is_live};
-ghost use Rattle.mc_theory.specs.Reasons.{feeds_from, first_of, is_fed, row_feeds, unless};
+ghost use Rattle.mc_theory.specs.Reasons.{feeds_from, first_of, is_fed, row_feeds, twice, unless};
 ghost use Rattle.mc_theory.specs.Reasons.Reason.{Unfed};
 ghost use Rattle.mc_tables.specs.CacheTable.{IsValidEntry};
 ghost use Rattle.mc_forward.specs.Domains.{oif_pairs};
 ghost use Rattle.mc_forward.specs.FlightsInDomain.{net_in};
+ghost use Rattle.mc_check.specs.FedLans.{AreFed, NeedsNoFeedOrIsMarked};
 ghost use Rattle.mc_check.specs.Reasons.{optional_reason_value};
 
 use crate::entries_by_lan::EntriesByLan;
@@ -62,8 +63,42 @@ fn is_fed(view: &FlowView<'_>, by_lan: &EntriesByLan<'_>, entry: &Reached) -> bo
     }
 }
 
+/// Whether each entry has no forwarder, or is of a LAN that is marked as fed.
+fn are_all_marked(entries: &[Reached], fed: &[bool]) -> bool
+    ensures { IsTrue result → All (NeedsNoFeedOrIsMarked fed.now) entries.now }
+{
+    for entry in entries {
+        let marked = match fed.get(entry.lan.0 as usize) {
+            Some(mark) => *mark,
+            None => false,
+        };
+        if !marked && entry.forwarder.is_some() {
+            return false;
+        }
+    }
+    true
+}
+
+/// The first entry that isn't fed, as a reason. Those of LANs that are marked are.
+pub(crate) fn unmarked_reason(
+    view: &FlowView<'_>,
+    by_lan: &EntriesByLan<'_>,
+    fed: &[bool],
+) -> Option<Reason>
+    requires distinct { twice [] by_lan.now ≡ None }
+    requires fed { AreFed (net_in view.now) by_lan.now fed.now }
+    ensures { optional_reason_value result ≡ first_of (λ entry.
+        unless (is_fed (net_in view.now) by_lan.now entry.lan entry.forwarder) (Unfed entry.lan))
+        by_lan.now }
+{
+    if are_all_marked(by_lan.entries(), fed) {
+        return None;
+    }
+    unfed_reason(view, by_lan)
+}
+
 /// The first entry that isn't fed, as a reason.
-pub(crate) fn unfed_reason(view: &FlowView<'_>, by_lan: &EntriesByLan<'_>) -> Option<Reason>
+fn unfed_reason(view: &FlowView<'_>, by_lan: &EntriesByLan<'_>) -> Option<Reason>
     ensures { optional_reason_value result ≡ first_of (λ entry.
         unless (is_fed (net_in view.now) by_lan.now entry.lan entry.forwarder) (Unfed entry.lan))
         by_lan.now }

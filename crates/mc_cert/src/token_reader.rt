@@ -316,8 +316,8 @@ impl<'a> TokenReader<'a> {
         Ok(text)
     }
 
-    /// Passes this name, if it is the text that is next, and is written without escapes. Else the reader stays
-    /// where it is.
+    /// Passes this name, if it is the text that is next, and is written without escapes. Else the reader
+    /// stays where it is.
     #[inline(always)]
     pub(crate) fn pass_name(&mut self, name: &str) -> bool
         requires named { IsTrue (is_name name.now) }

@@ -173,7 +173,7 @@ fn router_reason(
     }
 }
 
-/// The first thing that is wrong with the routers. If nothing is, all LANs that they feed are marked.
+/// The first thing that is wrong with the routers. LANs that they feed are marked, and no others.
 pub(crate) fn routers_reason(
     view: &FlowView<'_>,
     by_lan: &EntriesByLan<'_>,

@@ -9,4 +9,5 @@ pub returns-then-are_all_marked : goal.returns-then-are_all_marked
 returns-then-are_all_marked c =
     sym (no_unfed-marked (net_in c.args.view.now) c.args.by_lan.now c.args.fed.now c.requires.fed
     c.requires.distinct
-    (subst (All (NeedsNoFeedOrIsMarked c.args.fed.now)) c.entries.ensures (c.are_all_marked.ensures c.if-are_all_marked.true)))
+    (subst (All (NeedsNoFeedOrIsMarked c.args.fed.now)) c.entries.ensures
+    (c.are_all_marked.ensures c.if-are_all_marked.true)))

@@ -11,5 +11,5 @@ returns-clause-fed c =
     let n = net_in c.args.view.now in
     subst (λ lan. AreFed n c.args.by_lan.now (slice_set c.args.fed.now.items lan true)) (sym c.lan.view_is)
     (are_fed-marked n c.args.by_lan.now c.args.fed.now.items c.args.base.now c.args.router c.in-Some.lan
-    (c.args.oif.now.vif, c.args.oif.now.threshold) c.requires.fed (sym c.in_default-child_reason.ensures.reason)
-    c.requires.feeds (sym c.in-Some.ensures.lan))
+    (c.args.oif.now.vif, c.args.oif.now.threshold) c.requires.fed
+    (sym c.in_default-child_reason.ensures.reason) c.requires.feeds (sym c.in-Some.ensures.lan))

@@ -17,10 +17,12 @@ returns-clause-marked c =
     let size = ap length is_rest ∙ length-drop c.args.start line in
     record {
       digits = are_marks-of_end is_ascii_digit line end rest c.digit_marks.result c.without_marks.result
-          c.args.start _ long c.requires.start c.requires.few is_end is_rest (omega (arith, size, c.requires.few))
+          c.args.start _ long c.requires.start c.requires.few is_end is_rest
+          (omega (arith, size, c.requires.few))
           c.without_marks.ensures c.digit_marks.ensures.marks;
       spaces = are_marks-with_end rest c.without_marks-2.result c.with_mark.result
           (are_marks-of_end (λ b. b == 32) line end rest c.space_marks.result c.without_marks-2.result
-          c.args.start _ long c.requires.start c.requires.few is_end is_rest (omega (arith, size, c.requires.few))
+          c.args.start _ long c.requires.start c.requires.few is_end is_rest
+          (omega (arith, size, c.requires.few))
           c.without_marks-2.ensures c.space_marks.ensures.marks) c.with_mark.ensures;
     }

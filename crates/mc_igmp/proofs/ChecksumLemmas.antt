@@ -20,6 +20,17 @@ unfolding word_sum
 word_sum-eight (a ∷ b ∷ c ∷ d ∷ e ∷ f ∷ g ∷ h ∷ rest) l = refl
 word_sum-eight _ l = absurd (omega arith)
 
+-- the sum is the first eight words and the sum of the others
+pub word_sum-sixteen : (s : List ℕ) → 16 ≤ length s
+    → word_sum s ≡ (256 * get_or s 0 0 + get_or s 1 0) + ((256 * get_or s 2 0 + get_or s 3 0)
+    + ((256 * get_or s 4 0 + get_or s 5 0) + ((256 * get_or s 6 0 + get_or s 7 0)
+    + ((256 * get_or s 8 0 + get_or s 9 0) + ((256 * get_or s 10 0 + get_or s 11 0)
+    + ((256 * get_or s 12 0 + get_or s 13 0) + ((256 * get_or s 14 0 + get_or s 15 0)
+    + word_sum (drop 16 s))))))))
+unfolding word_sum
+word_sum-sixteen (a ∷ b ∷ c ∷ d ∷ e ∷ f ∷ g ∷ h ∷ i ∷ j ∷ k ∷ l ∷ m ∷ n ∷ o ∷ p ∷ rest) long = refl
+word_sum-sixteen _ long = absurd (omega arith)
+
 -- the sum of an odd last byte, or of none
 pub word_sum-last : (s : List ℕ) → length s < 2 → word_sum s ≡ 256 * get_or s 0 0
 unfolding word_sum

@@ -90,6 +90,13 @@ impl<'d> Flight<'d> {
         self.flow.view()
     }
 
+    /// The flow of the packet, with each router's row for it.
+    pub fn flow_with_rows(&self) -> &FlowWithRows<'d>
+        ensures { result.now ≡ record { domain = self.now.domain; flow = self.now.flow } }
+    {
+        &self.flow
+    }
+
     /// How many copies wait.
     pub fn waiting(&self) -> usize
         ensures { result ≡ length self.now.flight.waiting }

@@ -15,7 +15,7 @@ use std::marker::Model;
 
 /// A flow whose rows were looked up. Its value in contracts is that of the flow's view.
 #[derive(Drop)]
-pub(crate) struct FlowWithRows<'d> {
+pub struct FlowWithRows<'d> {
     view: FlowView<'d>,
     /// What each router has for the flow.
     rows: Vec<RowFor<'d>>,
@@ -72,14 +72,14 @@ impl<'d> FlowWithRows<'d> {
     }
 
     /// The flow.
-    pub(crate) fn view(&self) -> &FlowView<'d>
+    pub fn view(&self) -> &FlowView<'d>
         ensures { result.now ≡ self.now }
     {
         &self.view
     }
 
     /// What a router has for the flow: no row for a router that isn't in the topology.
-    pub(crate) fn row(&self, router: RouterNo) -> RowFor<'d>
+    pub fn row(&self, router: RouterNo) -> RowFor<'d>
         ensures row { row_value result ≡ (net_in self.now).row router }
         ensures valid { HasValidEntry result }
     {

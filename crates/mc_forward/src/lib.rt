@@ -29,6 +29,7 @@ pub use domain::Domain;
 pub use event::{Event, Outcome};
 pub use flight::Flight;
 pub use flow_view::FlowView;
+pub use flow_with_rows::FlowWithRows;
 pub use interfaces::Interfaces;
 pub use items::Items;
 pub use outgoing::{outgoing_from, threshold_of};

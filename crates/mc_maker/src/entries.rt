@@ -8,7 +8,7 @@ ghost use Rattle.mc_maker.specs.EntriesByLan.{held_entry_at, held_entries, need_
 ghost use Rattle.mc_forward.specs.FlightsInDomain.{net_in};
 
 use mc_cert::Reached;
-use mc_forward::{CarriedCopy, FlowView, PerLan, RowFor, threshold_of};
+use mc_forward::{CarriedCopy, FlowWithRows, PerLan, RowFor, threshold_of};
 use mc_text::Memory;
 use mc_topology::{LanNo, RouterNo};
 use std::alloc::Global;
@@ -35,14 +35,17 @@ fn need_over(threshold: u8, base: Option<Reached>) -> u8
 }
 
 /// The least TTL with which packets leave a router by a vif.
-fn need_at_vif(view: &FlowView<'_>, by_lan: &PerLan<Reached>, router: RouterNo, vif: u8) -> u8
-    requires bounded { need_by_held_entries (net_in view.now) by_lan.now (Some (router, vif)) ≤ 255 }
-    ensures value { result ≡ need_by_held_entries (net_in view.now) by_lan.now (Some (router, vif)) }
+fn need_at_vif(flow: &FlowWithRows<'_>, by_lan: &PerLan<Reached>, router: RouterNo, vif: u8) -> u8
+    requires bounded { need_by_held_entries (net_in flow.now) by_lan.now (Some (router, vif)) ≤ 255 }
+    ensures value { result ≡ need_by_held_entries (net_in flow.now) by_lan.now (Some (router, vif)) }
 {
-    match view.row(router) {
+    match flow.row(router) {
         RowFor::Exact(entry) => {
             let threshold = threshold_of(vif, &entry);
-            need_over(threshold, entry_at(by_lan, view.placed(router, entry.iif)))
+            need_over(
+                threshold,
+                entry_at(by_lan, flow.view().placed(router, entry.iif)),
+            )
         }
         RowFor::Open | RowFor::NoRow => 1,
     }
@@ -51,41 +54,41 @@ fn need_at_vif(view: &FlowView<'_>, by_lan: &PerLan<Reached>, router: RouterNo, 
 /// The least TTL with which packets reach the LAN of a copy with this sender; 1 without a sender, on
 /// the source's LAN.
 fn need_of_sender(
-    view: &FlowView<'_>,
+    flow: &FlowWithRows<'_>,
     by_lan: &PerLan<Reached>,
     sender: Option<(RouterNo, u8)>,
 ) -> u8
-    requires bounded { need_by_held_entries (net_in view.now) by_lan.now sender ≤ 255 }
-    ensures value { result ≡ need_by_held_entries (net_in view.now) by_lan.now sender }
+    requires bounded { need_by_held_entries (net_in flow.now) by_lan.now sender ≤ 255 }
+    ensures value { result ≡ need_by_held_entries (net_in flow.now) by_lan.now sender }
 {
     match sender {
-        Some((router, vif)) => need_at_vif(view, by_lan, router, vif),
+        Some((router, vif)) => need_at_vif(flow, by_lan, router, vif),
         None => 1,
     }
 }
 
 /// The entry of a copy, by the entries of the copies before it.
-fn entry_of_copy(view: &FlowView<'_>, by_lan: &PerLan<Reached>, copy: &CarriedCopy) -> Reached
-    requires bounded { need_by_held_entries (net_in view.now) by_lan.now copy.now.sender ≤ 255 }
-    ensures value { result ≡ entry_by_held_entries (net_in view.now) by_lan.now copy.now }
+fn entry_of_copy(flow: &FlowWithRows<'_>, by_lan: &PerLan<Reached>, copy: &CarriedCopy) -> Reached
+    requires bounded { need_by_held_entries (net_in flow.now) by_lan.now copy.now.sender ≤ 255 }
+    ensures value { result ≡ entry_by_held_entries (net_in flow.now) by_lan.now copy.now }
 {
     Reached {
         lan: copy.lan,
         rank: 255 - copy.ttl,
-        need: need_of_sender(view, by_lan, copy.sender),
+        need: need_of_sender(flow, by_lan, copy.sender),
         forwarder: copy.sender,
     }
 }
 
 /// Stores the entry of each copy by its LAN, unless the LAN has one.
-fn put_entries(view: &FlowView<'_>, by_lan: &mut PerLan<Reached>, copies: &[CarriedCopy])
+fn put_entries(flow: &FlowWithRows<'_>, by_lan: &mut PerLan<Reached>, copies: &[CarriedCopy])
     requires empty { AreEntriesByLan by_lan.old [] }
     requires lans { All (λ copy. copy.lan < length by_lan.old) copies.now }
-    requires needs { All (λ entry. entry.need ≤ 255) (entries_of (net_in view.now) copies.now) }
-    ensures entries { AreEntriesByLan by_lan.new (entries_of (net_in view.now) copies.now) }
+    requires needs { All (λ entry. entry.need ≤ 255) (entries_of (net_in flow.now) copies.now) }
+    ensures entries { AreEntriesByLan by_lan.new (entries_of (net_in flow.now) copies.now) }
 {
     for copy in copies {
-        let entry = entry_of_copy(view, by_lan, copy);
+        let entry = entry_of_copy(flow, by_lan, copy);
         let _free = by_lan.put_first(entry.lan, entry);
     }
 }
@@ -93,16 +96,16 @@ fn put_entries(view: &FlowView<'_>, by_lan: &mut PerLan<Reached>, copies: &[Carr
 /// The entries of the copies that a travel at TTL 255 carried, stored by their LANs.
 pub(crate) fn entries_by_lan(
     alloc: Global,
-    view: &FlowView<'_>,
+    flow: &FlowWithRows<'_>,
     copies: &[CarriedCopy],
 ) -> Result<PerLan<Reached>, Memory>
-    requires lans { All (λ copy. copy.lan < length view.now.domain.topology.lans) copies.now }
-    requires needs { All (λ entry. entry.need ≤ 255) (entries_of (net_in view.now) copies.now) }
+    requires lans { All (λ copy. copy.lan < length flow.now.domain.topology.lans) copies.now }
+    requires needs { All (λ entry. entry.need ≤ 255) (entries_of (net_in flow.now) copies.now) }
     ensures ok { IfOk result (λ by_lan.
-        AreEntriesByLan by_lan (entries_of (net_in view.now) copies.now)) }
+        AreEntriesByLan by_lan (entries_of (net_in flow.now) copies.now)) }
 {
-    let mut by_lan = PerLan::new(alloc, view.lans())?;
-    put_entries(view, &mut by_lan, copies);
+    let mut by_lan = PerLan::new(alloc, flow.view().lans())?;
+    put_entries(flow, &mut by_lan, copies);
     Ok(by_lan)
 }
 

@@ -16,7 +16,7 @@ ghost use Rattle.mc_maker.specs.ExaminedFlights.{HasExaminedFlights, without_fli
 use crate::entries::{entries_by_lan, entries_in_lan_order};
 use crate::served::serves_all;
 use mc_cert::Reached;
-use mc_forward::{CarriedCopy, Domain, FlowView};
+use mc_forward::{CarriedCopy, Domain, FlowWithRows};
 use mc_replay::{Finding, FinishedTravel, First, Travel, replay_to_end};
 use mc_text::Memory;
 use std::alloc::Global;
@@ -41,26 +41,26 @@ pub enum ExaminedFlights<'d> {
 /// LANs, if they reach each LAN that wants the flow.
 fn certificate_of(
     alloc: Global,
-    view: &FlowView<'_>,
+    flow: &FlowWithRows<'_>,
     copies: &[CarriedCopy],
 ) -> Result<Option<Vec<Reached>>, Memory>
-    requires valid { AreCleanCopies view.now.domain view.now.flow copies.now }
+    requires valid { AreCleanCopies flow.now.domain flow.now.flow copies.now }
     ensures accepted { IfOk result (λ made. IfSome made (λ entries.
-        IsAccepted (net_in view.now) entries.items)) }
+        IsAccepted (net_in flow.now) entries.items)) }
     ensures ascending { IfOk result (λ made. IfSome made (λ entries.
         IsStrictlyIncreasing (map (λ entry. entry.lan) entries.items))) }
     ensures listed { IfOk result (λ made. IfSome made (λ entries.
-        All (IsEntryOf view.now.domain.topology) entries.items)) }
+        All (IsEntryOf flow.now.domain.topology) entries.items)) }
     ensures writable { IfOk result (λ made. IfSome made (λ entries. IsWritableTree entries.items)) }
     ensures entries { IfOk result (λ made. IfSome made (λ entries.
-        IsReordering (entries_of (net_in view.now) copies.now) entries.items)) }
+        IsReordering (entries_of (net_in flow.now) copies.now) entries.items)) }
     // Without entries, the travel at the flow's TTL finds a fault.
     ensures none { IfOk result (λ made. IfNone made ((travel : Travel) →
-        IsFirstPickTravel view.now.domain view.now.flow (net_in view.now).ttl travel → FindsFault travel)) }
+        IsFirstPickTravel flow.now.domain flow.now.flow (net_in flow.now).ttl travel → FindsFault travel)) }
 {
-    let by_lan = entries_by_lan(alloc, view, copies)?;
+    let by_lan = entries_by_lan(alloc, flow, copies)?;
     let entries = entries_in_lan_order(alloc, &by_lan, copies.len())?;
-    if !serves_all(view, &entries) {
+    if !serves_all(flow.view(), &entries) {
         return Ok(None);
     }
     Ok(Some(entries))
@@ -115,7 +115,7 @@ pub fn examine_to_end<'d>(
     };
     if let Some(entries) = certificate_of(
         alloc,
-        greatest.flight.flow_view(),
+        greatest.flight.flow_with_rows(),
         greatest.flight.copies(),
     )? {
         return Ok(ExaminedFlights::Certified(entries));

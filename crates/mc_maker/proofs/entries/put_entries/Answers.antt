@@ -10,14 +10,14 @@ use Rattle.mc_maker.proofs.entries.put_entries.Goals as goal
 
 -- Before the first copy no place is filled.
 pub loop-copy-init : goal.loop-copy-init
-loop-copy-init c = entries_so_far-none (net_in c.args.view.now) c.args.by_lan.now c.args.copies.now
+loop-copy-init c = entries_so_far-none (net_in c.args.flow.now) c.args.by_lan.now c.args.copies.now
     c.requires.empty
 
 -- All copies are done, so the places hold the entries of all.
 pub returns : goal.returns
 returns c = record {
   entries = (
-      entries_so_far-all (net_in c.args.view.now) c.loop-copy.by_lan c.args.by_lan.now c.args.copies.now
+      entries_so_far-all (net_in c.args.flow.now) c.loop-copy.by_lan c.args.by_lan.now c.args.copies.now
       c.loop-copy.copy-index c.loop-copy.invariant
       (omega (arith, c.loop-copy-test.false)));
 }
@@ -26,7 +26,7 @@ returns c = record {
 pub entry_of_copy-entry-requires : goal.entry_of_copy-entry-requires
 entry_of_copy-entry-requires c = record {
   bounded = (
-      need_by_held-at_most_255 (net_in c.args.view.now) c.loop-copy.by_lan c.args.by_lan.now c.args.copies.now
+      need_by_held-at_most_255 (net_in c.args.flow.now) c.loop-copy.by_lan c.args.by_lan.now c.args.copies.now
       c.loop-copy.copy-index c.copy-item.result c.loop-copy.invariant
       c.loop-copy-test.true c.copy-item.is c.requires.needs);
 }
@@ -43,7 +43,7 @@ loop-copy-preserved c =
     let within : x.lan < length c.args.by_lan.now =
     subst (λ (y : Copy). y.lan < length c.args.by_lan.now) (sym c.copy-item.is)
     (c.requires.lans k x c.loop-copy-test.true) in
-    entries_so_far-more (net_in c.args.view.now) c.loop-copy.by_lan c.put_first-free.new.self
+    entries_so_far-more (net_in c.args.flow.now) c.loop-copy.by_lan c.put_first-free.new.self
     c.args.by_lan.now
     cs k x e c.put_first-free.result c.loop-copy.invariant c.loop-copy-test.true
     c.copy-item.is within c.entry_of_copy-entry.ensures.value put_ok.free

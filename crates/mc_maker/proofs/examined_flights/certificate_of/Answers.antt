@@ -12,10 +12,10 @@ use Rattle.mc_maker.proofs.examined_flights.certificate_of.Goals as goal
 
 pub serves_all-requires : goal.serves_all-requires
 serves_all-requires c = record {
-  within = (
-      lans_below_count-reordered c.args.view.now.domain c.args.view.now.flow c.args.copies.now
+  within = rw c.view.ensures (
+      lans_below_count-reordered c.args.flow.now.domain c.args.flow.now.flow c.args.copies.now
       c.deref.result.now
-      c.requires.valid (is_reordering-held_entries c.args.view.now c.args.copies.now c.in_ok-by_lan.by_lan
+      c.requires.valid (is_reordering-held_entries c.args.flow.now c.args.copies.now c.in_ok-by_lan.by_lan
       c.deref.result.now c.requires.valid c.in_ok-by_lan.ensures.ok
       (c.deref.ensures.value ∙ c.in_ok-entries.ensures)));
 }
@@ -24,39 +24,42 @@ serves_all-requires c = record {
 -- flow, the travel at the flow's TTL misses it.
 pub returns-then-not-serves_all-clause-none : goal.returns-then-not-serves_all-clause-none
 returns-then-not-serves_all-clause-none c =
-    finds_fault-held_entries c.args.view.now c.args.copies.now c.in_ok-by_lan.by_lan c.deref.result.now
-    c.serves_all.ensures.rules c.requires.valid c.in_ok-by_lan.ensures.ok
+    let tested = rw c.view.ensures at c.serves_all.ensures in
+    finds_fault-held_entries c.args.flow.now c.args.copies.now c.in_ok-by_lan.by_lan c.deref.result.now
+    tested.rules c.requires.valid c.in_ok-by_lan.ensures.ok
     (c.deref.ensures.value ∙ c.in_ok-entries.ensures)
-    (c.serves_all.ensures.some c.if-not-serves_all.true)
+    (tested.some c.if-not-serves_all.true)
 
 -- The copies' entries keep all rules of a certificate but the last, that each LAN is served, which was
 -- tested.
 pub returns-clause-accepted : goal.returns-clause-accepted
 returns-clause-accepted c =
-    subst (λ (es : List Entry). IsAccepted (net_in c.args.view.now) es) c.deref.ensures.value
-    (is_accepted-held_entries c.args.view.now c.args.copies.now c.in_ok-by_lan.by_lan c.deref.result.now
+    let tested = rw c.view.ensures at c.serves_all.ensures in
+    subst (λ (es : List Entry). IsAccepted (net_in c.args.flow.now) es) c.deref.ensures.value
+    (is_accepted-held_entries c.args.flow.now c.args.copies.now c.in_ok-by_lan.by_lan c.deref.result.now
     c.requires.valid c.in_ok-by_lan.ensures.ok (c.deref.ensures.value ∙ c.in_ok-entries.ensures)
-    (c.serves_all.ensures.each c.if-not-serves_all.false))
+    (tested.each c.if-not-serves_all.false))
 
 -- Each entry is at the place with the number of its LAN, and the places are read in order.
 pub returns-clause-ascending : goal.returns-clause-ascending
 returns-clause-ascending c =
-    ascending-entries_by_lan c.args.view.now c.args.copies.now c.in_ok-by_lan.by_lan
+    ascending-entries_by_lan c.args.flow.now c.args.copies.now c.in_ok-by_lan.by_lan
     c.in_ok-entries.entries.items c.in_ok-by_lan.ensures.ok c.in_ok-entries.ensures
 
 -- The copies are on different LANs, so each entry has a place of its own, and none is lost.
 pub returns-clause-entries : goal.returns-clause-entries
 returns-clause-entries c =
-    is_reordering-held_entries c.args.view.now c.args.copies.now c.in_ok-by_lan.by_lan
+    is_reordering-held_entries c.args.flow.now c.args.copies.now c.in_ok-by_lan.by_lan
     c.in_ok-entries.entries.items c.requires.valid c.in_ok-by_lan.ensures.ok c.in_ok-entries.ensures
 
 pub returns-clause-listed : goal.returns-clause-listed
 returns-clause-listed c =
-    all_of_topology-reordered c.args.view.now.domain c.args.view.now.flow c.args.copies.now
+    all_of_topology-reordered c.args.flow.now.domain c.args.flow.now.flow c.args.copies.now
     c.in_ok-entries.entries.items c.requires.valid (returns-clause-entries c)
 
 pub returns-clause-writable : goal.returns-clause-writable
 returns-clause-writable c =
-    is_writable_tree-reordered c.args.view.now.domain c.args.view.now.flow c.args.copies.now
-    c.in_ok-entries.entries.items c.serves_all.ensures.rules.domain c.requires.valid
+    let tested = rw c.view.ensures at c.serves_all.ensures in
+    is_writable_tree-reordered c.args.flow.now.domain c.args.flow.now.flow c.args.copies.now
+    c.in_ok-entries.entries.items tested.rules.domain c.requires.valid
     (returns-clause-entries c)

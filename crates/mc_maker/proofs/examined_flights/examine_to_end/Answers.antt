@@ -28,8 +28,8 @@ certificate_of-requires c = record {
   valid = (
       let d = c.args.domain.now in
       let view = flow_view-same_domain_and_flow d c.args.flow c.in_ok-greatest.greatest.flight
-      c.flow_view.result.now
-      c.in_ok-greatest.ensures.domain c.in_ok-greatest.ensures.flow c.flow_view.ensures in
+      c.flow_with_rows.result.now
+      c.in_ok-greatest.ensures.domain c.in_ok-greatest.ensures.flow c.flow_with_rows.ensures in
       rw view (are_clean_copies-of_travel c.args.domain.now c.in_ok-greatest.greatest.flight.domain
       c.args.flow
       c.in_ok-greatest.greatest.travel c.in_ok-greatest.greatest.flight.flight c.copies.result.now
@@ -73,8 +73,8 @@ pub returns-in-Some-clause-accepted : goal.returns-in-Some-clause-accepted
 returns-in-Some-clause-accepted c =
     let d = c.args.domain.now in
     let view = flow_view-same_domain_and_flow d c.args.flow c.in_ok-greatest.greatest.flight
-    c.flow_view.result.now
-    c.in_ok-greatest.ensures.domain c.in_ok-greatest.ensures.flow c.flow_view.ensures in
+    c.flow_with_rows.result.now
+    c.in_ok-greatest.ensures.domain c.in_ok-greatest.ensures.flow c.flow_with_rows.ensures in
     let made = rw view at c.in_ok-entries.ensures in
     subst (λ o. IfSome o (λ es. IsAccepted (net_of d c.args.flow) es.items)) c.in-Some.is
     made.accepted
@@ -84,8 +84,8 @@ pub returns-in-Some-clause-listed : goal.returns-in-Some-clause-listed
 returns-in-Some-clause-listed c =
     let d = c.args.domain.now in
     let view = flow_view-same_domain_and_flow d c.args.flow c.in_ok-greatest.greatest.flight
-    c.flow_view.result.now
-    c.in_ok-greatest.ensures.domain c.in_ok-greatest.ensures.flow c.flow_view.ensures in
+    c.flow_with_rows.result.now
+    c.in_ok-greatest.ensures.domain c.in_ok-greatest.ensures.flow c.flow_with_rows.ensures in
     let made = rw view at c.in_ok-entries.ensures in
     subst (λ o. IfSome o (λ es. All (IsEntryOf d.topology) es.items)) c.in-Some.is made.listed
 
@@ -94,8 +94,8 @@ pub returns-in-Some-clause-made : goal.returns-in-Some-clause-made
 returns-in-Some-clause-made c =
     let d = c.args.domain.now in
     let view = flow_view-same_domain_and_flow d c.args.flow c.in_ok-greatest.greatest.flight
-    c.flow_view.result.now
-    c.in_ok-greatest.ensures.domain c.in_ok-greatest.ensures.flow c.flow_view.ensures in
+    c.flow_with_rows.result.now
+    c.in_ok-greatest.ensures.domain c.in_ok-greatest.ensures.flow c.flow_with_rows.ensures in
     let made = rw view at c.in_ok-entries.ensures in
     let cs = c.copies.result.now in
     entries_of_clean_travel-reordered d c.args.flow c.in_ok-greatest.greatest.travel
@@ -135,8 +135,8 @@ returns-clause-right c =
     c.topology-topology.ensures.topology c.flow.ensures.flow))
     (c.in_ok-least.least.flight.flight, c.in_ok-least.ensures.run) in
     let view = flow_view-same_domain_and_flow d c.args.flow c.in_ok-greatest.greatest.flight
-    c.flow_view.result.now
-    c.in_ok-greatest.ensures.domain c.in_ok-greatest.ensures.flow c.flow_view.ensures in
+    c.flow_with_rows.result.now
+    c.in_ok-greatest.ensures.domain c.in_ok-greatest.ensures.flow c.flow_with_rows.ensures in
     let made = rw view at c.in_ok-entries.ensures in
     let fault : FindsFault t =
     if_none-no_some c.in_ok-entries.field-0 c.in_default-2.not-Some made.none t is in (

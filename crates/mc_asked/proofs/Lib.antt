@@ -16,3 +16,4 @@ pub mod LawLemmas
 pub mod AskedLawLemmas
 pub mod NoFilterLemmas
 pub mod LanByLanLemmas
+pub mod SameRecordLemmas

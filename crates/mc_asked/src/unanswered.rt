@@ -137,7 +137,7 @@ pub(crate) fn unanswered_in(
         (flat_map asked_by list.now))) }
 {
     let mut unanswered = FewRepeats::none(alloc);
-    for group_record in list.records() {
+    for group_record in list.distinct_records() {
         push_unanswered(&mut unanswered, answers, wanted_groups, &group_record)?;
     }
     Ok(unanswered.into_numbers())

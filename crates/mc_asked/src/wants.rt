@@ -8,7 +8,7 @@ ghost use Rattle.mc_asked.specs.Indexes.{IsIndexOfExcludes, is_of_merged_filter_
 ghost use Rattle.mc_tables.specs.Summary.{in_order};
 ghost use Rattle.mc_asked.specs.ListWants.{is_of_merged_filter};
 
-use mc_igmp::{Kind, ReportList};
+use mc_igmp::{Kind, ListRecords, ReportList};
 use mc_tables::pairs_in_order;
 use mc_text::{Addr, Index, Memory};
 use std::alloc::Global;
@@ -34,17 +34,24 @@ fn is_exclude(kind: Kind) -> bool
     matches!(kind, Kind::Exclude)
 }
 
-/// The groups for which the list has an EXCLUDE record.
-fn excluded_groups(alloc: Global, list: &ReportList) -> Result<Index, Memory>
-    ensures { IfOk result (IsIndexOfExcludes list.now) }
+/// The groups for which some record is an EXCLUDE record.
+fn excluded_groups_of(alloc: Global, records: ListRecords<'_>) -> Result<Index, Memory>
+    ensures { IfOk result (IsIndexOfExcludes records.entry) }
 {
     let mut numbers = Vec::new(alloc);
-    for group_record in list.records() {
+    for group_record in records {
         if is_exclude(group_record.kind) {
             numbers.push(group_number(group_record.group))?;
         }
     }
     Index::of(alloc, numbers)
+}
+
+/// The groups for which the list has an EXCLUDE record.
+fn excluded_groups(alloc: Global, list: &ReportList) -> Result<Index, Memory>
+    ensures { IfOk result (IsIndexOfExcludes list.now) }
+{
+    excluded_groups_of(alloc, list.distinct_records())
 }
 
 /// Whether the merged filter of the want's group asks for it, by the groups that have an EXCLUDE record.

@@ -5,3 +5,4 @@ pub mod TallyLemmas
 pub mod ChannelLemmas
 pub mod FilterLemmas
 pub mod MergedLemmas
+pub mod SameRecordLemmas

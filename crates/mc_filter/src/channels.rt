@@ -11,7 +11,7 @@ ghost use Rattle.mc_filter.specs.Tallies.{CountsRecord, IsTallyOf, KeepsToChanne
 ghost use Rattle.mc_filter.specs.Tallies.{KeepToChannelsUnlessMore};
 
 use crate::tally::Tally;
-use mc_igmp::{Record, ReportList};
+use mc_igmp::{ListRecords, Record, ReportList};
 use mc_text::{Addr, Index, Memory, index_of_groups, pair_number, pair_numbers};
 use std::alloc::Global;
 use std::marker::Model;
@@ -94,7 +94,28 @@ fn add_record(
     Ok(())
 }
 
-/// The tally of the channels over the records of a list.
+/// The tally of the channels over records.
+fn tally_of_records(
+    alloc: Global,
+    groups: &Index,
+    channels: &Index,
+    records: ListRecords<'_>,
+) -> Result<Tally, Memory>
+    ensures groups { IfOk result (λ tally. length tally.excludes.items ≡ length groups.now) }
+    ensures channels { IfOk result (λ tally. length tally.states.items ≡ length channels.now) }
+    ensures each { IfOk result (λ tally. IsTallyOf groups.now channels.now records.entry tally []) }
+    ensures more { IfOk result (λ tally.
+        KeepToChannelsUnlessMore groups.now channels.now records.entry tally []) }
+{
+    let mut tally = Tally::none(alloc, groups.count(), channels.count())?;
+    for group_record in records {
+        add_record(&mut tally, groups, channels, &group_record)?;
+    }
+    Ok(tally)
+}
+
+/// The tally of the channels over the records of a list. A record that repeats another one changes
+/// nothing.
 fn tally_of(
     alloc: Global,
     groups: &Index,
@@ -107,11 +128,7 @@ fn tally_of(
     ensures more { IfOk result (λ tally.
         KeepToChannelsUnlessMore groups.now channels.now reports.now tally []) }
 {
-    let mut tally = Tally::none(alloc, groups.count(), channels.count())?;
-    for group_record in reports.records() {
-        add_record(&mut tally, groups, channels, &group_record)?;
-    }
-    Ok(tally)
+    tally_of_records(alloc, groups, channels, reports.distinct_records())
 }
 
 /// Whether the channel at each place is wanted, by the tally of all records.

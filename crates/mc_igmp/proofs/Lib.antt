@@ -7,3 +7,4 @@ pub mod MessageLemmas
 pub mod ListLemmas
 pub mod PieceLemmas
 pub mod DecodeAheadLemmas
+pub mod SameRecordLemmas

@@ -80,6 +80,14 @@ bytes_of_line-sound : (line : LineText) (bytes : List ℕ) → bytes_of_line lin
 unfolding bytes_of_line
 bytes_of_line-sound line bytes e = grind (arith, nat_tests)
 
+-- a line that is read is ended
+pub read_line-ended : (line : LineText) (records : List Record) → read_line line ≡ Ok records
+    → line.ended ≡ true
+unfolding read_line
+read_line-ended line records read =
+    let (bytes, of_line, rest) = bind_ok (bytes_of_line line) _ records read in
+    (bytes_of_line-sound line bytes of_line).0
+
 -- accepted records are those of a message that the list accepts
 accepted_records-sound : (number : ℕ) (r : Result Message MessageFault) (rs : List Record)
     → accepted_records number r ≡ Ok rs

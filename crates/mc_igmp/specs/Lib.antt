@@ -14,3 +14,4 @@ pub use Rattle.mc_text.specs.Lines
 pub use Rattle.mc_text.specs.Steps
 pub use Rattle.hex.specs.Hex
 pub mod ListSoFar
+pub mod KnownLines

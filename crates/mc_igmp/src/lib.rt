@@ -6,12 +6,14 @@ mod checksum;
 mod digits;
 mod fault;
 mod group_records;
+mod known_lines;
 pub mod laws;
 mod line_reader;
 mod list;
 mod list_reader;
 mod message;
 mod record;
+mod record_bytes;
 mod records;
 
 pub use fault::{ListFault, ListFaultKind};

@@ -8,10 +8,12 @@ ghost use Rattle.hex.specs.Hex.{is_hex_digit};
 ghost use Rattle.mc_text.specs.Lines.{HasNoLineFeed};
 ghost use Rattle.mc_igmp.specs.declared.record.Record.{Record};
 ghost use Rattle.mc_igmp.specs.ReadingList.{IsMemory, read_line};
+ghost use Rattle.mc_igmp.specs.KnownLines.{AreKnownLines};
 ghost use Rattle.mc_igmp.specs.ListSoFar.{IsDecodedAhead, line_after, lines_if};
 
 use crate::digits::decode_prefix;
 use crate::fault::ListFault;
+use crate::known_lines::KnownLines;
 use crate::list::ReportList;
 use mc_text::{Line, find_byte};
 use std::alloc::{AllocError, Global};
@@ -61,6 +63,8 @@ pub struct LineReader {
     message: Vec<u8>,
     /// The number of these bytes that are decoded before the line's end is known.
     decoded: usize,
+    /// Lines that were read before, of which each record is in the list.
+    pub known: KnownLines,
 }
 
 impl LineReader {
@@ -69,6 +73,7 @@ impl LineReader {
         ensures ended { result.ended ≡ 0 }
         ensures begun { result.begun.items ≡ [] }
         ensures list { result.list ≡ [] }
+        ensures known { result.known ≡ [] }
     {
         LineReader {
             ended: 0,
@@ -76,7 +81,19 @@ impl LineReader {
             list: ReportList::none(alloc),
             message: Vec::new(alloc),
             decoded: 0,
+            known: KnownLines::none(alloc),
         }
+    }
+
+    /// Forgets the records that have come, and the lines with them.
+    pub(crate) fn forget_records(&mut self)
+        ensures list { self.new.list ≡ [] }
+        ensures known { self.new.known ≡ [] }
+        ensures begun { self.new.begun ≡ self.old.begun }
+        ensures ended { self.new.ended ≡ self.old.ended }
+    {
+        self.list.clear();
+        self.known.close();
     }
 
     /// Decodes the digits at the front of the bytes, if a line begins there.
@@ -86,8 +103,9 @@ impl LineReader {
         ensures begun { self.new.begun ≡ self.old.begun }
         ensures list { self.new.list ≡ self.old.list }
         ensures ended { self.new.ended ≡ self.old.ended }
+        ensures known { self.new.known ≡ self.old.known }
     {
-        if self.begun.is_empty() {
+        if self.begun.is_empty() && !self.known.was_found() {
             self.decoded = decode_prefix(rest, &mut self.message);
         } else {
             self.decoded = 0;
@@ -103,6 +121,7 @@ impl LineReader {
         ensures begun { self.new.begun ≡ self.old.begun }
         ensures list { self.new.list ≡ self.old.list }
         ensures ended { self.new.ended ≡ self.old.ended }
+        ensures known { self.new.known ≡ self.old.known }
     {
         self.decode_ahead(rest);
         line_feed_after_digits(2 * self.decoded, rest)
@@ -114,6 +133,7 @@ impl LineReader {
         requires few { self.old.ended < u32.MAX }
         requires ahead { IsDecodedAhead
             (self.old.begun.items ++ bytes.now) self.old.message.items self.old.decoded }
+        requires known { AreKnownLines self.old.known self.old.list }
         ensures records { OnOk result ((records : List Record)
             × (read_line (line_after self.old.ended (self.old.begun.items ++ bytes.now)) ≡ Ok records)
             × (self.new.list ≡ self.old.list ++ records)) }
@@ -121,13 +141,15 @@ impl LineReader {
         ensures begun { OnOk result (self.new.begun.items ≡ []) }
         ensures fault { IfErr result (λ fault. IsMemory fault
             ⊎ (read_line (line_after self.old.ended (self.old.begun.items ++ bytes.now)) ≡ Err fault)) }
+        ensures known { OnOk result (AreKnownLines self.new.known self.new.list) }
     {
         let line = Line {
             number: self.ended + 1,
             bytes: join_line(&mut self.begun, bytes)?,
             ended: true,
         };
-        self.list.push_line(&line, &mut self.message, self.decoded)?;
+        let (message, known) = (&mut self.message, &mut self.known);
+        self.list.push_line(&line, message, self.decoded, known)?;
         self.ended += 1;
         self.begun.clear();
         Ok(())
@@ -138,6 +160,7 @@ impl LineReader {
         requires few { self.old.ended + (length self.old.begun.items + length piece.now)
             < u32.MAX }
         requires begun { HasNoLineFeed self.old.begun.items }
+        requires known { AreKnownLines self.old.known self.old.list }
         ensures reads { (more : List ℕ) → OnOk result
             (lines_if self.old (piece.now ++ more) ≡ lines_if self.new more) }
         ensures fault { (more : List ℕ) → IfErr result (λ fault. IsMemory fault
@@ -145,6 +168,7 @@ impl LineReader {
         ensures few { OnOk result (self.new.ended + length self.new.begun.items
             ≤ self.old.ended + (length self.old.begun.items + length piece.now)) }
         ensures begun { OnOk result (HasNoLineFeed self.new.begun.items) }
+        ensures known { OnOk result (AreKnownLines self.new.known self.new.list) }
     {
         let mut rest = piece;
         'lines: while let Some(end) = self.find_line_end(rest) {

@@ -2,25 +2,27 @@
 
 ghost use Rattle.std.specs.Prelude.{◌≡◌, ◌*◌, ◌++◌, ◌∷◌, ◌<◌, ◌≤◌, ◌^◌, ◌⊎◌, List, [], length};
 ghost use Rattle.std.specs.Prelude.{unwrap_or};
-ghost use Rattle.std.specs.Prelude.{IfOk, IfErr, OnOk, MatchResult};
+ghost use Rattle.std.specs.Prelude.{IfOk, IfErr, IfSome, OnOk, MatchResult, Some, option_map, slice_get};
+ghost use Rattle.std.specs.Prelude.{true};
 ghost use Rattle.mc_text.specs.DigitPairs.{AreDecoded};
 ghost use Rattle.mc_text.specs.LineView.{line_text};
 ghost use Rattle.mc_igmp.specs.declared.record.Record.{Record};
 ghost use Rattle.mc_igmp.specs.ReadingList.{IsMemory, oom_fault};
-ghost use Rattle.mc_igmp.specs.OlderReport.{older_record};
-ghost use Rattle.mc_igmp.specs.Records.{records_in, AreWholeRecords};
 ghost use Rattle.mc_igmp.specs.ReadingMessage.{read_message};
 ghost use Rattle.mc_igmp.specs.ReportList.{IsReportList};
 ghost use Rattle.mc_igmp.specs.ReadingList.{bytes_of_line, first_change, accepted_records, read_line};
 ghost use Rattle.mc_igmp.specs.ReadingList.{read_list};
+ghost use Rattle.mc_igmp.specs.KnownLines.{AreKnownLines};
+ghost use Rattle.mc_igmp.specs.Wants.{HaveSameRecords, IsListed};
 
 use crate::digits::decode_to_front;
 use crate::fault::{ListFault, ListFaultKind};
 use crate::group_records::GroupRecords;
+use crate::known_lines::KnownLines;
 use crate::message::{Message, MessageFault};
-use crate::record::Record;
+use crate::record_bytes::RecordBytes;
 use crate::records::Records;
-use mc_text::{Addr, Line, Lines, MAX_TEXT};
+use mc_text::{Line, Lines, MAX_TEXT};
 use std::alloc::{AllocError, Global};
 use std::marker::Model;
 
@@ -29,16 +31,6 @@ const MAX_LINES: u32 = 65_536;
 
 /// The greatest line, in bytes: two digits for each byte of an IP packet's greatest payload.
 const MAX_LINE_LEN: usize = 131_030;
-
-/// The bytes of the record that a report of version 1 or 2 for this group counts as (RFC 3376, sections
-/// 4.2.4 and 7.3.2).
-fn older_record_bytes(group: Addr) -> [u8; 8]
-    ensures whole { AreWholeRecords 1 result }
-    ensures record { records_in 1 result ≡ older_record group ∷ [] }
-{
-    let [a, b, c, d] = group.octets();
-    [2, 0, 0, 0, a, b, c, d]
-}
 
 /// Decodes a line's hexadecimal digits to the front of `bytes`, where the first `decoded` bytes are
 /// decoded already. `bytes` grows to the longest line and is overwritten by the next one.
@@ -116,28 +108,56 @@ fn accepted_records_of_line(
     }
 }
 
+/// The place of a line among the known ones, if it is known, ended, and one of the first that a list may
+/// have.
+fn place_of_line(known: &mut KnownLines, line: &Line<'_>) -> Option<usize>
+    ensures lines { known.new ≡ known.old }
+    ensures found { IfSome result (λ place. option_map (λ known. known.text.items)
+        (slice_get known.old place) ≡ Some line.now.bytes.now) }
+    ensures ended { IfSome result (λ place. line.now.ended ≡ true) }
+    ensures number { IfSome result (λ place. line.now.number ≤ MAX_LINES) }
+{
+    if line.ended && line.number <= MAX_LINES {
+        known.place_of(line.bytes)
+    } else {
+        None
+    }
+}
+
+/// Appends the records of a report to two lists.
+fn append_to_both(
+    some: &mut RecordBytes,
+    others: &mut RecordBytes,
+    records: &Records<'_>,
+) -> Result<(), AllocError>
+    ensures some { OnOk result (some.new ≡ some.old ++ records.now) }
+    ensures others { OnOk result (others.new ≡ others.old ++ records.now) }
+{
+    some.append(records)?;
+    others.append(records)
+}
+
 /// An iterator over the records of a list.
 pub type ListRecords<'a> = GroupRecords<'a>;
 
 /// The records of a LAN's reports, in order. Its value in contracts is the list of them.
 #[derive(Debug, Drop)]
 pub struct ReportList {
-    /// The number of the records.
-    count: usize,
-    /// The bytes of the records, one after another.
-    bytes: Vec<u8>,
+    all: RecordBytes,
+    /// The records of lines that weren't known to repeat an earlier one.
+    distinct: RecordBytes,
 }
 
 impl Model for ReportList {
     ghost use Rattle.std.specs.Prelude.{List};
     ghost use Rattle.mc_igmp.specs.declared.record.Record.{Record};
-    ghost use Rattle.mc_igmp.specs.Records.{records_in, AreWholeRecords};
+    ghost use Rattle.mc_igmp.specs.Wants.{HaveSameRecords};
 
     ghost Value = { List Record };
 
-    ghost view = { λ s. records_in s.count s.bytes.items };
+    ghost view = { λ s. s.all };
 
-    ghost invariant = { λ s. AreWholeRecords s.count s.bytes.items };
+    ghost invariant = { λ s. HaveSameRecords s.distinct s.all };
 }
 
 impl ReportList {
@@ -146,8 +166,8 @@ impl ReportList {
         ensures { result ≡ [] }
     {
         ReportList {
-            count: 0,
-            bytes: Vec::new(alloc),
+            all: RecordBytes::none(alloc),
+            distinct: RecordBytes::none(alloc),
         }
     }
 
@@ -155,8 +175,8 @@ impl ReportList {
     pub(crate) fn clear(&mut self)
         ensures { self.new ≡ [] }
     {
-        self.count = 0;
-        self.bytes.clear();
+        self.all.clear();
+        self.distinct.clear();
     }
 
     /// Reads a report list: a message in hexadecimal on each line, with nothing else on it. The
@@ -182,66 +202,85 @@ impl ReportList {
         }
         let mut list = ReportList::none(alloc);
         let mut message = Vec::new(alloc);
+        let mut known = KnownLines::none(alloc);
         for line in Lines::new(text) {
-            list.push_line(&line, &mut message, 0)?;
+            list.push_line(&line, &mut message, 0, &mut known)?;
         }
         Ok(list)
     }
 
-    /// Appends the records of the message on a line. `message` is a buffer for the bytes of the message,
-    /// of which the first `decoded` are decoded already.
+    /// Appends the records of the message on a line, and lets the line be known, if there is room. `message`
+    /// is a buffer for the bytes of the message, of which the first `decoded` are decoded already.
     pub(crate) fn push_line(
         &mut self,
         line: &Line<'_>,
         message: &mut Vec<u8>,
         decoded: usize,
+        known: &mut KnownLines,
     ) -> Result<(), ListFault>
         requires decoded { AreDecoded line.now.bytes.now message.old.items decoded }
         requires within { 2 * decoded ≤ length line.now.bytes.now }
         requires room { decoded ≤ length message.old.items }
+        requires known { AreKnownLines known.old self.old }
         ensures ok { OnOk result ((records : List Record) ×
             (read_line (line_text line.now) ≡ Ok records) × (self.new ≡ self.old ++ records)) }
         ensures err { IfErr result (λ fault.
             IsMemory fault ⊎ (read_line (line_text line.now) ≡ Err fault)) }
+        ensures known { OnOk result (AreKnownLines known.new self.new) }
     {
+        if let Some(place) = place_of_line(known, line) {
+            self.append_known(&known.line(place).records)?;
+            return Ok(());
+        }
         let bytes = decode_line(line, message, decoded)?;
         if let Some(records) = accepted_records_of_line(line.number, bytes)? {
             self.append(&records)?;
+            known.add(line.bytes, &records)?;
         }
         Ok(())
     }
 
-    /// Appends the records of a report.
-    #[tactic(auto, unfolding(crate::specs::Records::records_in))]
+    /// Appends the records of a report. If memory runs out, none are left.
     fn append(&mut self, records: &Records<'_>) -> Result<(), AllocError>
         ensures { OnOk result (self.new ≡ self.old ++ records.now) }
     {
-        let (older_group, group_records) = records.parts();
-        if let Some(group) = older_group {
-            self.append_bytes(1, &older_record_bytes(group))?;
+        match append_to_both(&mut self.all, &mut self.distinct, records) {
+            Ok(()) => Ok(()),
+            Err(fault) => {
+                self.all.clear();
+                self.distinct.clear();
+                Err(fault)
+            }
         }
-        let (count, bytes) = group_records.parts();
-        // a report of version 1 or 2 has no others
-        if count == 0 {
-            return Ok(());
-        }
-        self.append_bytes(count, bytes)
     }
 
-    /// Appends the `count` group records that the bytes are.
-    fn append_bytes(&mut self, count: usize, bytes: &[u8]) -> Result<(), AllocError>
-        requires whole { AreWholeRecords count bytes.now }
-        ensures appended { OnOk result (self.new ≡ self.old ++ records_in count bytes.now) }
+    /// Appends records that are in the list already. If memory runs out, none are left.
+    fn append_known(&mut self, known: &RecordBytes) -> Result<(), AllocError>
+        requires known { IsListed known.now self.old }
+        ensures appended { OnOk result (self.new ≡ self.old ++ known.now) }
     {
-        self.bytes.extend_from_slice(bytes)?;
-        self.count += count;
-        Ok(())
+        match self.all.append_all(known) {
+            Ok(()) => Ok(()),
+            Err(fault) => {
+                self.all.clear();
+                self.distinct.clear();
+                Err(fault)
+            }
+        }
     }
 
     /// The records, in order.
     pub fn records(&self) -> ListRecords<'_>
         ensures { result ≡ self.now }
     {
-        GroupRecords::new(self.count, &self.bytes)
+        self.all.records()
+    }
+
+    /// The records without most of those that repeat others, for what only depends on which there are:
+    /// hosts report the same again and again.
+    pub fn distinct_records(&self) -> ListRecords<'_>
+        ensures { HaveSameRecords result self.now }
+    {
+        self.distinct.records()
     }
 }

@@ -25,9 +25,10 @@ pub struct ListReader {
 }
 
 impl Model for ListReader {
-    ghost use Rattle.std.specs.Prelude.{◌≡◌, ◌≤◌, ◌+◌, Some};
+    ghost use Rattle.std.specs.Prelude.{◌≡◌, ◌≤◌, ◌+◌, None, Some};
     ghost use Rattle.mc_text.specs.Lines.{max_text};
     ghost use Rattle.mc_igmp.specs.ReadingList.{oom_fault};
+    ghost use Rattle.mc_igmp.specs.KnownLines.{AreKnownLines};
     ghost use Rattle.mc_igmp.specs.ListSoFar.{ListSoFar, CanReadOn};
 
     ghost Value = { ListSoFar };
@@ -42,7 +43,8 @@ impl Model for ListReader {
 
     ghost invariant = { λ s. (s.size ≤ max_text + 1)
         × CanReadOn s.size s.lines.ended s.lines.begun.items s.fault
-        × (s.fault ≡ Some oom_fault → s.size ≤ max_text) };
+        × (s.fault ≡ Some oom_fault → s.size ≤ max_text)
+        × (s.fault ≡ None → AreKnownLines s.lines.known s.lines.list) };
 }
 
 impl ListReader {
@@ -122,7 +124,7 @@ impl ListReader {
     pub fn forget_records(&mut self)
         ensures { self.new ≡ without_records self.old }
     {
-        self.lines.list.clear();
+        self.lines.forget_records();
     }
 
     /// Ends the text and returns its records, without those that were forgotten.

@@ -167,6 +167,30 @@ fn records_are_forgotten(rt: HostRuntime) -> Result<(), Fail> {
     Ok(())
 }
 
+// How many records there are.
+fn count_records(records: ListRecords<'_>) -> u32 {
+    let mut count = 0u32;
+    for _record in records {
+        count = count.saturating_add(1);
+    }
+    count
+}
+
+// Two reports, twenty times each: all of their records are in the list. After sixteen lines, one that comes
+// twice is kept as known, so that the two of the next four lines are, and none of the others adds to the
+// distinct records.
+#[test]
+fn repeated_lines_add_no_distinct_record(rt: HostRuntime) -> Result<(), Fail> {
+    let mut reader = ListReader::new(rt.alloc());
+    for _ in 0..20 {
+        reader.feed(b"1200fcfaef010203\n2200eaf90000000102000000ef010203\n")?;
+    }
+    let list = reader.finish()?;
+    assert!(rt; count_records(list.records()) == 40);
+    assert!(rt; count_records(list.distinct_records()) == 20);
+    Ok(())
+}
+
 // Whether the bytes are refused with this fault.
 fn is_refused_with(bytes: &[u8], fault: MessageFault) -> bool {
     matches!(Message::parse(bytes), Err(given) if given == fault)

@@ -5,7 +5,16 @@ use Rattle.mc_igmp.specs.declared.record.Record.{Record}
 use Rattle.mc_tables.specs.Summary.{in_order}
 use Rattle.mc_asked.specs.Answers.{is_answered}
 use Rattle.mc_asked.specs.ListWants.{asked_by}
+use Rattle.mc_asked.proofs.SameRecordLemmas.{in_order-same_asked}
 use Rattle.mc_asked.proofs.unanswered.unanswered_in.Goals as goal
+
+-- Before the first record nothing is taken, and the distinct records ask for what all do.
+pub loop-group_record-init : goal.loop-group_record-init
+loop-group_record-init c = λ index.
+    rw (c.none-unanswered.ensures, c.into_iter-group_record-iterator.ensures.into_iter_gives)
+    (in_order-same_asked (λ (want : ℕ × ℕ). not (is_answered c.args.answers.now c.args.list.now want))
+    c.distinct_records-group_record-items.result c.args.list.now
+    c.distinct_records-group_record-items.ensures)
 
 -- The record's unanswered wants are taken, and they were the first of those to come.
 pub loop-group_record-preserved : goal.loop-group_record-preserved

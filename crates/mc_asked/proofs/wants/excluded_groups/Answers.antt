@@ -1,12 +1,12 @@
-use Rattle.std.proofs.Common.{append-nil, sym, ◌∙◌}
+-- The distinct records are EXCLUDE records for the same groups.
+use Rattle.std.proofs.Common.{IsTrue, ◌↔◌, Contains, subst}
 use Rattle.std.proofs.lemmas.Result.{IfOk-weaker}
-use Rattle.mc_asked.proofs.IndexLemmas.{is_index_of_excludes}
+use Rattle.mc_filter.specs.FilterBuilding.{is_exclude_for}
+use Rattle.mc_filter.proofs.SameRecordLemmas.{list_any-same}
 use Rattle.mc_asked.proofs.wants.excluded_groups.Goals as goal
 
--- At the end the numbers are the groups of all EXCLUDE records, and the index has exactly these.
 pub returns : goal.returns
-returns c =
-    let whole = rw c.in-None.ensures.steps.0 at c.loop-group_record.invariant in
-    IfOk-weaker c.of.result _ _ (λ index same.
-    is_index_of_excludes c.args.list.now index c.loop-group_record.numbers.items
-    (sym (append-nil c.loop-group_record.numbers.items) ∙ whole) same) c.of.ensures
+returns c = IfOk-weaker c.excluded_groups_of.result _ _ (λ index of_distinct group.
+    subst (λ b. Contains index group ↔ IsTrue b)
+    (list_any-same (is_exclude_for group) c.distinct_records.result c.args.list.now c.distinct_records.ensures)
+    (of_distinct group)) c.excluded_groups_of.ensures

@@ -37,6 +37,7 @@ lines-preserved c =
           at.self.begun.items rest more end at.invariant.begun (sym found.end) read.1 read.2;
       few = omega (arith, count, within, at.invariant.few);
       begun = tt;
+      known = c.in_ok-end_line.ensures.known;
     })
 
 -- The rest has no line feed, else another line would have ended.
@@ -46,3 +47,12 @@ returns-clause-begun c =
     rw (c.in_ok-extend_from_slice.ensures.items, found.begun)
     (HasNoByte-append 10 c.lines.self.begun.items c.lines.rest.now c.lines.invariant.begun
     (HasNoByte-from_position 10 c.lines.rest.now (sym found.end)))
+
+-- Where the line ends changes none of the known lines.
+pub end_line-requires-clause-known : goal.end_line-requires-clause-known
+end_line-requires-clause-known c =
+    rw (c.in-Some.ensures.known, c.in-Some.ensures.list) c.lines.invariant.known
+
+pub returns-clause-known : goal.returns-clause-known
+returns-clause-known c =
+    rw (c.in_default.ensures.known, c.in_default.ensures.list) c.lines.invariant.known

@@ -1,5 +1,6 @@
 use Rattle.std.proofs.Common.{◌≡◌, ◌+◌, ◌≤◌, ℕ, List, ◌++◌, length}
 use Rattle.mc_text.specs.Lines.{HasNoLineFeed}
+use Rattle.mc_igmp.specs.KnownLines.{AreKnownLines}
 use Rattle.mc_igmp.specs.ListSoFar.{read_rest_of_lines}
 use Rattle.mc_igmp.proofs.line_reader.LineReader.read_piece.Given as goal
 
@@ -12,6 +13,7 @@ invariant-lines l = record {
   few : l.self.ended + (length l.self.begun.items + length l.rest)
       ≤ l.fn.self.ended + (length l.fn.self.begun.items + length l.fn.piece);
   begun : HasNoLineFeed l.self.begun.items;
+  known : AreKnownLines l.self.known l.self.list;
 }
 
 abbrev pub decreases-lines : goal.decreases-lines

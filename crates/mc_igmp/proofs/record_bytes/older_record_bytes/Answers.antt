@@ -4,7 +4,7 @@ use Rattle.mc_igmp.specs.Addresses.{addresses_in}
 use Rattle.mc_igmp.specs.Kind.{kind_of}
 use Rattle.mc_igmp.specs.Record.{read_record}
 use Rattle.mc_igmp.specs.Records.{records_in, after_records}
-use Rattle.mc_igmp.proofs.list.older_record_bytes.Goals as goal
+use Rattle.mc_igmp.proofs.record_bytes.older_record_bytes.Goals as goal
 
 -- The eight bytes have no sources and no auxiliary data, so that they end with the group.
 pub returns-clause-whole : goal.returns-clause-whole

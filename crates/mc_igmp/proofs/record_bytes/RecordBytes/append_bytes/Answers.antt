@@ -1,7 +1,7 @@
 use Rattle.std.proofs.Common.{[], length, ap, arith}
 use Rattle.std.proofs.lemmas.List.{length-append}
 use Rattle.mc_igmp.proofs.RecordsLemmas.{records_in-append, length-after_records}
-use Rattle.mc_igmp.proofs.list.ReportList.append_bytes.Goals as goal
+use Rattle.mc_igmp.proofs.record_bytes.RecordBytes.append_bytes.Goals as goal
 
 -- Each record has eight bytes at least, so that there are fewer records than bytes.
 pub overflow_add-self : goal.overflow_add-self

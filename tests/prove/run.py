@@ -321,8 +321,8 @@ def made_wrong(tree):
     tree.make_crates(LIST)
     assert tree.run("make")[0] == 0 and tree.proved() == ["alone", "left", "low", "mcaudit", "right", "run"]
     tree.write("left", "wrong")
-    status, output, errors = tree.run("make", "-j2")
-    assert status == 2 and "left not proved" in output and "prove.py: not proved: left; not begun: 1" in errors, output
+    status, output, errors = tree.run("make", "-j1")  # beside another one, what has begun by then hangs on the clock
+    assert status == 2 and "left not proved" in output and "prove.py: not proved: left; not begun: 3" in errors, errors
     assert not os.path.exists(f"{tree.top}/crates/mcaudit/out/mcaudit")
     tree.write("left", "until go")
     with tree.begin("make") as process:

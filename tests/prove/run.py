@@ -323,6 +323,9 @@ def made_wrong(tree):
     tree.write("left", "wrong")
     status, output, errors = tree.run("make", "-j1")  # beside another one, what has begun by then hangs on the clock
     assert status == 2 and "left not proved" in output and "prove.py: not proved: left; not begun: 3" in errors, errors
+    status, output, errors = tree.run("make", "-j2")
+    assert status == 2 and "left not proved" in output and "begin run" not in tree.lines(), (errors, tree.lines())
+    assert "prove.py: not proved: left; not begun: " in errors, errors
     assert not os.path.exists(f"{tree.top}/crates/mcaudit/out/mcaudit")
     tree.write("left", "until go")
     with tree.begin("make") as process:

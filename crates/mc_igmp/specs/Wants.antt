@@ -30,4 +30,5 @@ IsListed records list = (group_record : Record) → Contains records group_recor
 -- A record is in the one list exactly if it is in the other: the lists have the same records, whatever their
 -- order and however often each is there. What hosts want depends on nothing else.
 abbrev pub HaveSameRecords : (some others : List Record) → Type 0
-HaveSameRecords some others = (group_record : Record) → Contains some group_record ↔ Contains others group_record
+HaveSameRecords some others =
+    (group_record : Record) → Contains some group_record ↔ Contains others group_record

@@ -1,7 +1,8 @@
 //! Lines of a report list that were read before, to be found by their text: hosts of a LAN report the same
 //! again and again.
 
-ghost use Rattle.std.specs.Prelude.{◌≡◌, ◌<◌, ◌≤◌, ◌^◌, IfOk, IfSome, OnOk, [], Some, length, option_map, slice_get, true};
+ghost use Rattle.std.specs.Prelude.{◌≡◌, ◌<◌, ◌≤◌, ◌^◌, [], IfOk, IfSome, OnOk, Some, length, true};
+ghost use Rattle.std.specs.Prelude.{option_map, slice_get};
 ghost use Rattle.mc_igmp.specs.KnownLines.{AddsLine};
 
 use crate::record_bytes::RecordBytes;

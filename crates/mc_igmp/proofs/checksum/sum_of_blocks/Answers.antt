@@ -1,5 +1,5 @@
--- 256 times a word whose bytes are swapped is the word, but for multiples of 65,535, and so is that times each
--- power of 65,536.
+-- 256 times a word whose bytes are swapped is the word, but for multiples of 65,535, and so is that times
+-- each power of 65,536.
 use Rattle.std.proofs.Common.{arith, length-drop}
 use Rattle.std.proofs.lemmas.List.{take_rest}
 use Rattle.mc_igmp.proofs.ChecksumLemmas.{word_sum-sixteen}

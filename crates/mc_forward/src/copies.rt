@@ -3,7 +3,7 @@
 ghost use Rattle.std.specs.Prelude.{◌≡◌, ◌-◌, ◌<◌, ◌≤◌, ◌++◌, ◌∷◌, [], Some, length, map, take};
 ghost use Rattle.std.specs.Prelude.{remove, is_some, IfOk, OnOk, OnErr, slice_get};
 ghost use Rattle.std.specs.Prelude.{option_map};
-ghost use Rattle.mc_theory.specs.Flights.{hearers, waits_at, is_sender, put, leave, sends, handle};
+ghost use Rattle.mc_theory.specs.Flights.{hearers, waits_at, put, leave, sends, handle};
 ghost use Rattle.mc_theory.specs.Flights.{step, without_waiting};
 ghost use Rattle.mc_theory.specs.Events.{event_of, outcome_by_row, outcome_of_sending};
 ghost use Rattle.mc_forward.specs.Domains.{oif_pairs};
@@ -42,16 +42,6 @@ impl Model for Copies {
     ghost view = { λ c. flight_of c.carried.items c.waiting.items c.strays.items };
 }
 
-/// Whether a router's vif sent the copy.
-fn is_sent_by(copy: &CarriedCopy, router: RouterNo, vif: u8) -> bool
-    ensures { result ≡ is_sender copy.now.sender (router, vif) }
-{
-    match copy.sender {
-        Some((sender, sender_vif)) => sender == router && sender_vif == vif,
-        None => false,
-    }
-}
-
 /// Lets a copy that its LAN carries wait at the LAN's interfaces other than its sender.
 #[inline(always)]
 fn wait_at_hearers(
@@ -66,7 +56,7 @@ fn wait_at_hearers(
 {
     for interface in view.interfaces(copy.lan) {
         let (router, vif) = interface;
-        if !is_sent_by(copy, router, vif) {
+        if !copy.is_sent_by(router, vif) {
             waiting.push_back(WaitingCopy {
                 router,
                 vif,

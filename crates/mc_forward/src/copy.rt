@@ -1,6 +1,9 @@
 //! Copies of a packet: those that LANs carried, those that wait at routers, and where one left the
 //! known domain.
 
+ghost use Rattle.std.specs.Prelude.{◌≡◌};
+ghost use Rattle.mc_theory.specs.Flights.{is_sender};
+
 use mc_topology::{LanNo, RouterNo};
 use std::marker::Model;
 
@@ -23,6 +26,18 @@ impl Model for CarriedCopy {
     ghost view = { λ a. record { lan = a.lan; ttl = a.ttl; sender = a.sender } };
 
     ghost inverse = { λ c. record { lan = c.lan; ttl = c.ttl; sender = c.sender } };
+}
+
+impl CarriedCopy {
+    /// Whether a router's vif sent the copy.
+    pub fn is_sent_by(&self, router: RouterNo, vif: u8) -> bool
+        ensures { result ≡ is_sender self.now.sender (router, vif) }
+    {
+        match self.sender {
+            Some((sender, sender_vif)) => sender == router && sender_vif == vif,
+            None => false,
+        }
+    }
 }
 
 /// A copy that waits to be handled by a router that heard it.

@@ -5,10 +5,10 @@ use Rattle.std.specs.Prelude.{IfSome}
 use Rattle.std.proofs.lemmas.List.{length-map}
 use Rattle.mc_theory.specs.Lists.{In, Distinct}
 use Rattle.mc_theory.specs.Nets.{Net, IsNet, Interface}
-use Rattle.mc_theory.specs.Flights.{Copy, Flight, start, run}
+use Rattle.mc_theory.specs.Flights.{Copy, Flight, source_copy, start, step, run}
 use Rattle.mc_theory.specs.Certificates.{Entry, IsTree, IsSafe, IsReordering, lans}
 use Rattle.mc_theory.specs.Reasons.{entry_at}
-use Rattle.mc_theory.specs.Findings.{Finding, IsTravel, from_lan, handles}
+use Rattle.mc_theory.specs.Findings.{IsTravel, from_lan, handles}
 use Rattle.mc_theory.specs.Findings.Finding.{Clean}
 use Rattle.mc_theory.specs.CertificateOfCopies.{entry_after, entries_after, entries_of, need_after, need_over}
 use Rattle.mc_theory.specs.CertificateOfCopies.{row_pairs, threshold_of}
@@ -18,13 +18,19 @@ use Rattle.mc_theory.proofs.FindingMeaning.{shows-travel_finding}
 use Rattle.mc_theory.proofs.Travels.{in_range-travel, is_tree-from_clean_travel}
 use Rattle.mc_forward.specs.Domains.{DomainValue, IsDomain, net_of}
 use Rattle.mc_forward.proofs.BelowLemmas.{length-of_distinct_below}
-use Rattle.mc_forward.proofs.DomainLemmas.{is_net-net_of, wants-below_lan_count}
+use Rattle.mc_forward.specs.FlightsInDomain.{AreCopiesInDomain, WaitAtRouters}
+use Rattle.mc_forward.proofs.DomainLemmas.{is_net-net_of, source-below_lan_count, wants-below_lan_count}
 use Rattle.mc_cert.specs.Certificate.{IsWritableEntry, IsWritableTree, IsEntryOf}
 use Rattle.mc_replay.specs.declared.travel.Travel.{Travel}
-use Rattle.mc_replay.specs.Travels.{replay_of, IsRunTo}
-use Rattle.mc_maker.specs.Examined.{FindsNothing, first_choices}
+use Rattle.mc_replay.specs.Travels.{first_choices, replay_of, IsRunTo, IsTravelTo}
+use Rattle.mc_replay.specs.CleanRuns.{IsCleanRun}
+use Rattle.mc_maker.specs.Examined.{FindsNothing}
 use Rattle.mc_maker.specs.Examined.{AreCleanCopies}
-use Rattle.mc_forward.proofs.CopiesInDomainLemmas.{all-from_each_member}
+use Rattle.mc_forward.proofs.CopiesInDomainLemmas.{ArePlacedBelow, all-from_each_member}
+use Rattle.mc_forward.proofs.CopiesInDomainLemmas.{are_placed_below-domain, copies_in_domain-none}
+use Rattle.mc_forward.proofs.CopiesInDomainLemmas.{copies_in_domain-put, copies_in_domain-step}
+use Rattle.mc_forward.proofs.WaitAtRouterLemmas.{wait_at_routers-none, wait_at_routers-put}
+use Rattle.mc_forward.proofs.WaitAtRouterLemmas.{wait_at_routers-step}
 use Rattle.mc_maker.proofs.FilledLemmas.{each_in-all}
 
 -- ---- of each entry
@@ -86,35 +92,70 @@ entries_of-needs_at_most_255 n count picks net travel e h =
     named.1 (sym c.2 ∙ sym named.2.lan) in
     subst (λ (x : Entry). x.need ≤ 255) (sym same) named.2.need
 
--- the copies of a travel at TTL 255 that finds nothing are clean
-pub are_clean_copies-of_travel : (d a : DomainValue) (flow : ℕ) (t : Travel) (g : Flight) (cs : List Copy)
-    → IsDomain d → a ≡ d
-    → IsRunTo (replay_of d flow 255 first_choices) t g → FindsNothing t → cs ≡ g.carried
-    → All (λ (c : Copy). c.lan < length a.topology.lans) cs
-    → All (λ (c : Copy). IfSome c.sender (λ i. i.0 < length a.topology.routers)) cs
-    → AreCleanCopies d flow cs
-are_clean_copies-of_travel d a flow t g cs ok same is none carried on by =
+-- copies in the domain stay so from step to step
+copies_in_domain-run : (n : Net) (lans : ℕ) → ArePlacedBelow n lans → IsNet n → (picks : List ℕ) (f : Flight)
+    → WaitAtRouters n.routers f → AreCopiesInDomain lans n.routers f
+    → AreCopiesInDomain lans n.routers (run n (handles picks) f)
+copies_in_domain-run n lans below net [] f at all = all
+copies_in_domain-run n lans below net (i ∷ picks) f at all =
+    copies_in_domain-run n lans below net picks (step n i f) (wait_at_routers-step n net i f at)
+    (copies_in_domain-step n lans n.routers below i f at all)
+
+-- from the source's copy on
+copies_in_domain-from_start : (d : DomainValue) (flow ttl : ℕ) (picks : List ℕ) → IsDomain d
+    → flow < length d.topology.flows
+    → AreCopiesInDomain (length d.topology.lans) (length d.topology.routers)
+    (run (net_of d flow) (handles picks) (start (net_of d flow) ttl))
+copies_in_domain-from_start d flow ttl picks ok listed =
     let n = net_of d flow in
     let net = is_net-net_of d flow ok in
-    let travel : IsTravel n (length d.topology.lans) [] false is.picks (start n 255) Clean =
-    subst (λ (x : Finding). IsTravel n (length d.topology.lans) [] false is.picks (start n 255) x)
-    none is.travel in
-    let all : cs ≡ (run n (handles is.picks) (start n 255)).carried = carried
-    ∙ ap (λ (f : Flight). f.carried) is.ends in
+    let none : Flight = record { carried = []; waiting = []; strays = [] } in
+    copies_in_domain-run n (length d.topology.lans) (are_placed_below-domain d flow ok) net picks (start n ttl)
+    (wait_at_routers-put n net (source_copy n ttl) none (wait_at_routers-none n.routers none refl))
+    (copies_in_domain-put n (length d.topology.lans) n.routers (source_copy n ttl) none
+    (record { lan = source-below_lan_count d flow ok listed; sender = tt })
+    (copies_in_domain-none (length d.topology.lans) n.routers none refl))
+
+-- a travel that finds nothing is a clean run
+pub is_clean_run-of_travel : (d : DomainValue) (flow : ℕ) (t : Travel) (g : Flight) (cs : List Copy)
+    → IsRunTo (replay_of d flow 255 first_choices) t g → FindsNothing t → cs ≡ g.carried
+    → IsCleanRun (net_of d flow) (length d.topology.lans) 255 cs
+is_clean_run-of_travel d flow t g cs is none carried = record {
+  events = t.events.items;
+  last = g;
+  run = subst (IsTravelTo (net_of d flow) (length d.topology.lans) first_choices (start (net_of d flow) 255)
+      t.events.items g) none is;
+  carried = sym carried;
+}
+
+-- the copies of a run at TTL 255 that finds nothing are clean
+pub are_clean_copies-of_run : (d : DomainValue) (flow : ℕ) (cs : List Copy) → IsDomain d
+    → flow < length d.topology.flows → IsCleanRun (net_of d flow) (length d.topology.lans) 255 cs
+    → AreCleanCopies d flow cs
+are_clean_copies-of_run d flow cs ok listed is =
+    let n = net_of d flow in
+    let net = is_net-net_of d flow ok in
+    let travel : IsTravel n (length d.topology.lans) [] false is.run.picks (start n 255) Clean =
+    is.run.travel in
+    let all : cs ≡ (run n (handles is.run.picks) (start n 255)).carried = sym is.carried
+    ∙ ap (λ (f : Flight). f.carried) is.run.ends in
+    let listed_copies = copies_in_domain-from_start d flow 255 is.run.picks ok listed in
     record {
       tree = subst (λ xs. IsTree n (entries_of n xs)) (sym all)
-          (is_tree-from_clean_travel n (length d.topology.lans) [] false is.picks net travel);
+          (is_tree-from_clean_travel n (length d.topology.lans) [] false is.run.picks net travel);
       needs = subst (λ xs. All (λ (e : Entry). e.need ≤ 255) (entries_of n xs)) (sym all)
           (all-from_each_member (λ (e : Entry). e.need ≤ 255) (entries_of n
-          (run n (handles is.picks) (start n 255)).carried)
-          (entries_of-needs_at_most_255 n (length d.topology.lans) is.picks net travel));
+          (run n (handles is.run.picks) (start n 255)).carried)
+          (entries_of-needs_at_most_255 n (length d.topology.lans) is.run.picks net travel));
       reached = subst (λ xs. (l : ℕ) → n.wants l ≡ true → In l (lans xs)) (sym all)
-          (shows-travel_finding n (length d.topology.lans) 255 [] false is.picks Clean
+          (shows-travel_finding n (length d.topology.lans) 255 [] false is.run.picks Clean
           (λ l w. wants-below_lan_count d flow l ok w) travel).2;
-      lans = subst (λ (x : DomainValue). All (λ (c : Copy). c.lan < length x.topology.lans) cs) same
-          on;
-      senders = subst (λ (x : DomainValue). All (λ (c : Copy). IfSome c.sender
-          (λ i. i.0 < length x.topology.routers)) cs) same by;
+      lans = subst (All (λ (c : Copy). c.lan < length d.topology.lans)) (sym all)
+          (all-from_each_member (λ (c : Copy). c.lan < length d.topology.lans) _
+          (λ c h. (listed_copies c h).lan));
+      senders = subst (All (λ (c : Copy). IfSome c.sender (λ i. i.0 < length d.topology.routers))) (sym all)
+          (all-from_each_member (λ (c : Copy). IfSome c.sender (λ i. i.0 < length d.topology.routers)) _
+          (λ c h. (listed_copies c h).sender));
     }
 
 -- ---- what a certificate can hold

@@ -23,9 +23,7 @@ use Rattle.mc_forward.specs.FlightsInDomain.{FlowOfDomain, IsFlowOfDomain, Fligh
 use Rattle.mc_replay.specs.declared.travel.Travel.{Travel}
 use Rattle.mc_replay.specs.declared.finding.Finding.{Finding as Found}
 use Rattle.mc_replay.specs.FindingValues.{finding_value}
-use Rattle.mc_replay.specs.Travels.{replay_of, IsRunTo}
-use Rattle.mc_maker.specs.Examined.{first_choices, FindsFault, FindsNothing, IsFirstPickTravel}
-use Rattle.mc_maker.specs.Examined.{IsTtlOfFault, AreEntriesOfCleanTravel}
+use Rattle.mc_maker.specs.Examined.{FindsFault, FindsNothing, IsFirstPickTravel, IsTtlOfFault}
 use Rattle.mc_maker.specs.EntriesByLan.{AreEntriesByLan, held_entries, serves}
 use Rattle.mc_maker.specs.Examined.{AreCleanCopies}
 use Rattle.mc_maker.proofs.ListedLemmas.{ascending-held_entries, is_reordering-entries_by_lan}
@@ -118,21 +116,6 @@ pub is_right-accepted : (d : DomainValue) (flow : ℕ) (es : List Entry) → IsD
     → flow < length d.topology.flows → IsAccepted (net_of d flow) es → IsRight (net_of d flow)
 is_right-accepted d flow es ok lt acc = is_right-from_accepted (net_of d flow) es (is_net-net_of d flow ok)
     (ttl-at_least_1 d flow ok lt) acc
-
--- the entries of a travel that finds nothing, in any order, are those of a clean travel
-pub entries_of_clean_travel-reordered : (d : DomainValue) (flow : ℕ) (t : Travel) (g : Flight)
-    (cs : List Copy)
-    (es : List Entry) → IsRunTo (replay_of d flow 255 first_choices) t g → FindsNothing t
-    → IsReordering (entries_of (net_of d flow) cs) es → cs ≡ g.carried → AreEntriesOfCleanTravel d flow es
-entries_of_clean_travel-reordered d flow t g cs es is none made carried =
-    record {
-      travel = t;
-      flight = g;
-      run = is;
-      clean = none;
-      entries =
-          subst (λ xs. IsReordering (entries_of (net_of d flow) xs) es) carried made;
-    }
 
 -- ---- the travels of a right flow
 

@@ -1,16 +1,16 @@
 -- What the result of examining a flow means: the entries of its certificate where the flow is right, and
 -- otherwise a travel that shows a fault, with the TTL of its packet (docs/FORMATS.md, `make`).
-use Rattle.std.specs.Prelude.{◌≡◌, ◌≢◌, ◌↔◌, ◌<◌, ◌≤◌, ℕ, Bool, true, false, All, IfSome, List, [], ⊤}
+use Rattle.std.specs.Prelude.{◌≡◌, ◌≢◌, ◌↔◌, ◌<◌, ◌≤◌, ℕ, Bool, true, false, All, IfSome, List, ⊤}
 use Rattle.std.specs.Prelude.{length}
-use Rattle.mc_theory.specs.Flights.{Copy, Flight}
+use Rattle.mc_theory.specs.Flights.{Copy}
 use Rattle.mc_theory.specs.Lists.{In}
 use Rattle.mc_theory.specs.Certificates.{Entry, IsReordering, IsTree, lans}
-use Rattle.mc_theory.specs.Findings.{Choices}
 use Rattle.mc_theory.specs.Findings.Finding.{Clean}
 use Rattle.mc_theory.specs.CertificateOfCopies.{entries_of}
 use Rattle.mc_forward.specs.Domains.{DomainValue, net_of, ttl_of}
 use Rattle.mc_replay.specs.FindingValues.{finding_value}
-use Rattle.mc_replay.specs.Travels.{replay_of, IsRunTo, IsRunOfChoices}
+use Rattle.mc_replay.specs.Travels.{first_choices, replay_of, IsRunOfChoices}
+use Rattle.mc_replay.specs.CleanRuns.{IsCleanRun}
 use Rattle.mc_replay.specs.declared.travel.Travel.{Travel}
 use Rattle.mc_maker.specs.declared.examination.Examined.{Examined}
 use Rattle.mc_maker.specs.declared.examination.Examined.TheVariants.{Certified, Found}
@@ -44,10 +44,6 @@ is_certified (Found ttl travel) = false
 
 -- ---- travels in which the first waiting copy is handled each time
 
--- the choices of a picker that always takes the first waiting copy
-abbrev pub first_choices : Choices
-first_choices = record { numbers = []; last = false }
-
 -- The travel is that of a packet of the flow with this TTL.
 abbrev pub IsFirstPickTravel : DomainValue → (flow ttl : ℕ) → Travel → Type 0
 IsFirstPickTravel domain flow ttl travel = IsRunOfChoices (replay_of domain flow ttl first_choices) travel
@@ -77,8 +73,6 @@ pub record IsTtlOfFault (domain : DomainValue) (flow ttl : ℕ) : Type 0 where
 -- some order: each has its copy's LAN, as its rank 255 less its copy's TTL, and its copy's sender as its
 -- forwarder.
 pub record AreEntriesOfCleanTravel (domain : DomainValue) (flow : ℕ) (es : List Entry) : Type 0 where
-  pub travel : Travel
-  pub flight : Flight
-  pub run : IsRunTo (replay_of domain flow 255 first_choices) travel flight
-  pub clean : FindsNothing travel
-  pub entries : IsReordering (entries_of (net_of domain flow) flight.carried) es
+  pub copies : List Copy
+  pub run : IsCleanRun (net_of domain flow) (length domain.topology.lans) 255 copies
+  pub entries : IsReordering (entries_of (net_of domain flow) copies) es

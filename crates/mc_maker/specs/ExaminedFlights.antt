@@ -2,9 +2,9 @@
 -- which an audit explains a fault.
 use Rattle.std.specs.Prelude.{◌≡◌, ℕ, ⊤}
 use Rattle.mc_forward.specs.Domains.{DomainValue, ttl_of}
-use Rattle.mc_replay.specs.Travels.{IsRunTo, replay_of}
+use Rattle.mc_replay.specs.Travels.{IsRunTo, first_choices, replay_of}
 use Rattle.mc_replay.specs.declared.travel.FinishedTravel.{FinishedTravel}
-use Rattle.mc_maker.specs.Examined.{FindsNothing, first_choices}
+use Rattle.mc_maker.specs.Examined.{FindsNothing}
 use Rattle.mc_maker.specs.declared.examination.Examined.{Examined}
 use Rattle.mc_maker.specs.declared.examination.Examined.TheVariants as examined
 use Rattle.mc_maker.specs.declared.examined_flights.ExaminedFlights.{ExaminedFlights}

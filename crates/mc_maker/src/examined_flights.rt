@@ -16,8 +16,8 @@ ghost use Rattle.mc_maker.specs.ExaminedFlights.{HasExaminedFlights, without_fli
 use crate::entries::{entries_by_lan, entries_in_lan_order};
 use crate::served::serves_all;
 use mc_cert::Reached;
-use mc_forward::{CarriedCopy, Domain, FlowWithRows};
-use mc_replay::{Finding, FinishedTravel, First, Travel, replay_to_end};
+use mc_forward::{CarriedCopy, Domain, FlowView, FlowWithRows};
+use mc_replay::{Finding, FinishedTravel, First, Travel, clean_copies, replay_to_end};
 use mc_text::Memory;
 use std::alloc::Global;
 
@@ -66,6 +66,29 @@ fn certificate_of(
     Ok(Some(entries))
 }
 
+/// The entries of the flow's certificate, if its packet with TTL 255 meets no fault and each LAN that wants
+/// it is served. There may be none also of a right flow.
+fn certify(alloc: Global, domain: &Domain, flow: u32) -> Result<Option<Vec<Reached>>, Memory>
+    requires known { flow < length domain.now.topology.flows }
+    ensures accepted { IfOk result (λ made. IfSome made (λ entries.
+        IsAccepted (net_of domain.now flow) entries.items)) }
+    ensures ascending { IfOk result (λ made. IfSome made (λ entries.
+        IsStrictlyIncreasing (map (λ entry. entry.lan) entries.items))) }
+    ensures listed { IfOk result (λ made. IfSome made (λ entries.
+        All (IsEntryOf domain.now.topology) entries.items)) }
+    ensures writable { IfOk result (λ made. IfSome made (λ entries. IsWritableTree entries.items)) }
+    ensures made { IfOk result (λ made. IfSome made (λ entries.
+        AreEntriesOfCleanTravel domain.now flow entries.items)) }
+{
+    // This brings the domain's rules into the proof.
+    let _rules = domain.topology();
+    let rows = FlowWithRows::new(alloc, FlowView::new(domain, flow))?;
+    let Some(copies) = clean_copies(alloc, &rows, 255)? else {
+        return Ok(None);
+    };
+    certificate_of(alloc, &rows, &copies)
+}
+
 /// Examines the flow with this number, counted from 0, as [`examine`](crate::examine) does, and returns
 /// the flights too.
 ///
@@ -109,6 +132,9 @@ pub fn examine_to_end<'d>(
         ↔ IsRight (net_of domain.now flow)) }
 {
     let topology = domain.topology();
+    if let Some(entries) = certify(alloc, domain, flow)? {
+        return Ok(ExaminedFlights::Certified(entries));
+    }
     let greatest = replay_to_end(alloc, domain, flow, 255, &mut First)?;
     let Finding::Clean = greatest.travel.finding else {
         return Ok(ExaminedFlights::FoundAtTtl255(greatest));

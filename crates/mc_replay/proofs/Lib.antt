@@ -6,3 +6,4 @@ pub mod ShownLemmas
 pub mod ClosedNetLemmas
 pub mod PastStraysLemmas
 pub mod PastRunLemmas
+pub mod CleanRunLemmas

@@ -193,7 +193,7 @@ prepend_event-handled n None e es h = absurd cc
 prepend_event-handled n (Some w) e es h = let same : event_of n w ≡ e = cc in ap (λ x. x ∷ es) (sym same)
 
 -- the travel from a flight without a finding is its next event and the travel from then on
-is_travel_to-cons : (n : Net) (lans : ℕ) (c : Choices) (f : Flight) (pick : ℕ) (e : Event)
+pub is_travel_to-cons : (n : Net) (lans : ℕ) (c : Choices) (f : Flight) (pick : ℕ) (e : Event)
     (more : List Event) (g : Flight) (x : Finding)
     → finding n lans f ≡ None → pick ≡ choice (length f.waiting) c.numbers c.last
     → option_map (event_of n) (slice_get f.waiting pick) ≡ Some e

@@ -1,5 +1,6 @@
 pub mod FindingValues
 pub mod Travels
+pub mod CleanRuns
 pub mod TravelText
 pub mod PastStrays
 pub use Rattle.mc_theory.specs.Nets

@@ -1,6 +1,6 @@
 -- What a travel means: the run of a packet by a picker's choices, up to the first flight that has a finding.
 -- Its words are those of mc_theory: Flights, Findings and FindingMeaning.
-use Rattle.std.specs.Prelude.{◌≡◌, ◌≢◌, ℕ, ◌≤◌, List, length}
+use Rattle.std.specs.Prelude.{◌≡◌, ◌≢◌, ℕ, ◌≤◌, false, List, [], length}
 use Rattle.mc_theory.specs.Nets.{Net, placed_interfaces}
 use Rattle.mc_theory.specs.Flights.{Flight, run, start}
 use Rattle.mc_theory.specs.Certificates.{IsRight}
@@ -22,6 +22,10 @@ pub record Replay : Type 0 where
   pub ttl : ℕ
   -- the order in which copies are handled, by what the picker chooses
   pub choices : Choices
+
+-- the choices of a picker that always takes the first waiting copy
+abbrev pub first_choices : Choices
+first_choices = record { numbers = []; last = false }
 
 -- the replay of a packet of a domain's flow, sent with this TTL, by these choices
 abbrev pub replay_of : DomainValue → (flow ttl : ℕ) → Choices → Replay

@@ -55,7 +55,7 @@ fn misses_any_lan(view: &FlowView<'_>, firsts: &PerLan<CarriedCopy>) -> bool
 }
 
 /// The lowest LAN that wants the flow and carried no copy.
-fn missed(view: &FlowView<'_>, firsts: &PerLan<CarriedCopy>) -> Option<LanNo>
+pub(crate) fn missed(view: &FlowView<'_>, firsts: &PerLan<CarriedCopy>) -> Option<LanNo>
     ensures { (copies : List Copy) → HoldsFirstOfEachKey (λ copy. copy.lan) firsts.now copies → result ≡
         missed (net_in view.now) copies
         (below (length view.now.domain.topology.lans)) }

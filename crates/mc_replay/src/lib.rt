@@ -2,6 +2,7 @@
 //! picker chooses, up to the first flight with a finding.
 #![tactic(auto)]
 
+mod clean_run;
 mod finding;
 mod first_copies;
 mod flight_finding;
@@ -10,6 +11,7 @@ mod picker;
 mod shown;
 mod travel;
 
+pub use clean_run::clean_copies;
 pub use finding::Finding;
 pub use first_copies::{record_first_copies, sender_on};
 pub use past_strays::{FlightPastStrays, run_past_strays};

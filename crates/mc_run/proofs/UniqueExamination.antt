@@ -1,18 +1,19 @@
 -- The result of examining a flow is determined: its entries, or its travels.
-use Rattle.std.proofs.Common.{◌≡◌, ◌≢◌, ℕ, true, false, List, length, map, refl, ap, subst, ◌∙◌}
+use Rattle.std.proofs.Common.{◌≡◌, ◌≢◌, ℕ, true, false, List, length, map, refl, ap, subst, sym, ◌∙◌}
 use Rattle.std.specs.Prelude.{◌↔◌, IsTrue}
 use Rattle.std.specs.List.Sorted.{IsStrictlyIncreasing}
 use Rattle.std.proofs.lemmas.Bool.{false≢true}
 use Rattle.mc_theory.specs.Certificates.{Entry, IsReordering, IsRight}
 use Rattle.mc_theory.specs.Events.{events}
 use Rattle.mc_theory.specs.Findings.{Finding as FindingValue, finding}
-use Rattle.mc_theory.specs.Flights.{Flight, run, start}
+use Rattle.mc_theory.specs.Flights.{Copy, Flight, run, start}
 use Rattle.mc_theory.specs.CertificateOfCopies.{entries_of}
 use Rattle.mc_forward.specs.Domains.{DomainValue, net_of, ttl_of}
 use Rattle.mc_replay.specs.FindingValues.{finding_value}
 use Rattle.mc_replay.specs.declared.finding.Finding.TheVariants.{Clean}
 use Rattle.mc_replay.specs.declared.travel.FinishedTravel.{FinishedTravel}
-use Rattle.mc_maker.specs.Examined.{AreEntriesOfCleanTravel, first_choices}
+use Rattle.mc_replay.specs.Travels.{first_choices}
+use Rattle.mc_maker.specs.Examined.{AreEntriesOfCleanTravel}
 use Rattle.mc_maker.specs.ExaminedFlights.{IsFinishedTravelOf, HasExaminedFlights, without_flights}
 use Rattle.mc_maker.specs.declared.examined_flights.ExaminedFlights.{ExaminedFlights}
 use Rattle.mc_maker.specs.declared.examined_flights.ExaminedFlights.TheVariants.{Certified, FoundAtTtl255}
@@ -36,13 +37,14 @@ entries_of_clean_travel-unique : (d : DomainValue) (flow : ℕ) (xs ys : List En
     → IsStrictlyIncreasing (map (λ (e : Entry). e.lan) ys) → xs ≡ ys
 entries_of_clean_travel-unique d flow xs ys p q up rises =
     let n = net_of d flow in
-    let same = is_travel_to-unique n (length d.topology.lans) first_choices (start n 255) p.flight q.flight
-    p.travel.events.items q.travel.events.items (finding_value p.travel.finding)
-    (finding_value q.travel.finding) p.run q.run in
-    let to_flight : IsReordering (entries_of n q.flight.carried) xs =
-    subst (λ (f : Flight). IsReordering (entries_of n f.carried) xs) same.1 p.entries in
-    entries_by_lan-unique xs ys up rises (λ e there. q.entries.to e (to_flight.from e there))
-    (λ e there. to_flight.to e (q.entries.from e there))
+    let same = is_travel_to-unique n (length d.topology.lans) first_choices (start n 255) p.run.last q.run.last
+    p.run.events q.run.events FindingValue.Clean FindingValue.Clean p.run.run q.run.run in
+    let copies : p.copies ≡ q.copies =
+    sym p.run.carried ∙ ap (λ (f : Flight). f.carried) same.1 ∙ q.run.carried in
+    let to_copies : IsReordering (entries_of n q.copies) xs =
+    subst (λ (cs : List Copy). IsReordering (entries_of n cs) xs) copies p.entries in
+    entries_by_lan-unique xs ys up rises (λ e there. q.entries.to e (to_copies.from e there))
+    (λ e there. to_copies.to e (q.entries.from e there))
 
 -- one that isn't right isn't certified
 certified-not_wrong : (W : Type 0) → IsTrue true ↔ W → IsTrue false ↔ W → ⊥

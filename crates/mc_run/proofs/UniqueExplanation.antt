@@ -18,7 +18,7 @@ use Rattle.mc_forward.specs.ListedTables.{facts}
 use Rattle.mc_forward.proofs.DomainLemmas.{is_net-net_of}
 use Rattle.mc_replay.specs.FindingValues.{finding_value}
 use Rattle.mc_replay.specs.declared.finding.Finding.{Finding}
-use Rattle.mc_maker.specs.Examined.{first_choices}
+use Rattle.mc_replay.specs.Travels.{first_choices}
 use Rattle.mc_maker.specs.declared.examined_flights.ExaminedFlights.{ExaminedFlights}
 use Rattle.mc_maker.specs.declared.examined_flights.ExaminedFlights.TheVariants.{Certified, FoundAtTtl255}
 use Rattle.mc_maker.specs.declared.examined_flights.ExaminedFlights.TheVariants.{FoundAtFlowTtl}

@@ -15,7 +15,7 @@ use Rattle.mc_replay.specs.Travels.{IsTravelTo}
 use Rattle.mc_replay.specs.declared.finding.Finding.{Finding}
 use Rattle.mc_replay.specs.declared.finding.Finding.TheVariants.{Clean, Duplicate, Loop, Stray, Missed}
 use Rattle.mc_replay.specs.declared.travel.FinishedTravel.{FinishedTravel}
-use Rattle.mc_maker.specs.Examined.{first_choices}
+use Rattle.mc_replay.specs.Travels.{first_choices}
 use Rattle.mc_maker.specs.ExaminedFlights.{IsFinishedTravelOf}
 
 -- ---- entries by ascending numbers of their LANs

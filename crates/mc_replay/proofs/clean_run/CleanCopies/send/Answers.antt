@@ -1,0 +1,1 @@
+-- A copy is sent on where its time to live exceeds the threshold.

@@ -16,7 +16,7 @@ pub record IsCleanRun (net : Net) (lans ttl : ℕ) (copies : List Copy) : Type 0
   pub run : IsTravelTo net lans first_choices (start net ttl) events last Clean
   pub carried : last.carried ≡ copies
 
--- ---- on the way there
+-- ---- on the way there: only contracts of private functions use what follows
 
 -- the copies of a packet so far, and how many LANs there are
 pub record CopiesSoFar : Type 0 where

@@ -1,7 +1,8 @@
 #!/usr/bin/env python3
 """Builds the library of the crate in this folder as `rt lib` does, beside others that stand on the same libraries.
 
-usage: python3 ../beside.py      in the folder of a crate; it ends with the process that began it
+usage: python3 ../beside.py WORD..    in the folder of a crate, with words for `rt lib`; it ends with the process that
+                                      began it
 
 `rt` locks the folder of a crate and those of all libraries that it stands on against any other `rt`, so that it would
 prove two libraries over a third one after the other. But it only reads those below, where they are built. So their
@@ -55,8 +56,8 @@ def main():
         rt = load_rt()
         rt.rtlib.lock, run = lock, rt.main
     except (SyntaxError, ValueError, AttributeError):
-        os.execlp("rt", "rt", "lib")
-    return run(["lib"])
+        os.execlp("rt", "rt", "lib", *sys.argv[1:])
+    return run(["lib", *sys.argv[1:]])
 
 
 if __name__ == "__main__":

@@ -7,7 +7,8 @@ Each is proved by `rt lib` (beside.py), which knows by checksums what is proved 
 has changed, in the library or below it. So a run that follows one that was ended goes on where that was. N libraries
 are proved at once: if not given, as many as there are processors and 4 GB of free memory each, at most 4. Those above
 which most is left to prove, one after the other, begin first, and those that are proved beside them have a lower
-priority, since each has more jobs than there are processors for all.
+priority. A check has two jobs where the processors do for that, and one where they don't: more take longer beside
+others, and far more processor time, since each loads all that the library stands on.
 
 A line says when a library is proved, and what that took. Where one isn't, what `rt` said of it follows on standard
 error; then no other begins, those that have begun may end, and the status is 1.
@@ -25,6 +26,7 @@ HERE = os.path.dirname(os.path.abspath(__file__))
 LIST = os.path.join(os.path.dirname(HERE), "crates.txt")
 CORES = len(os.sched_getaffinity(0))
 MOST = 4  # more gain nothing, since most libraries stand on one another
+MOST_JOBS = 2  # of one check
 MEMORY_OF_CHECK = 4_000_000_000
 NICER = 5  # how much lower the priority is beside each library above which more is left
 
@@ -43,6 +45,11 @@ def free_memory():
 def checks_at_once(most=CORES):
     """How many checks may run at once: one a processor and as many as memory holds, but one in any case."""
     return max(1, min(most, CORES, free_memory() // MEMORY_OF_CHECK))
+
+
+def jobs_of_each(libraries):
+    """How many jobs a check has where so many libraries are proved at once: its share of the processors, rounded up."""
+    return min(MOST_JOBS, -(-CORES // libraries))
 
 
 def stands_on():
@@ -98,15 +105,16 @@ class Run:
 
     def begin(self):
         """Begins with those that can be proved now, if none has failed."""
-        for name in self.waiting[:] if not self.failed else []:
-            if len(self.running) < self.jobs and self.proved.issuperset(self.libraries[name]):
-                self.waiting.remove(name)
-                said = tempfile.TemporaryFile()
-                words = [sys.executable, os.path.join(HERE, "beside.py")]
-                how = {"cwd": os.path.join(HERE, name), "stdin": subprocess.DEVNULL}
-                process = subprocess.Popen(words, stdout=said, stderr=subprocess.STDOUT, **how)
-                os.setpriority(os.PRIO_PROCESS, process.pid, os.nice(0) + NICER * self.before(name))
-                self.running[process.pid] = name, process, said, time.monotonic()
+        can_begin = [it for it in self.waiting if self.proved.issuperset(self.libraries[it]) and not self.failed]
+        at_once = min(self.jobs, len(self.running) + len(can_begin))
+        for name in can_begin[:self.jobs - len(self.running)]:
+            self.waiting.remove(name)
+            said = tempfile.TemporaryFile()
+            words = [sys.executable, os.path.join(HERE, "beside.py"), "--jobs", str(jobs_of_each(at_once))]
+            how = {"cwd": os.path.join(HERE, name), "stdin": subprocess.DEVNULL}
+            process = subprocess.Popen(words, stdout=said, stderr=subprocess.STDOUT, **how)
+            os.setpriority(os.PRIO_PROCESS, process.pid, os.nice(0) + NICER * self.before(name))
+            self.running[process.pid] = name, process, said, time.monotonic()
 
     def before(self, name):
         """How many are being proved above which more is left than above this one."""

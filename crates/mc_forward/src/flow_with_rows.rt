@@ -64,11 +64,7 @@ fn rows_of<'d>(alloc: Global, view: &FlowView<'d>) -> Result<Vec<RowFor<'d>>, Me
 
 impl<'d> FlowWithRows<'d> {
     /// Looks up the rows of a flow.
-    ///
-    /// # Errors
-    ///
-    /// `Memory` where a growth was refused.
-    pub fn new(alloc: Global, view: FlowView<'d>) -> Result<FlowWithRows<'d>, Memory>
+    pub(crate) fn new(alloc: Global, view: FlowView<'d>) -> Result<FlowWithRows<'d>, Memory>
         ensures { IfOk result (λ flow. flow ≡ view.entry) }
     {
         let rows = rows_of(alloc, &view)?;

@@ -23,7 +23,7 @@ use Rattle.mc_forward.proofs.DomainLemmas.{is_net-net_of, source-below_lan_count
 use Rattle.mc_cert.specs.Certificate.{IsWritableEntry, IsWritableTree, IsEntryOf}
 use Rattle.mc_replay.specs.declared.travel.Travel.{Travel}
 use Rattle.mc_replay.specs.Travels.{first_choices, replay_of, IsRunTo, IsTravelTo}
-use Rattle.mc_replay.specs.CleanRuns.{IsCleanRun}
+use Rattle.mc_maker.specs.CleanRuns.{IsCleanRun}
 use Rattle.mc_maker.specs.Examined.{FindsNothing}
 use Rattle.mc_maker.specs.Examined.{AreCleanCopies}
 use Rattle.mc_forward.proofs.CopiesInDomainLemmas.{ArePlacedBelow, all-from_each_member}

@@ -1,7 +1,7 @@
 -- What the result of examining a flow means, by its travels.
 use Rattle.std.proofs.Common.{◌≡◌, ◌≢◌, ℕ, ◌≤◌, ◌<◌, All, Bool, true, false, List, [], ◌∷◌, map, length}
 use Rattle.std.proofs.Common.{Option, Some, None, refl, ap, sym, subst, ◌∙◌}
-use Rattle.std.specs.Prelude.{option_map, slice_get, unwrap_or}
+use Rattle.std.specs.Prelude.{IfSome, option_map, slice_get, unwrap_or}
 use Rattle.std.specs.List.Sorted.{IsStrictlyIncreasing}
 use Rattle.mc_theory.specs.Lists.{In}
 use Rattle.mc_theory.specs.Nets.{Net}
@@ -16,6 +16,7 @@ use Rattle.mc_theory.proofs.ReorderedEntries.{is_tree-reordering, is_served-reor
 use Rattle.mc_theory.proofs.ReachedLans.{is_right-from_accepted}
 use Rattle.mc_theory.proofs.Travels.{is_accepted-from_clean_travels, is_clean-iff_served}
 use Rattle.mc_theory.proofs.Travels.{not_right-from_fault_finding}
+use Rattle.mc_cert.specs.Certificate.{IsEntryOf, IsWritableTree}
 use Rattle.mc_forward.specs.Domains.{DomainValue, IsDomain, net_of, ttl_of}
 use Rattle.mc_forward.proofs.DomainLemmas.{is_net-net_of, wants-below_lan_count, ttl-at_least_1}
 use Rattle.mc_forward.proofs.DomainLemmas.{ttl-at_most_255}
@@ -25,7 +26,10 @@ use Rattle.mc_replay.specs.declared.finding.Finding.{Finding as Found}
 use Rattle.mc_replay.specs.FindingValues.{finding_value}
 use Rattle.mc_maker.specs.Examined.{FindsFault, FindsNothing, IsFirstPickTravel, IsTtlOfFault}
 use Rattle.mc_maker.specs.EntriesByLan.{AreEntriesByLan, held_entries, serves}
-use Rattle.mc_maker.specs.Examined.{AreCleanCopies}
+use Rattle.mc_maker.specs.Examined.{AreCleanCopies, AreEntriesOfCleanTravel}
+use Rattle.mc_maker.specs.CleanRuns.{AreEntriesOfCleanRun}
+use Rattle.mc_maker.proofs.CleanLemmas.{all_of_topology-reordered, are_clean_copies-of_run}
+use Rattle.mc_maker.proofs.CleanLemmas.{is_writable_tree-reordered, lans_below_count-reordered}
 use Rattle.mc_maker.proofs.ListedLemmas.{ascending-held_entries, is_reordering-entries_by_lan}
 use Rattle.mc_maker.proofs.ServedLemmas.{is_served-each, is_served-not}
 
@@ -211,3 +215,55 @@ finds_fault-held_entries f cs by_lan es rules clean is held low t travel =
     finds_fault-not_served f.domain f.flow cs t rules.domain rules.flow clean
     (is_served-not (net_in f) cs es (is_reordering-held_entries f cs by_lan es clean is held) low.0
     clean.tree.one_entry low.1 low.2) travel
+
+-- ---- the entries of a clean run
+
+-- its copies are clean
+are_clean_copies-of_entries : (d : DomainValue) (flow : ℕ) (es : List Entry) → IsDomain d
+    → flow < length d.topology.flows
+    → (is : AreEntriesOfCleanRun (net_of d flow) (length d.topology.lans) es)
+    → AreCleanCopies d flow is.copies
+are_clean_copies-of_entries d flow es ok listed is = are_clean_copies-of_run d flow is.copies ok listed is.run
+
+-- the entries are those of its copies, in another order
+pub is_reordering-of_clean_run : (d : DomainValue) (flow : ℕ) (es : List Entry) → IsDomain d
+    → flow < length d.topology.flows
+    → (is : AreEntriesOfCleanRun (net_of d flow) (length d.topology.lans) es)
+    → IsReordering (entries_of (net_of d flow) is.copies) es
+is_reordering-of_clean_run d flow es ok listed is =
+    is_reordering-held_entries (record { domain = d; flow = flow }) is.copies is.by_lan es
+    (are_clean_copies-of_entries d flow es ok listed is) is.places is.held
+
+-- they keep the rules of a certificate: where they also serve each LAN that wants the flow, they are accepted
+pub entries-of_clean_run : (d : DomainValue) (flow : ℕ) (es : List Entry) → IsDomain d
+    → flow < length d.topology.flows → AreEntriesOfCleanRun (net_of d flow) (length d.topology.lans) es
+    → (All (λ (e : Entry). serves (net_of d flow) e ≡ true) es → IsAccepted (net_of d flow) es)
+    × IsStrictlyIncreasing (map (λ (e : Entry). e.lan) es) × All (IsEntryOf d.topology) es
+    × IsWritableTree es × AreEntriesOfCleanTravel d flow es
+entries-of_clean_run d flow es ok listed is =
+    let f : FlowOfDomain = record { domain = d; flow = flow } in
+    let clean = are_clean_copies-of_entries d flow es ok listed is in
+    let made = is_reordering-of_clean_run d flow es ok listed is in (
+      is_accepted-held_entries f is.copies is.by_lan es clean is.places is.held,
+      ascending-entries_by_lan f is.copies is.by_lan es is.places is.held,
+      all_of_topology-reordered d flow is.copies es clean made,
+      is_writable_tree-reordered d flow is.copies es ok clean made,
+      record { copies = is.copies; run = is.run; entries = made },
+    )
+
+-- what was found of the flow's view
+pub found-of_flow : {V : Type 0} (items : V → List Entry) (d : DomainValue) (flow : ℕ) (f : FlowOfDomain)
+    (found : Option V) (x : V) → f ≡ record { domain = d; flow = flow }
+    → IfSome found (λ v. AreEntriesOfCleanRun (net_in f) (length f.domain.topology.lans) (items v))
+    → found ≡ Some x → AreEntriesOfCleanRun (net_of d flow) (length d.topology.lans) (items x)
+found-of_flow {V} items d flow f found x same all is =
+    subst (λ (o : Option V). IfSome o (λ v. AreEntriesOfCleanRun (net_of d flow) (length d.topology.lans)
+    (items v))) is (rw same at all)
+
+-- and their LANs are the topology's
+pub lans_below_count-of_clean_run : (d : DomainValue) (flow : ℕ) (es : List Entry) → IsDomain d
+    → flow < length d.topology.flows → AreEntriesOfCleanRun (net_of d flow) (length d.topology.lans) es
+    → All (λ (e : Entry). e.lan < length d.topology.lans) es
+lans_below_count-of_clean_run d flow es ok listed is =
+    lans_below_count-reordered d flow is.copies es (are_clean_copies-of_entries d flow es ok listed is)
+    (is_reordering-of_clean_run d flow es ok listed is)

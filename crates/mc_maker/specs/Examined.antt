@@ -10,7 +10,7 @@ use Rattle.mc_theory.specs.CertificateOfCopies.{entries_of}
 use Rattle.mc_forward.specs.Domains.{DomainValue, net_of, ttl_of}
 use Rattle.mc_replay.specs.FindingValues.{finding_value}
 use Rattle.mc_replay.specs.Travels.{first_choices, replay_of, IsRunOfChoices}
-use Rattle.mc_replay.specs.CleanRuns.{IsCleanRun}
+use Rattle.mc_maker.specs.CleanRuns.{IsCleanRun}
 use Rattle.mc_replay.specs.declared.travel.Travel.{Travel}
 use Rattle.mc_maker.specs.declared.examination.Examined.{Examined}
 use Rattle.mc_maker.specs.declared.examination.Examined.TheVariants.{Certified, Found}

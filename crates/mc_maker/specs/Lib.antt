@@ -1,6 +1,7 @@
 pub mod Examined
 pub mod ExaminedFlights
 pub mod EntriesByLan
+pub mod CleanRuns
 pub use Rattle.mc_theory.specs.Nets
 pub use Rattle.mc_theory.specs.Flights
 pub use Rattle.mc_theory.specs.Certificates

@@ -13,11 +13,12 @@ ghost use Rattle.mc_maker.specs.Examined.{AreEntriesOfCleanTravel};
 ghost use Rattle.mc_maker.specs.Examined.{IsFirstPickTravel, IsTtlOfFault, is_certified};
 ghost use Rattle.mc_maker.specs.ExaminedFlights.{HasExaminedFlights, without_flights};
 
+use crate::clean_run::clean_entries;
 use crate::entries::{entries_by_lan, entries_in_lan_order};
 use crate::served::serves_all;
 use mc_cert::Reached;
 use mc_forward::{CarriedCopy, Domain, FlowView, FlowWithRows};
-use mc_replay::{Finding, FinishedTravel, First, Travel, clean_copies, replay_to_end};
+use mc_replay::{Finding, FinishedTravel, First, Travel, replay_to_end};
 use mc_text::Memory;
 use std::alloc::Global;
 
@@ -82,11 +83,14 @@ fn certify(alloc: Global, domain: &Domain, flow: u32) -> Result<Option<Vec<Reach
 {
     // This brings the domain's rules into the proof.
     let _rules = domain.topology();
-    let rows = FlowWithRows::new(alloc, FlowView::new(domain, flow))?;
-    let Some(copies) = clean_copies(alloc, &rows, 255)? else {
+    let view = FlowView::new(domain, flow);
+    let Some(entries) = clean_entries(alloc, &view)? else {
         return Ok(None);
     };
-    certificate_of(alloc, &rows, &copies)
+    if !serves_all(&view, &entries) {
+        return Ok(None);
+    }
+    Ok(Some(entries))
 }
 
 /// Examines the flow with this number, counted from 0, as [`examine`](crate::examine) does, and returns

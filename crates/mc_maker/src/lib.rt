@@ -2,6 +2,7 @@
 //! shows what is wrong.
 #![tactic(auto)]
 
+mod clean_run;
 mod entries;
 mod examination;
 mod examined_flights;

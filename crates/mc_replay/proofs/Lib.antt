@@ -6,4 +6,3 @@ pub mod ShownLemmas
 pub mod ClosedNetLemmas
 pub mod PastStraysLemmas
 pub mod PastRunLemmas
-pub mod CleanRunLemmas

@@ -1,6 +1,8 @@
 -- The replayer's findings as values of the theory (Findings of mc_theory).
-use Rattle.std.specs.Prelude.{Option, Some, None}
-use Rattle.mc_theory.specs.Findings.{Finding as FindingValue}
+use Rattle.std.specs.Prelude.{◌≡◌, ℕ, List, Option, Some, None, is_some}
+use Rattle.mc_theory.specs.Flights.{Copy}
+use Rattle.mc_theory.specs.Findings.{Finding as FindingValue, first_copy_on}
+use Rattle.mc_forward.specs.PerLan.{item_on_lan}
 use Rattle.mc_replay.specs.declared.finding.Finding.{Finding}
 use Rattle.mc_replay.specs.declared.finding.Finding.TheVariants.{Clean, Duplicate, Loop, Stray}
 use Rattle.mc_replay.specs.declared.finding.Finding.TheVariants.{Missed}
@@ -17,3 +19,8 @@ finding_value (Missed lan) = FindingValue.Missed lan
 abbrev pub optional_finding_value : Option Finding → Option FindingValue
 optional_finding_value None = None
 optional_finding_value (Some finding) = Some (finding_value finding)
+
+-- There is an item for a LAN exactly where that carried one of these copies.
+abbrev pub HasItemWhereCarried : {A : Type 0} → List (Option A) → List Copy → Type 0
+HasItemWhereCarried places copies =
+    (lan : ℕ) → is_some (item_on_lan places lan) ≡ is_some (first_copy_on copies lan)

@@ -1,6 +1,5 @@
 pub mod FindingValues
 pub mod Travels
-pub mod CleanRuns
 pub mod TravelText
 pub mod PastStrays
 pub use Rattle.mc_theory.specs.Nets

@@ -5,7 +5,7 @@ ghost use Rattle.mc_theory.specs.Lists.{below};
 ghost use Rattle.mc_theory.specs.Flights.{Copy};
 ghost use Rattle.mc_theory.specs.Findings.{first_double, finding, walk_visits, missed};
 ghost use Rattle.mc_forward.specs.PerLan.{HoldsFirstOfEachKey};
-ghost use Rattle.mc_replay.specs.FindingValues.{optional_finding_value};
+ghost use Rattle.mc_replay.specs.FindingValues.{HasItemWhereCarried, optional_finding_value};
 ghost use Rattle.mc_forward.specs.FlightsInDomain.{net_in};
 
 use crate::finding::Finding;
@@ -39,10 +39,10 @@ pub(crate) fn walk_back_reaches_own_lan(
     false
 }
 
-/// Whether some LAN wants the flow and carried no copy. It tests every LAN without a branch, since a
-/// processor predicts badly which of them want a flow.
-fn misses_any_lan(view: &FlowView<'_>, firsts: &PerLan<CarriedCopy>) -> bool
-    ensures { (copies : List Copy) → HoldsFirstOfEachKey (λ copy. copy.lan) firsts.now copies → result ≡
+/// Whether some LAN wants the flow and carried no copy, by what there is of each LAN that carried one. It tests
+/// every LAN without a branch, since a processor predicts badly which of them want a flow.
+pub fn misses_any_lan<T: Copy>(view: &FlowView<'_>, firsts: &PerLan<T>) -> bool
+    ensures { (copies : List Copy) → HasItemWhereCarried firsts.now copies → result ≡
         is_some (missed (net_in view.now) copies
         (below (length view.now.domain.topology.lans))) }
 {

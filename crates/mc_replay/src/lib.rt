@@ -2,7 +2,6 @@
 //! picker chooses, up to the first flight with a finding.
 #![tactic(auto)]
 
-mod clean_run;
 mod finding;
 mod first_copies;
 mod flight_finding;
@@ -11,9 +10,9 @@ mod picker;
 mod shown;
 mod travel;
 
-pub use clean_run::clean_copies;
 pub use finding::Finding;
 pub use first_copies::{record_first_copies, sender_on};
+pub use flight_finding::misses_any_lan;
 pub use past_strays::{FlightPastStrays, run_past_strays};
 pub use picker::{First, Last, Numbers, Picker};
 pub use shown::{ShownEvent, ShownFinding, shown_event};

@@ -1,5 +1,7 @@
-use Rattle.std.proofs.Common.{◌≡◌, true, false, is_some, sym, ap, ◌∙◌, arith}
-use Rattle.mc_theory.specs.Findings.{first_copy_on}
+use Rattle.std.proofs.Common.{◌≡◌, true, false, is_some, sym, ap, ◌∙◌, arith, length}
+use Rattle.mc_text.proofs.StepLemmas.{None-from_is_some_false}
+use Rattle.mc_theory.specs.Lists.{below}
+use Rattle.mc_theory.specs.Findings.{first_copy_on, missed}
 use Rattle.mc_forward.specs.FlightsInDomain.{net_in}
 use Rattle.mc_forward.proofs.PerLanLemmas.{first_with_key-first_copy_on}
 use Rattle.mc_replay.proofs.MissedLemmas.{missed-below_none, missed-below_more_unwanting}
@@ -40,3 +42,12 @@ loop-number-preserved c = λ copies are.
       | else-wants-via-else-wants w ↦ (let b : n.wants k ≡ false =
           cc in missed-below_more_unwanting n copies k (c.loop-number.invariant copies are) b)
     ])
+
+-- Where no LAN is missed, there is no lowest one.
+pub returns-then-not-misses_any_lan : goal.returns-then-not-misses_any_lan
+returns-then-not-misses_any_lan c = λ copies are.
+    (let none = c.misses_any_lan.ensures copies
+    (λ lan. ap is_some (are lan ∙ first_with_key-first_copy_on copies lan)) in
+    sym (None-from_is_some_false (missed (net_in c.args.view.now) copies
+    (below (length c.args.view.now.domain.topology.lans)))
+    (sym none ∙ c.if-not-misses_any_lan.true)))

@@ -1,1 +1,0 @@
--- A copy is sent on where its time to live exceeds the threshold.

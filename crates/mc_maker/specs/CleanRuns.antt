@@ -1,5 +1,6 @@
 -- A run without a fault in which the first waiting copy is handled each time. The copies of one LAN are then
--- handled after those of the LANs that carried theirs before it, and so they need not be kept while they wait.
+-- handled after those of the LANs that carried theirs before it, and so they need not be kept while they
+-- wait.
 use Rattle.std.specs.Prelude.{◌≡◌, ℕ, ◌-◌, ◌≤◌, List, [], ◌∷◌, ◌++◌, drop, filter, flat_map, length, map, not}
 use Rattle.std.specs.Prelude.{Option, Some, None}
 use Rattle.mc_theory.specs.Nets.{Net, Interface}
@@ -32,8 +33,8 @@ pub record CopiesSoFar : Type 0 where
 abbrev pub heard : Net → List Copy → List Waiting
 heard net copies = flat_map (λ copy. map (waits_at copy.ttl) (hearers net copy)) copies
 
--- The flight in which LANs carried these copies. Some copies wait, and behind them those that were heard of all
--- but the first `handled` copies. There is no stray.
+-- The flight in which LANs carried these copies. Some copies wait, and behind them those that were heard of
+-- all but the first `handled` copies. There is no stray.
 abbrev pub flight_at : Net → List Copy → (handled : ℕ) → List Waiting → Flight
 flight_at net copies handled waiting = record {
   carried = copies;
@@ -67,8 +68,8 @@ abbrev pub waiting_at : Copy → List Interface → List Waiting
 waiting_at copy interfaces =
     map (waits_at copy.ttl) (filter (λ interface. not (is_sender copy.sender interface)) interfaces)
 
--- What goes past those that wait at other interfaces, from the new copies on, goes from the old ones past those
--- that wait at this interface and the others.
+-- What goes past those that wait at other interfaces, from the new copies on, goes from the old ones past
+-- those that wait at this interface and the others.
 pub record GoesPastInterface (net : Net) (copy : Copy) (interface : Interface) (old new : CopiesSoFar)
     : Type 0 where
   pub run : (others : List Interface) (last : CopiesSoFar) → GoesPast net (waiting_at copy others) new last

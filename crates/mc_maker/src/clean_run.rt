@@ -1,6 +1,7 @@
-//! The certificate entries of a packet with TTL 255 that meets no fault, where the first waiting copy is handled
-//! each time. The copies of one LAN are then handled after those of the LANs that carried theirs before it, and
-//! so none needs to be kept while it waits: the entries are made as the packet goes on from one to the next.
+//! The certificate entries of a packet with TTL 255 that meets no fault, where the first waiting copy is
+//! handled each time. The copies of one LAN are then handled after those of the LANs that carried theirs
+//! before it, and so none needs to be kept while it waits: the entries are made as the packet goes on from one
+//! to the next.
 
 ghost use Rattle.std.specs.Prelude.{◌≡◌, ◌<◌, ◌+◌, ◌∷◌, [], IfOk, IfSome, Some, length, map, None, slice_get};
 ghost use Rattle.std.specs.Prelude.{true, All};
@@ -55,8 +56,8 @@ fn entry_over(base: &Reached, router: RouterNo, oif: &Oif, lan: LanNo) -> Reache
     }
 }
 
-/// The entries of the copies that LANs carried, in order, no two of one LAN. Its value in contracts is the list
-/// of them, and how many LANs there are.
+/// The entries of the copies that LANs carried, in order, no two of one LAN. Its value in contracts is the
+/// list of them, and how many LANs there are.
 #[derive(Drop)]
 struct CleanEntries {
     entries: Vec<Reached>,
@@ -294,8 +295,8 @@ impl CleanEntries {
     }
 }
 
-/// The entries of the copies of a flow's packet with TTL 255, in the order of their LANs, if it meets no fault
-/// where the first waiting copy is handled each time. There may be none also where it meets none.
+/// The entries of the copies of a flow's packet with TTL 255, in the order of their LANs, if it meets no
+/// fault where the first waiting copy is handled each time. There may be none also where it meets none.
 ///
 /// # Errors
 ///

@@ -1,4 +1,4 @@
--- The replayer's findings as values of the theory (Findings of mc_theory).
+-- The replayer's findings as values of the theory (Findings of mc_theory), and what one of them is found by.
 use Rattle.std.specs.Prelude.{◌≡◌, ℕ, List, Option, Some, None, is_some}
 use Rattle.mc_theory.specs.Flights.{Copy}
 use Rattle.mc_theory.specs.Findings.{Finding as FindingValue, first_copy_on}

@@ -39,8 +39,8 @@ pub(crate) fn walk_back_reaches_own_lan(
     false
 }
 
-/// Whether some LAN wants the flow and carried no copy, by what there is of each LAN that carried one. It tests
-/// every LAN without a branch, since a processor predicts badly which of them want a flow.
+/// Whether some LAN wants the flow and carried no copy, by what there is of each LAN that carried one. It
+/// tests every LAN without a branch, since a processor predicts badly which of them want a flow.
 pub fn misses_any_lan<T: Copy>(view: &FlowView<'_>, firsts: &PerLan<T>) -> bool
     ensures { (copies : List Copy) → HasItemWhereCarried firsts.now copies → result ≡
         is_some (missed (net_in view.now) copies

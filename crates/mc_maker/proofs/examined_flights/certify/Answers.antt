@@ -1,5 +1,5 @@
--- The entries are those of the copies of a clean run at TTL 255, so they keep the rules of a certificate; that they
--- serve each LAN that wants the flow was tested.
+-- The entries are those of the copies of a clean run at TTL 255, so they keep the rules of a certificate; that
+-- they serve each LAN that wants the flow was tested.
 use Rattle.std.proofs.Common.{◌≡◌, List, true, All, subst}
 use Rattle.mc_theory.specs.Certificates.{Entry}
 use Rattle.mc_forward.specs.Domains.{net_of}

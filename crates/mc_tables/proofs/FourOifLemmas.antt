@@ -8,7 +8,8 @@ use Rattle.std.specs.Char.{is_ascii_digit}
 use Rattle.std.specs.Simd.Lanes.{zip2, mask_l, top}
 use Rattle.std.proofs.lemmas.Bool.{agree_below_at, and_parts, and_from, cases_Bool, leb-true, le-leb}
 use Rattle.std.proofs.lemmas.Bool.{eqb-true}
-use Rattle.std.proofs.lemmas.List.{get_or-map, get_or-take, get_or-drop, length-map, length-take-le}
+use Rattle.std.proofs.Math.ListN.{get_or-append}
+use Rattle.std.proofs.lemmas.List.{get_or-map, get_or-take, get_or-drop, length-append, length-map, length-take-le}
 use Rattle.std.proofs.lemmas.List.{length-drop, drop-drop, append-nil, append_assoc}
 use Rattle.std.proofs.lemmas.Simd.{length-zip2, get_or-zip2, bit_mask_l, mask_l-mod}
 use Rattle.mc_text.specs.Lines.{words_of}
@@ -312,15 +313,31 @@ other_bytes =
 abbrev byte_passes_at : ℕ → ℕ → Bool
 byte_passes_at k b = byte_passes (get_or least_bytes k 0) (get_or range_sizes k 0) (get_or other_bytes k 0) b
 
-pub four_oifs-from_bytes : (line : List ℕ) → 32 ≤ length line → ((k : ℕ) → Fits w8 (get_or line k 0))
-    → eqb (mask_l (map (top 7) (tested_lanes (take 32 line) least_bytes range_sizes other_bytes)) % 2 ^ 64)
+-- the bytes of four outgoing vifs, by two loads of sixteen
+pub lanes-of_four : (line : List ℕ) → 28 ≤ length line
+    → map (λ k. get_or (take 16 line ++ take 16 (drop 12 line)) k 0)
+    (0 ∷ 1 ∷ 2 ∷ 3 ∷ 4 ∷ 5 ∷ 6 ∷ 7 ∷ 8 ∷ 9 ∷ 10 ∷ 11 ∷ 12 ∷ 13 ∷ 14 ∷ 15 ∷ 20 ∷ 21 ∷ 22 ∷ 23 ∷ 24 ∷ 25 ∷
+    26 ∷ 27 ∷ 28 ∷ 29 ∷ 30 ∷ 31 ∷ 16 ∷ 17 ∷ 18 ∷ 19 ∷ [])
+    ≡ take 28 line ++ take 4 (drop 12 line)
+lanes-of_four
+    (b0 ∷ b1 ∷ b2 ∷ b3 ∷ b4 ∷ b5 ∷ b6 ∷ b7 ∷ b8 ∷ b9 ∷ b10 ∷ b11 ∷ b12 ∷ b13 ∷ b14 ∷ b15 ∷ b16 ∷ b17 ∷
+    b18 ∷ b19 ∷ b20 ∷ b21 ∷ b22 ∷ b23 ∷ b24 ∷ b25 ∷ b26 ∷ b27 ∷ rest) long = refl
+lanes-of_four line long = absurd (omega (arith, long))
+
+pub four_oifs-from_bytes : (line more text : List ℕ) → text ≡ take 28 line ++ more → length more ≡ 4
+    → 28 ≤ length line → ((k : ℕ) → Fits w8 (get_or line k 0))
+    → eqb (mask_l (map (top 7) (tested_lanes text least_bytes range_sizes other_bytes)) % 2 ^ 64)
     4294967295 ≡ true → StartsWithFourOifs line
-four_oifs-from_bytes line long fits all =
-    let size = length-take-le 32 line long in
-    let at : (k : ℕ) → k < 32 → 4294967295 / 2 ^ k % 2 ≡ 1 → byte_passes_at k (get_or line k 0) ≡ true =
-    λ k within bit. subst (λ b. byte_passes_at k b ≡ true) (get_or-take 32 line k 0 within)
-    (byte_passes-all_lanes (take 32 line) least_bytes range_sizes other_bytes size refl refl refl all k within
-    bit) in
+four_oifs-from_bytes line more text is four long fits all =
+    let front = length-take-le 28 line long in
+    let size : length text ≡ 32 = ap length is ∙ omega (arith, length-append (take 28 line) more, front, four) in
+    let at : (k : ℕ) → k < 28 → 4294967295 / 2 ^ k % 2 ≡ 1 → byte_passes_at k (get_or line k 0) ≡ true =
+    λ k within bit.
+    let same = ap (λ l. get_or l k 0) is
+    ∙ get_or-append (take 28 line) more 0 k (omega (arith, within, front)) ∙ get_or-take 28 line k 0 within in
+    subst (λ b. byte_passes_at k b ≡ true) same
+    (byte_passes-all_lanes text least_bytes range_sizes other_bytes size refl refl refl all k
+    (omega (arith, within)) bit) in
     record {
       first = printed_oif-from_bytes line 0 fits (at 0 (omega arith) refl) (at 1 (omega arith) refl)
           (at 2 (omega arith) refl) (at 3 (omega arith) refl) (at 4 (omega arith) refl)

@@ -2,7 +2,7 @@
 //! threshold has one digit.
 
 ghost use Rattle.std.specs.Prelude.{◌≡◌, ℕ, List, ◌∷◌, ◌+◌, ◌<◌, ◌≤◌, IfNone, IfOk, IfSome, Ok};
-ghost use Rattle.std.specs.Prelude.{drop, length, true};
+ghost use Rattle.std.specs.Prelude.{◌++◌, drop, length, take, true};
 ghost use Rattle.mc_text.specs.Lines.{words_of};
 ghost use Rattle.mc_tables.specs.CacheReading.{oif_in};
 ghost use Rattle.mc_tables.specs.FourOifs.{StartsWithFourOifs, StartsWithPrintedOif, AddsAscendingOifs};
@@ -12,20 +12,35 @@ use crate::lines::table_words::MAX_VIF;
 use std::alloc::AllocError;
 use std::simd::prelude::*;
 
-/// How many bytes are tested at once: those of four outgoing vifs, and four more, which may be any.
-const LANES: usize = 32;
+/// How many bytes are loaded at once. Two loads have the bytes of four outgoing vifs, and four of them twice.
+const LANES: usize = 16;
 
 /// How many bytes four outgoing vifs take.
 pub const FOUR_LEN: usize = 28;
+
+/// The bytes of four outgoing vifs, and four of them again, which may be any.
+#[inline(always)]
+fn bytes_of_four(line: &[u8]) -> u8x32
+    requires within { FOUR_LEN ≤ length line.now }
+    ensures value { result ≡ take FOUR_LEN line.now ++ take 4 (drop 12 line.now) }
+{
+    u8x16::from_slice(line).shuffle(
+        u8x16::from_slice(&line[FOUR_LEN - LANES..]),
+        [
+            0, 1, 2, 3, 4, 5, 6, 7, 8, 9, 10, 11, 12, 13, 14, 15, 20, 21, 22, 23, 24, 25, 26, 27,
+            28, 29, 30, 31, 16, 17, 18, 19,
+        ],
+    )
+}
 
 /// Whether a line begins with four printed outgoing vifs. Each byte is in the range of its place, or
 /// the other byte that is allowed there: a space for the tens of a vif.
 #[inline(always)]
 fn starts_with_four_oifs(line: &[u8]) -> bool
-    requires within { LANES ≤ length line.now }
+    requires within { FOUR_LEN ≤ length line.now }
     ensures value { result ≡ true → StartsWithFourOifs line.now }
 {
-    let text = u8x32::from_slice(line);
+    let text = bytes_of_four(line);
     let least = u8x32::from_array([
         b' ', b'1', b'0', b':', b'1', b' ', b' ', b' ', b'1', b'0', b':', b'1', b' ', b' ', b' ',
         b'1', b'0', b':', b'1', b' ', b' ', b' ', b'1', b'0', b':', b'1', b' ', b' ', 0, 0, 0, 0,
@@ -97,7 +112,7 @@ pub fn add_four_oifs(line: &[u8], next: u8, oifs: &mut Vec<Oif>) -> Result<Optio
     ensures none { IfOk result (λ added. IfNone added (oifs.new.items ≡ oifs.old.items)) }
     ensures long { IfOk result (λ added. IfSome added (λ after. FOUR_LEN ≤ length line.now)) }
 {
-    if line.len() < LANES || !starts_with_four_oifs(line) {
+    if line.len() < FOUR_LEN || !starts_with_four_oifs(line) {
         return Ok(None);
     }
     let first = printed_oif(line, 0);

@@ -1,7 +1,8 @@
 -- The vector of first entries, filled entry by entry.
-use Rattle.std.proofs.Common.{◌≡◌, ℕ, ◌+◌, ◌<◌, Bool, true, not, List, [], ◌∷◌, ◌++◌, length, take, drop}
+use Rattle.std.proofs.Common.{◌≡◌, ℕ, ◌+◌, ◌<◌, Bool, true, not, List, [], ◌∷◌, ◌++◌, length, take, drop, map, Bor, zero, suc, refl}
 use Rattle.std.proofs.Common.{get_or, Option, Some, None, is_some, ap, sym, subst, ◌∙◌, arith}
 use Rattle.std.specs.Prelude.{slice_set, IsSome}
+use Rattle.std.specs.Option.{option_copied}
 use Rattle.std.proofs.lemmas.List.{take_more, drop_more, length-set}
 use Rattle.mc_theory.specs.Certificates.{Entry}
 use Rattle.mc_theory.specs.Reasons.{entry_on, twice, ◌then◌, unless}
@@ -58,3 +59,35 @@ first_entries-more firsts firsts' old es k e t lt at within free put =
           (subst (λ xs. HoldsFirstOfEachKey (λ (x : Entry). x.lan) xs (take k es ++ e ∷ [])) (sym put)
           (holds_first-put (λ (x : Entry). x.lan) firsts (take k es) e within_now t.filled free));
     }
+
+-- ---- references to the entries, at the places of their LANs
+
+-- the entry that is referred to at a place
+pub item_on_lan-copied : (firsts : List (Option (Bor Entry))) (lan : ℕ)
+    → item_on_lan (map option_copied firsts) lan ≡ option_copied (item_on_lan firsts lan)
+item_on_lan-copied [] lan = refl
+item_on_lan-copied (first ∷ firsts) zero = refl
+item_on_lan-copied (first ∷ firsts) (suc lan) = item_on_lan-copied firsts lan
+
+-- where none is referred to, there is none
+pub none-copied : (firsts : List (Option (Bor Entry))) (lan : ℕ) → item_on_lan firsts lan ≡ None
+    → item_on_lan (map option_copied firsts) lan ≡ None
+none-copied firsts lan none = item_on_lan-copied firsts lan ∙ ap option_copied none
+
+-- where one is, it is there
+pub is_some-copied : (firsts : List (Option (Bor Entry))) (lan : ℕ) → IsSome (item_on_lan firsts lan)
+    → IsSome (item_on_lan (map option_copied firsts) lan)
+is_some-copied firsts lan some =
+    ap is_some (item_on_lan-copied firsts lan) ∙ still (item_on_lan firsts lan) some
+  where
+    still : (o : Option (Bor Entry)) → IsSome o → is_some (option_copied o) ≡ true
+    still None some = some
+    still (Some entry) some = refl
+
+-- and one that is put there is
+pub set-copied : (firsts : List (Option (Bor Entry))) (lan : ℕ) (entry : Bor Entry)
+    → map option_copied (slice_set firsts lan (Some entry))
+    ≡ slice_set (map option_copied firsts) lan (Some entry.now)
+set-copied [] lan entry = refl
+set-copied (first ∷ firsts) zero entry = refl
+set-copied (first ∷ firsts) (suc lan) entry = ap (λ l. option_copied first ∷ l) (set-copied firsts lan entry)

@@ -1,6 +1,7 @@
 //! The entries of a flow, with the first entry of each LAN looked up by its number.
 
-ghost use Rattle.std.specs.Prelude.{◌≡◌, ◌<◌, All, IfNone, [], length};
+ghost use Rattle.std.specs.Prelude.{◌≡◌, ◌<◌, All, IfNone, [], length, map};
+ghost use Rattle.std.specs.Option.{option_copied};
 ghost use Rattle.mc_theory.specs.Reasons.{entry_on, entry_at, twice as first_twice};
 ghost use Rattle.mc_forward.specs.PerLan.{HoldsFirstOfEachKey};
 ghost use Rattle.mc_check.specs.Reasons.{optional_reason_value};
@@ -15,7 +16,7 @@ use std::marker::Model;
 #[derive(Drop)]
 pub(crate) struct EntriesByLan<'c> {
     entries: &'c [Reached],
-    firsts: PerLan<Reached>,
+    firsts: PerLan<&'c Reached>,
 }
 
 impl<'c> Model for EntriesByLan<'c> {
@@ -24,22 +25,29 @@ impl<'c> Model for EntriesByLan<'c> {
 
     ghost Value = { List Entry };
 
+    ghost use Rattle.std.specs.Prelude.{map};
+    ghost use Rattle.std.specs.Option.{option_copied};
     ghost use Rattle.mc_forward.specs.PerLan.{HoldsFirstOfEachKey};
 
     ghost view = { λ s. s.entries.now };
 
-    ghost invariant = { λ s. HoldsFirstOfEachKey (λ (e : Entry). e.lan) s.firsts s.entries.now };
+    ghost invariant = { λ s.
+        HoldsFirstOfEachKey (λ (e : Entry). e.lan) (map option_copied s.firsts) s.entries.now };
 }
 
-/// Stores the first entry of each LAN. Returns the first LAN that is named twice, as a reason.
-pub(crate) fn put_first_entries(firsts: &mut PerLan<Reached>, entries: &[Reached]) -> Option<Reason>
-    requires empty { HoldsFirstOfEachKey (λ entry. entry.lan) firsts.old [] }
+/// Stores a reference to the first entry of each LAN. Returns the first LAN that is named twice, as a reason.
+pub(crate) fn put_first_entries<'c>(
+    firsts: &mut PerLan<&'c Reached>,
+    entries: &'c [Reached],
+) -> Option<Reason>
+    requires empty { HoldsFirstOfEachKey (λ entry. entry.lan) (map option_copied firsts.old) [] }
     requires lans { All (λ entry. entry.lan < length firsts.old) entries.now }
     ensures twice { optional_reason_value result ≡ first_twice [] entries.now }
-    ensures firsts { IfNone result (HoldsFirstOfEachKey (λ entry. entry.lan) firsts.new entries.now) }
+    ensures firsts { IfNone result (HoldsFirstOfEachKey (λ entry. entry.lan) (map option_copied firsts.new)
+        entries.now) }
 {
     for entry in entries {
-        if !firsts.put_first(entry.lan, *entry) {
+        if !firsts.put_first(entry.lan, entry) {
             return Some(Reason::TwoEntries(entry.lan));
         }
     }
@@ -47,9 +55,9 @@ pub(crate) fn put_first_entries(firsts: &mut PerLan<Reached>, entries: &[Reached
 }
 
 impl<'c> EntriesByLan<'c> {
-    /// The entries, with the first entry of each LAN as it was stored.
-    pub(crate) fn new(entries: &'c [Reached], firsts: PerLan<Reached>) -> EntriesByLan<'c>
-        requires firsts { HoldsFirstOfEachKey (λ entry. entry.lan) firsts entries.now }
+    /// The entries, with a reference to the first of each LAN as it was stored.
+    pub(crate) fn new(entries: &'c [Reached], firsts: PerLan<&'c Reached>) -> EntriesByLan<'c>
+        requires firsts { HoldsFirstOfEachKey (λ entry. entry.lan) (map option_copied firsts) entries.now }
         ensures value { result ≡ entries.now }
     {
         EntriesByLan { entries, firsts }
@@ -66,7 +74,7 @@ impl<'c> EntriesByLan<'c> {
     pub(crate) fn on(&self, lan: LanNo) -> Option<Reached>
         ensures { result ≡ entry_on self.now lan }
     {
-        self.firsts.on(lan)
+        self.firsts.on(lan).copied()
     }
 
     /// The first entry of the LAN that a vif is placed on, if both are there.

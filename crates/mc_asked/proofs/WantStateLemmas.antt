@@ -2,12 +2,13 @@
 use Rattle.std.proofs.Common.{◌≡◌, ℕ, ◌==◌, Bool, true, false, cond, not, List, [], ◌∷◌, map, refl, sym}
 use Rattle.std.proofs.Common.{ap, ◌∙◌, ap₂, inl, inr, Option, Some, None, ◌++◌, append-nil}
 use Rattle.std.proofs.Common.{append_assoc}
-use Rattle.std.specs.Prelude.{◌&&◌}
+use Rattle.std.specs.Prelude.{◌&&◌, ◌||◌}
 use Rattle.std.specs.FinMap.{FinMap}
+use Rattle.std.specs.List.{list_any}
 use Rattle.std.specs.Ordering.{nat_cmp}
-use Rattle.std.proofs.lemmas.Bool.{cases_Bool, eq-eqb, eqb-true, false≢true, ne_eqb}
+use Rattle.std.proofs.lemmas.Bool.{cases_Bool, eq-eqb, eqb-true, false≢true, ne_eqb, or_parts}
 use Rattle.mc_tables.specs.CacheTable.{EntryValue, RowValue}
-use Rattle.mc_tables.specs.EachRow.{with_entry, with_rows}
+use Rattle.mc_tables.specs.EachRow.{PassesOverOthers, with_entry, with_rows}
 use Rattle.mc_tables.specs.VifTable.{VifValue}
 use Rattle.mc_asked.specs.declared.forwarding.RouterState.{RouterState}
 use Rattle.mc_asked.specs.declared.forwarding.RouterState.TheVariants.{Nothing, EverySource, NoneOut}
@@ -16,7 +17,8 @@ use Rattle.mc_asked.specs.Forwarding.{greater, is_counted, is_counted_source, ro
 use Rattle.mc_filter.specs.SourceFilter.{has}
 use Rattle.mc_asked.specs.ListWants.{Want}
 use Rattle.mc_asked.specs.WantStates.{StatedWantValue, is_key, states_by_rows, states_start, unstated}
-use Rattle.mc_asked.specs.WantStates.{states_with_row, want_by_rows, want_with_row}
+use Rattle.mc_asked.specs.WantStates.{is_among_wants, may_change_states, states_with_row, want_by_rows}
+use Rattle.mc_asked.specs.WantStates.{want_with_row}
 use Rattle.mc_asked.specs.WantStates.{want_with_row_if_group, want_with_row_if_want}
 use Rattle.mc_asked.proofs.ForwardingLemmas.{router_state-append}
 use Rattle.mc_asked.proofs.OneKeyLemmas.{equal-from_is_key, is_key-itself}
@@ -231,3 +233,45 @@ rows-of_group vifs key entry (w ∷ ws) every one =
           ∙ row-of_other_group vifs key entry w every one other
     ])
     (rows-of_group vifs key entry ws every one)
+
+-- ---- rows that change nothing
+
+-- whether two wants are the same
+abbrev is_same : (want other : Want) → Bool
+is_same want other = (other.0 == want.0) && (other.1 == want.1)
+
+-- a want that isn't among the first one and the others is neither
+not_among-more : (want first : Want) (others : List Want) → list_any (is_same want) (first ∷ others) ≡ false
+    → (first ≡ want → ⊥) × (list_any (is_same want) others ≡ false)
+not_among-more want first others none =
+    let parts = or_parts (is_same want first) (list_any (is_same want) others) none in
+    (λ same. false≢true (sym parts.0 ∙ same_itself want first same), parts.1)
+  where
+    same_itself : (want other : Want) → other ≡ want → is_same want other ≡ true
+    same_itself want other same =
+        ap₂ (λ (a b : Bool). a && b) (eq-eqb other.0 want.0 (ap (λ (w : Want). w.0) same))
+        (eq-eqb other.1 want.1 (ap (λ (w : Want). w.1) same))
+
+-- where neither of its two wants is there, an entry of one source changes none
+rows-of_no_want : (vifs : FinMap nat_cmp VifValue) (key : ℕ × ℕ) (entry : EntryValue)
+    (ws : List StatedWantValue) → (key.0 == 0) ≡ false
+    → list_any (is_same (key.1, 0)) (map (λ (w : StatedWantValue). w.want) ws) ≡ false
+    → list_any (is_same (key.1, key.0)) (map (λ (w : StatedWantValue). w.want) ws) ≡ false
+    → map (want_with_row vifs key entry) ws ≡ ws
+rows-of_no_want vifs key entry [] source any one = refl
+rows-of_no_want vifs key entry (w ∷ ws) source any one =
+    let no_any = not_among-more (key.1, 0) w.want (map (λ (w : StatedWantValue). w.want) ws) any in
+    let no_one = not_among-more (key.1, key.0) w.want (map (λ (w : StatedWantValue). w.want) ws) one in
+    ap₂ (λ (x : StatedWantValue) (xs : List StatedWantValue). x ∷ xs)
+    (sym (row-other vifs key entry w source no_any.0 no_one.0))
+    (rows-of_no_want vifs key entry ws source no_any.1 no_one.1)
+
+-- no row that is passed over would change a state
+pub states-pass_over_others : PassesOverOthers may_change_states states_with_row
+states-pass_over_others states key entry none =
+    let one_source = or_parts (key.0 == 0) (is_among_wants states (key.1, 0)
+    || is_among_wants states (key.1, key.0)) none in
+    let neither = or_parts (is_among_wants states (key.1, 0)) (is_among_wants states (key.1, key.0))
+    one_source.1 in
+    ap (λ (l : List StatedWantValue). record { vifs = states.vifs; wants = l })
+    (rows-of_no_want states.vifs key entry states.wants one_source.0 neither.0 neither.1)

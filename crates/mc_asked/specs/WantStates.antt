@@ -1,7 +1,8 @@
 -- What a router has for each of several wants (Forwarding), worked out row by row.
-use Rattle.std.specs.Prelude.{ℕ, ◌==◌, Bool, List, [], ◌∷◌, map, if◌then◌else◌}
+use Rattle.std.specs.Prelude.{ℕ, ◌==◌, ◌&&◌, ◌||◌, Bool, List, [], ◌∷◌, map, if◌then◌else◌}
 use Rattle.std.specs.Coded.{Coded, coded_ℕ}
 use Rattle.std.specs.FinMap as fin
+use Rattle.std.specs.List.{list_any}
 use Rattle.std.specs.FinMap.{FinMap}
 use Rattle.std.specs.Ordering.{is_eq, nat_cmp}
 use Rattle.mc_tables.specs.CacheTable.{EntryValue, RowValue, key_cmp}
@@ -47,6 +48,17 @@ states_with_row states key entry =
 -- Whether the two keys are the same.
 abbrev pub is_key : (key other : ℕ × ℕ) → Bool
 is_key key other = is_eq (key_cmp key other)
+
+-- Whether one of the wants is this one.
+abbrev pub is_among_wants : WantStatesValue → Want → Bool
+is_among_wants states want =
+    list_any (λ other. (other.0 == want.0) && (other.1 == want.1)) (map (λ stated. stated.want) states.wants)
+
+-- Whether a row of this source and group may change what the router has for one of the wants: a row for
+-- every source, or one of a group and a source of which hosts want any source, or this one.
+abbrev pub may_change_states : WantStatesValue → (key : ℕ × ℕ) → Bool
+may_change_states states key =
+    (key.0 == 0) || (is_among_wants states (key.1, 0) || is_among_wants states (key.1, key.0))
 
 -- A want after a row that counts for one want alone.
 abbrev pub want_with_row_if_want : (want : Want) → FinMap nat_cmp VifValue → (key : ℕ × ℕ) → EntryValue

@@ -54,11 +54,11 @@ fn source_number(address: Addr, lan: LanNo) -> u64
     u64::from(address.to_bits()) * (1 << 32) + u64::from(lan.0)
 }
 
-/// An index of the flows.
-fn index_of_flows(alloc: Global, flows: &[(Addr, Addr)]) -> Result<Index, Memory>
-    ensures { IfOk result (IsIndexOfPairs flows.now) }
+/// An index of pairs of addresses.
+pub(crate) fn index_of_pairs(alloc: Global, pairs: &[(Addr, Addr)]) -> Result<Index, Memory>
+    ensures { IfOk result (IsIndexOfPairs pairs.now) }
 {
-    let numbers = pair_numbers(alloc, flows)?;
+    let numbers = pair_numbers(alloc, pairs)?;
     Index::of(alloc, numbers)
 }
 
@@ -111,7 +111,7 @@ impl WantAnswers {
           ignored = ignored.items;
         }) }
     {
-        let channels = index_of_flows(alloc, &flows)?;
+        let channels = index_of_pairs(alloc, &flows)?;
         let groups = index_of_flow_groups(alloc, &flows)?;
         let sources = sources_of(alloc, topology)?;
         let places = index_of_sources(alloc, &sources)?;

@@ -4,13 +4,16 @@ ghost use Rattle.std.specs.Prelude.{◌≡◌, ◌≤◌, IfOk, length, map};
 ghost use Rattle.std.specs.List.Sorted.{IsStrictlyIncreasing, IsStrictlySortedBy};
 ghost use Rattle.mc_tables.specs.CacheTable.{EntryValue, key_cmp};
 ghost use Rattle.mc_asked.specs.GroupRun.{with_run};
-ghost use Rattle.mc_asked.specs.WantStates.{states_start, states_with_row, states_with_row_if_want};
+ghost use Rattle.mc_asked.specs.WantStates.{is_among_wants, may_change_states, states_start};
+ghost use Rattle.mc_asked.specs.WantStates.{states_with_row, states_with_row_if_want};
 ghost use Rattle.mc_asked.specs.WantStates.{states_with_row_if_group, unstated, want_with_row};
 
+use crate::answers::index_of_pairs;
 use crate::forwarding::{RouterState, state_with_row};
 use crate::group_run::run_of_group;
+use crate::wants::has_number;
 use mc_tables::{Entry, RowFold, VifTable};
-use mc_text::{Addr, Memory};
+use mc_text::{Addr, Index, Memory, pair_number};
 use std::alloc::{AllocError, Global};
 use std::marker::Model;
 
@@ -90,6 +93,8 @@ pub struct WantStates<'v> {
     vifs: &'v VifTable,
     // the wants, in the order of `wants`
     keys: Vec<(Addr, Addr)>,
+    // and once more, to look quickly whether one is there
+    index: Index,
     wants: Vec<StatedWant>,
 }
 
@@ -98,6 +103,7 @@ impl<'v> Model for WantStates<'v> {
     ghost use Rattle.std.specs.List.Sorted.{IsStrictlySortedBy};
     ghost use Rattle.mc_tables.specs.CacheTable.{key_cmp};
     ghost use Rattle.std.specs.Coded.{codes};
+    ghost use Rattle.mc_asked.specs.Indexes.{IsIndexOfPairs};
     ghost use Rattle.mc_asked.specs.WantStates.{WantStatesValue, vifs_code};
 
     ghost Value = { WantStatesValue };
@@ -107,7 +113,8 @@ impl<'v> Model for WantStates<'v> {
     ghost view = { λ s. record { vifs = s.vifs.now; wants = s.wants.items } };
 
     ghost invariant = { λ s. (s.keys.items ≡ map (λ w. w.want) s.wants.items)
-        × IsStrictlySortedBy key_cmp s.keys.items };
+        × IsStrictlySortedBy key_cmp s.keys.items
+        × IsIndexOfPairs s.keys.items s.index };
 }
 
 impl<'v> WantStates<'v> {
@@ -125,8 +132,14 @@ impl<'v> WantStates<'v> {
         ensures { IfOk result (λ states. states ≡ states_start vifs.now wants.now) }
     {
         let keys = keys_of(alloc, wants)?;
+        let index = index_of_pairs(alloc, &keys)?;
         let wants = unstated_wants(alloc, wants)?;
-        Ok(WantStates { vifs, keys, wants })
+        Ok(WantStates {
+            vifs,
+            keys,
+            index,
+            wants,
+        })
     }
 
     /// What the router has for each of the wants, in their order.
@@ -142,6 +155,13 @@ impl<'v> WantStates<'v> {
             states.push(want.state)?;
         }
         Ok(states)
+    }
+
+    /// Whether one of the wants is this one.
+    fn has(&self, want: &(Addr, Addr)) -> bool
+        ensures { result ≡ is_among_wants self.now want.now }
+    {
+        has_number(&self.index, pair_number(want.0, want.1))
     }
 
     /// Takes one more resolved row for one of the wants, if it is there.
@@ -189,6 +209,15 @@ fn add_to_run(
 
 impl<'v> RowFold for WantStates<'v> {
     ghost after = { states_with_row };
+
+    ghost concerns = { may_change_states };
+
+    fn concerns(&self, key: &(Addr, Addr)) -> bool {
+        let (origin, group) = *key;
+        origin.is_unspecified()
+            || self.has(&(group, Addr::unspecified()))
+            || self.has(&(group, origin))
+    }
 
     fn add(&mut self, key: &(Addr, Addr), entry: &Entry<'_>) -> Result<(), AllocError> {
         let (origin, group) = *key;

@@ -81,7 +81,7 @@ impl<V: RowFold> PartReader for EachRowReader<V> {
 
     type Out = V;
 
-    ghost part_result = { λ s part. map_fault (Cache part.name) (each_row_if V.after s part.bytes) };
+    ghost part_result = { λ s part. map_fault (Cache part.name) (each_row_if V.concerns V.after s part.bytes) };
 
     fn finished(self, name: PartName) -> Result<V, InputFault> {
         cache_or_fault(name, self.finish())

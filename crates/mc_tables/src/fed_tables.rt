@@ -89,7 +89,7 @@ impl<V: RowFold> PieceReader for EachRowReader<V> {
 
     ghost ReadResult = { Result V FaultOfTable };
 
-    ghost result_after = { each_row_if V.after };
+    ghost result_after = { each_row_if V.concerns V.after };
 
     // after a fault none
     ghost size = { λ s. if is_some s.fault then 0 else s.lines.size };

@@ -7,6 +7,7 @@ ghost use Rattle.mc_text.specs.Lines.{words_of};
 ghost use Rattle.mc_tables.specs.declared.fault.TableFaultKind.TheVariants.{Memory, BadAddress};
 ghost use Rattle.mc_tables.specs.TableWords.{address_in};
 ghost use Rattle.mc_tables.specs.CacheReading.{incoming_in, entry_in, row_in_words};
+ghost use Rattle.mc_tables.specs.EachRow.{key_in_words};
 ghost use Rattle.mc_tables.specs.FlatRows.{entry_with, row_with_oifs};
 ghost use Rattle.mc_tables.specs.RowWords.{row_words_before};
 
@@ -15,6 +16,7 @@ use crate::cache::entry::Oif;
 use crate::cache::outgoing::read_oifs;
 use crate::cache::plain_row::{read_ascending_oifs, row_at_front};
 use crate::fault::TableFaultKind;
+use crate::lines::address_words::addresses_at_front;
 use crate::lines::table_words::{MAX_VIF, check_counter, number, three_words};
 use mc_text::{Addr, Order, Words};
 
@@ -30,6 +32,28 @@ pub struct CacheWords<'a> {
     pub packets: &'a [u8],
     pub bytes: &'a [u8],
     pub wrong_if: &'a [u8],
+}
+
+/// The source and the group of a line's row, where its first two words are addresses.
+#[inline(always)]
+pub fn read_row_key(line: &[u8], order: Order) -> Option<(Addr, Addr)>
+    ensures { result ≡ key_in_words order (words_of line.now) }
+{
+    if let Some((group, origin)) = addresses_at_front(line, order) {
+        return Some((origin, group));
+    }
+    read_row_key_by_words(line, order)
+}
+
+/// The source and the group of a line's row, read word by word.
+#[cold]
+fn read_row_key_by_words(line: &[u8], order: Order) -> Option<(Addr, Addr)>
+    ensures { result ≡ key_in_words order (words_of line.now) }
+{
+    let mut words = Words::new(line);
+    let group = address_of_word(words.next()?, order)?;
+    let origin = address_of_word(words.next()?, order)?;
+    Some((origin, group))
 }
 
 /// Reads a row into `row`, and its outgoing vifs into `oifs`, by ascending vif, in place of what was
@@ -125,7 +149,14 @@ fn read_cache_words(
 fn address(word: &[u8], order: Order) -> Result<Addr, TableFaultKind>
     ensures { result ≡ ok_or (address_in order word.now) BadAddress }
 {
-    Addr::from_hex_word(word, order).ok_or(TableFaultKind::BadAddress)
+    address_of_word(word, order).ok_or(TableFaultKind::BadAddress)
+}
+
+/// The address of a word, if it is one.
+fn address_of_word(word: &[u8], order: Order) -> Option<Addr>
+    ensures { result ≡ address_in order word.now }
+{
+    Addr::from_hex_word(word, order)
 }
 
 /// The incoming vif, or `None` in an unresolved row.

@@ -10,7 +10,8 @@ use Rattle.mc_tables.specs.VifTable.{VifValue}
 use Rattle.mc_topology.specs.SectionRows.{RouterRow}
 use Rattle.mc_topology.specs.Topology.{TopologyValue}
 use Rattle.mc_files.specs.Layout.{cache_slot}
-use Rattle.mc_asked.specs.WantStates.{WantStatesValue, states_start, states_with_row}
+use Rattle.mc_asked.specs.WantStates.{WantStatesValue, states_start, may_change_states, states_with_row}
+use Rattle.mc_asked.proofs.WantStateLemmas.{states-pass_over_others}
 use Rattle.mc_input.specs.ExcludedRouters.{files_without}
 use Rattle.mc_input.specs.declared.fault.InputFault.TheVariants.{Cache}
 use Rattle.mc_input.proofs.StateLemmas.{AreStatesOfRouter-from_rows, AreStatesOfRouter-of_none}
@@ -37,6 +38,10 @@ order-of t own k r order same item at =
 
 one_table : {x y : FinMap nat_cmp VifValue} → Some x ≡ Some y → x ≡ y
 one_table e = cc
+
+-- Whoever takes the rows keeps what it has at each row that is passed over.
+pub handing_on-reader-requires : goal.handing_on-reader-requires
+handing_on-reader-requires g c = record { others = states-pass_over_others }
 
 -- Of no wants there are no states, whatever the cache has.
 pub returns-then-is_empty-clause-states : goal.returns-then-is_empty-clause-states
@@ -67,7 +72,7 @@ returns-in_err-stated-clause-fault g c = λ all contents summary is summaries.
     let rows = ap (λ (o : Order). cache_rows_in o own.1.part.bytes) order ∙ own.1.read in
     rw (p.1, p.2)
     (c.in_err-stated.ensures.fault
-    (λ part. map_fault (Cache part.name) (each_row_if states_with_row reader part.bytes))
+    (λ part. map_fault (Cache part.name) (each_row_if may_change_states states_with_row reader part.bytes))
     (cache_slot r.name) contents own.1.part (with_rows states_with_row c.in_ok-start.start own.1.rows)
     (λ part small. refl) here is own.1.made
     (ap (map_fault (Cache own.1.part.name))
@@ -95,5 +100,5 @@ returns-clause-states g c = λ all contents summary r vifs is summaries at vifs_
     rw c.in_ok-states.ensures (AreStatesOfRouter-from_rows files wants vifs r own.1.rows own.1.part reader
     c.in_ok-stated.stated own.1.made own.1.read reads
     (c.in_ok-stated.ensures.value
-    (λ part. map_fault (Cache part.name) (each_row_if states_with_row reader part.bytes))
+    (λ part. map_fault (Cache part.name) (each_row_if may_change_states states_with_row reader part.bytes))
     (cache_slot r.name) contents (λ part small. refl) here is))

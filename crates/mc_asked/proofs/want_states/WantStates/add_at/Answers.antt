@@ -18,6 +18,7 @@ invariant_of-self c =
       c.self.invariant.0
           ∙ sym (map-set_same (λ (w : StatedWantValue). w.want) ws c.in-Ok.place c.add_row.new.self _ same),
       c.self.invariant.1,
+      c.self.invariant.2,
     )
 
 -- Each want is there once, so that changing the one which the search finds changes all that have this key.

@@ -24,6 +24,7 @@ invariant_of-self c =
           ∙ sym (ap (map (λ (w : StatedWantValue). w.want)) (rows c)
           ∙ map-same_keys (λ (w : StatedWantValue). w.want) row c.self.inside.wants.items (λ w. refl)),
       c.self.invariant.1,
+      c.self.invariant.2,
     )
 
 -- Each want has the row, and the vifs are the same.

@@ -54,6 +54,7 @@ invariant_of-self c =
           same_want (want_with_row c.self.inside.vifs.now c.args.key.now c.args.entry.now) (λ w. refl) w
           (w.want.0 == c.args.group))),
       c.self.invariant.1,
+      c.self.invariant.2,
     )
 
 -- Each want of the group has the row, and the vifs are the same.

@@ -52,14 +52,17 @@ pub AreStatesOfRouter-from_rows : (files : List FileText) (wants : List (Want ×
     → each_row_if may_change_states states_with_row reader own.bytes
     ≡ Ok (with_rows states_with_row (states_start vifs wants) rows)
     → IsReadOfFile files (cache_slot r.name)
-    (λ part. map_fault (Cache part.name) (each_row_if may_change_states states_with_row reader part.bytes)) made
+    (λ part. map_fault (Cache part.name) (each_row_if may_change_states states_with_row reader part.bytes))
+    made
     → AreStatesOfRouter files wants vifs r (map (λ w. w.state) made.wants)
 AreStatesOfRouter-from_rows files wants vifs r rows own reader made is read reads x =
     let part : x.0 ≡ own = ok_injective _ _ (sym x.1 ∙ is) in
-    let kept = Ok-from_refused_as (Cache x.0.name) (each_row_if may_change_states states_with_row reader x.0.bytes) made x.2 in
+    let kept = Ok-from_refused_as (Cache x.0.name)
+    (each_row_if may_change_states states_with_row reader x.0.bytes) made x.2 in
     let all : with_rows states_with_row (states_start vifs wants) rows ≡ made =
     ok_injective _ _ (sym reads
-    ∙ sym (ap (λ (p : PartText). each_row_if may_change_states states_with_row reader p.bytes) part) ∙ kept) in
+    ∙ sym (ap (λ (p : PartText). each_row_if may_change_states states_with_row reader p.bytes) part)
+    ∙ kept) in
     let by_rows : made ≡ states_by_rows vifs wants rows = sym all ∙ states-of_rows vifs wants rows in
     record {
       part = own;

@@ -1,5 +1,6 @@
 -- A cache of which each row is handed on: where the whole text is read, all of its rows are.
-use Rattle.std.proofs.Common.{◌≡◌, ℕ, Bool, List, [], ◌∷◌, ◌++◌, Ok, Err, Some, None, cond, true, false, length, refl, sym}
+use Rattle.std.proofs.Common.{◌≡◌, ℕ, Bool, List, [], ◌∷◌, ◌++◌, Ok, Err, Some, None, cond, true, false}
+use Rattle.std.proofs.Common.{length, refl, sym}
 use Rattle.std.proofs.Common.{ap, inl, inr, ◌∙◌}
 use Rattle.std.specs.Prelude.{codes, nat_lt}
 use Rattle.mc_text.specs.declared.text.addr.Order.{Order}
@@ -9,7 +10,8 @@ use Rattle.mc_tables.specs.declared.fault.TableFault.{TableFault}
 use Rattle.mc_tables.specs.declared.fault.TableFaultKind.TheVariants.{TooLarge}
 use Rattle.mc_tables.specs.CacheTable.{EntryValue, RowValue}
 use Rattle.mc_tables.specs.CacheReading.{cache_rows_in, row_at_line, row_in_line, row_in_words}
-use Rattle.mc_tables.specs.EachRow.{PassesOverOthers, each_row_added, each_row_from, each_row_if, is_passed_over}
+use Rattle.mc_tables.specs.EachRow.{PassesOverOthers, each_row_added, each_row_from, each_row_if}
+use Rattle.mc_tables.specs.EachRow.{is_passed_over}
 use Rattle.mc_tables.specs.EachRow.{key_in_words, with_entry, with_row, with_rows}
 use Rattle.mc_tables.specs.TableLines.{lines_after_header, lines_in, rows_after}
 use Rattle.mc_tables.specs.TableSoFar.{table_start}

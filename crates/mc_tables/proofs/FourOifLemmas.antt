@@ -9,7 +9,8 @@ use Rattle.std.specs.Simd.Lanes.{zip2, mask_l, top}
 use Rattle.std.proofs.lemmas.Bool.{agree_below_at, and_parts, and_from, cases_Bool, leb-true, le-leb}
 use Rattle.std.proofs.lemmas.Bool.{eqb-true}
 use Rattle.std.proofs.Math.ListN.{get_or-append}
-use Rattle.std.proofs.lemmas.List.{get_or-map, get_or-take, get_or-drop, length-append, length-map, length-take-le}
+use Rattle.std.proofs.lemmas.List.{get_or-map, get_or-take, get_or-drop, length-append, length-map}
+use Rattle.std.proofs.lemmas.List.{length-take-le}
 use Rattle.std.proofs.lemmas.List.{length-drop, drop-drop, append-nil, append_assoc}
 use Rattle.std.proofs.lemmas.Simd.{length-zip2, get_or-zip2, bit_mask_l, mask_l-mod}
 use Rattle.mc_text.specs.Lines.{words_of}
@@ -330,7 +331,8 @@ pub four_oifs-from_bytes : (line more text : List ℕ) → text ≡ take 28 line
     4294967295 ≡ true → StartsWithFourOifs line
 four_oifs-from_bytes line more text is four long fits all =
     let front = length-take-le 28 line long in
-    let size : length text ≡ 32 = ap length is ∙ omega (arith, length-append (take 28 line) more, front, four) in
+    let size : length text ≡ 32 = ap length is
+    ∙ omega (arith, length-append (take 28 line) more, front, four) in
     let at : (k : ℕ) → k < 28 → 4294967295 / 2 ^ k % 2 ≡ 1 → byte_passes_at k (get_or line k 0) ≡ true =
     λ k within bit.
     let same = ap (λ l. get_or l k 0) is

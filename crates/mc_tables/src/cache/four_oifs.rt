@@ -12,7 +12,7 @@ use crate::lines::table_words::MAX_VIF;
 use std::alloc::AllocError;
 use std::simd::prelude::*;
 
-/// How many bytes are loaded at once. Two loads have the bytes of four outgoing vifs, and four of them twice.
+/// How many bytes are loaded at once: two loads have those of four outgoing vifs, and four bytes twice.
 const LANES: usize = 16;
 
 /// How many bytes four outgoing vifs take.

@@ -18,7 +18,8 @@ returns-then-not-put_first-clause-twice c =
     let earlier = c.put_first.ensures.earlier c.if-not-put_first.true in
     ap (λ (l : ℕ). Some (TwoEntries l)) lan
     ∙ twice-already_named (map option_copied c.loop-entry.firsts) (map option_copied c.args.firsts.now)
-    c.args.entries.now c.loop-entry.entry-index e c.loop-entry.invariant c.loop-entry-test.true c.entry-item.is
+    c.args.entries.now c.loop-entry.entry-index e c.loop-entry.invariant c.loop-entry-test.true
+    c.entry-item.is
     (is_some-copied c.loop-entry.firsts e.lan
     (subst (λ (l : ℕ). IsSome (item_on_lan c.loop-entry.firsts l)) lan earlier))
 

@@ -10,7 +10,8 @@ use Rattle.mc_check.proofs.entries_by_lan.EntriesByLan.on.Goals as goal
 
 pub returns : goal.returns
 returns c =
-    c.copied.ensures ∙ ap option_copied c.on.ensures ∙ sym (item_on_lan-copied c.self.inside.firsts c.args.lan)
+    c.copied.ensures ∙ ap option_copied c.on.ensures
+    ∙ sym (item_on_lan-copied c.self.inside.firsts c.args.lan)
     ∙ (c.self.invariant c.args.lan
     ∙ (first_with_key-entry_on c.self.inside.entries.now c.args.lan
     ∙ ap (λ (es : List Entry). entry_on es c.args.lan) c.self.view_is))

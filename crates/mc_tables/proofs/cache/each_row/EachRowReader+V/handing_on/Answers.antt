@@ -7,5 +7,7 @@ use Rattle.mc_tables.proofs.cache.each_row.EachRowReader+V.handing_on.Goals as g
 
 pub returns-clause-reads : goal.returns-clause-reads
 returns-clause-reads g c = λ text rows is.
-    ap (λ s. each_row_if g.V.RowFold.concerns g.V.RowFold.after s text) (c.with_rows.ensures.start ∙ ap table_start c.new.ensures)
-    ∙ each_row_if-rows g.V.RowFold.concerns g.V.RowFold.after c.requires.others c.args.order c.args.made text rows is
+    ap (λ s. each_row_if g.V.RowFold.concerns g.V.RowFold.after s text)
+    (c.with_rows.ensures.start ∙ ap table_start c.new.ensures)
+    ∙ each_row_if-rows g.V.RowFold.concerns g.V.RowFold.after c.requires.others c.args.order c.args.made
+    text rows is

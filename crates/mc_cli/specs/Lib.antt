@@ -5,5 +5,5 @@ pub mod AuditWords
 pub mod Commands
 pub mod Task
 pub use Rattle.mc_text.specs.Addr
-pub use Rattle.mc_text.specs.Bundle
+pub use Rattle.mc_text.specs.Names
 pub use Rattle.mc_text.specs.Number

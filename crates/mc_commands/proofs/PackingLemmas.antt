@@ -8,7 +8,7 @@ use Rattle.mc_files.specs.declared.fault.PackFault.{PackFault}
 use Rattle.mc_files.specs.declared.fault.PackFault.TheVariants as packing
 use Rattle.mc_commands.specs.declared.fault.RunFault.{RunFault}
 use Rattle.mc_commands.specs.declared.fault.RunFault.TheVariants.{Write}
-use Rattle.mc_text.specs.Device.{failures_after}
+use Rattle.mc_bundle.specs.Device.{failures_after}
 use Rattle.mc_commands.specs.Failures.{is_read, is_write}
 use Rattle.mc_commands.specs.Faults.{IsFaultOfPack}
 use Rattle.mc_commands.specs.PackingRun.{IsPackRunAnswer, IsDeviceOrMemoryFault, from_pack_fault}

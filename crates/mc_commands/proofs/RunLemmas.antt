@@ -7,7 +7,7 @@ use Rattle.std.proofs.lemmas.Bool.{false≢true}
 use Rattle.mc_commands.specs.declared.fault.RunFault.{RunFault}
 use Rattle.mc_commands.specs.declared.fault.RunFault.TheVariants.{Write}
 use Rattle.mc_commands.specs.declared.run_output.RunOutput.{RunOutput}
-use Rattle.mc_text.specs.Device.{failures_after}
+use Rattle.mc_bundle.specs.Device.{failures_after}
 use Rattle.mc_commands.specs.Failures.{IsNoDeviceFault, is_read, is_write}
 use Rattle.mc_commands.specs.RunOutput.{Answers, IsOutputWritten, Writes, WritesPart}
 

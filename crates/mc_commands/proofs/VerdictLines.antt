@@ -4,9 +4,9 @@ use Rattle.std.proofs.Common.{refl, sym, ap, subst, ◌∙◌, append_assoc, app
 use Rattle.std.specs.Prelude.{codes, slice_index, decimal}
 use Rattle.std.proofs.lemmas.Bool.{eq-eqb, false≢true}
 use Rattle.mc_text.specs.Addr.{dotted}
-use Rattle.mc_text.proofs.BundleWords.{HasNoByte}
-use Rattle.mc_explain.proofs.LineFeedLemmas.{no_feed-dotted, no_feed-lan_name, number}
-use Rattle.mc_explain.proofs.LineFeedLemmas.{no_feed-from_list_all, no_feed-router_name, no_feed-append}
+use Rattle.mc_text.proofs.ByteLemmas.{HasNoByte}
+use Rattle.mc_shown.proofs.LineFeedLemmas.{no_feed-dotted, no_feed-lan_name, number}
+use Rattle.mc_shown.proofs.LineFeedLemmas.{no_feed-from_list_all, no_feed-router_name, no_feed-append}
 use Rattle.mc_topology.specs.declared.flow.Flow.{Flow}
 use Rattle.mc_topology.specs.Topology.{TopologyValue, IsValidTopology, lan_name, router_name}
 use Rattle.mc_check.specs.ReasonText.{reason_text, verdict_text}

@@ -2,8 +2,8 @@
 use Rattle.std.proofs.Common.{◌≡◌, ℕ, Bool, true, false, List, [], ◌∷◌, ◌++◌, inl, inr, Some, refl, sym}
 use Rattle.std.proofs.Common.{ap, ◌∙◌, arith, Option, Result}
 use Rattle.std.specs.Prelude.{codes, drop, slice_index, IfOk, IfSome, IsTrue}
-use Rattle.mc_text.proofs.BundleWords.{HasNoByte}
-use Rattle.mc_explain.proofs.LineFeedLemmas.{no_feed-from_list_all}
+use Rattle.mc_text.proofs.ByteLemmas.{HasNoByte}
+use Rattle.mc_shown.proofs.LineFeedLemmas.{no_feed-from_list_all}
 use Rattle.mc_commands.specs.CheckRun.{AreYesWords, BundleKeepsHeadline, IsLineStart, IsVerdictText, SaysYes}
 use Rattle.mc_commands.specs.CheckRun.{WroteAtStart, WroteYes, yes_object, yes_words}
 use Rattle.mc_commands.specs.RunOutput.{IsOutputWritten}

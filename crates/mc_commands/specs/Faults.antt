@@ -1,7 +1,7 @@
 -- The faults that each run can return (docs/FORMATS.md, the section "The program"), whatever its devices do:
 -- those of what it reads, those of its devices, and that memory ran out.
 use Rattle.std.specs.Prelude.{◌≡◌, ℕ, ⊤}
-use Rattle.mc_text.specs.declared.bundle.bundle_fault.BundleFault.TheVariants as bundle
+use Rattle.mc_bundle.specs.declared.bundle_fault.BundleFault.TheVariants as bundle
 use Rattle.mc_commands.specs.declared.fault.RunFault.{RunFault}
 use Rattle.mc_commands.specs.declared.fault.RunFault.TheVariants.{Bundle, Parts, Topology, Vif, Cache}
 use Rattle.mc_commands.specs.declared.fault.RunFault.TheVariants.{PartReports, Reports, Certificate}

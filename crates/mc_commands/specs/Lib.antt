@@ -16,9 +16,9 @@ pub use Rattle.mc_text.specs.Addr
 pub use Rattle.mc_igmp.specs.Wants
 pub use Rattle.mc_igmp.specs.ReportList
 pub use Rattle.mc_igmp.specs.ReadingList
-pub use Rattle.mc_text.specs.Device
+pub use Rattle.mc_bundle.specs.Device
 pub use Rattle.mc_text.specs.Lines
-pub use Rattle.mc_text.specs.ReadFault
+pub use Rattle.mc_bundle.specs.ReadFault
 pub use Rattle.mc_theory.specs.Nets
 pub use Rattle.mc_theory.specs.Certificates
 pub use Rattle.mc_theory.specs.Headline

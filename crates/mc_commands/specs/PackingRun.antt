@@ -1,7 +1,7 @@
 -- The answer of `pack` (docs/FORMATS.md, "The files of a folder").
 use Rattle.std.specs.Prelude.{◌≡◌, Bool, List, Result, Ok, Err, ⊤}
-use Rattle.mc_text.specs.Bundle.{PartText}
-use Rattle.mc_text.specs.declared.bundle.bundle_fault.BundleFault.TheVariants as bundle
+use Rattle.mc_bundle.specs.Bundle.{PartText}
+use Rattle.mc_bundle.specs.declared.bundle_fault.BundleFault.TheVariants as bundle
 use Rattle.mc_files.specs.Files.{FileText}
 use Rattle.mc_files.specs.Packing.{IsPacked}
 use Rattle.mc_files.specs.PackReading.{packed_parts}

@@ -6,7 +6,7 @@ use Rattle.std.specs.Prelude.{List, [], ◌∷◌, ◌++◌, length, take, flat_
 use Rattle.std.specs.Prelude.{Some, None, IfSome, unwrap_or, Result, Ok, Err, if◌then◌else◌, string_bytes}
 use Rattle.std.specs.Io.KnownBytes.{Appends}
 use Rattle.mc_text.specs.Lines.{max_text}
-use Rattle.mc_text.specs.Device.{AppendsProperPrefix}
+use Rattle.mc_bundle.specs.Device.{AppendsProperPrefix}
 use Rattle.mc_files.specs.Files.{FileText, file_named}
 use Rattle.mc_files.specs.FilePart.{unread_text}
 use Rattle.mc_input.specs.RefusedFiles.{AreUnreadFilesMissing, AreRefusedFiles, saturating_failures}
@@ -14,7 +14,7 @@ use Rattle.mc_input.specs.RefusedFiles.{refused_files_of, as_judged_file, unread
 use Rattle.mc_input.specs.declared.refused_file.RefusedFile.{RefusedFile}
 use Rattle.mc_input.specs.declared.refused_file.Refusal.{Refusal}
 use Rattle.mc_input.specs.declared.refused_file.Refusal.TheVariants.{Unread, Fault}
-use Rattle.mc_explain.specs.RowText.{hex_digit_of}
+use Rattle.mc_shown.specs.RowText.{hex_digit_of}
 use Rattle.mc_commands.specs.FaultText.{fault_text, line_of_fault}
 use Rattle.mc_commands.specs.LineFront.{line_front}
 use Rattle.mc_commands.specs.declared.fault.RunFault.{RunFault}

@@ -1,6 +1,6 @@
 -- The faults of the crates below as a run's own faults.
-use Rattle.mc_text.specs.declared.io.input_bytes.ReadFault.{ReadFault}
-use Rattle.mc_text.specs.declared.io.input_bytes.ReadFault.TheVariants as reading
+use Rattle.mc_bundle.specs.declared.io.input_bytes.ReadFault.{ReadFault}
+use Rattle.mc_bundle.specs.declared.io.input_bytes.ReadFault.TheVariants as reading
 use Rattle.mc_igmp.specs.declared.fault.ListFault.{ListFault}
 use Rattle.mc_igmp.specs.declared.fault.ListFaultKind.{ListFaultKind}
 use Rattle.mc_igmp.specs.declared.fault.ListFaultKind.TheVariants as list

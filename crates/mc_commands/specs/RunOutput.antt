@@ -3,7 +3,7 @@
 use Rattle.std.specs.Prelude.{◌≡◌, ℕ, Bool, List, Option, Result, Ok, Err, IfOk, IfSome}
 use Rattle.std.specs.String.{string_bytes}
 use Rattle.std.specs.Io.KnownBytes.{Appends}
-use Rattle.mc_text.specs.Device.{AppendsProperPrefix}
+use Rattle.mc_bundle.specs.Device.{AppendsProperPrefix}
 use Rattle.mc_commands.specs.declared.fault.RunFault.{RunFault}
 use Rattle.mc_commands.specs.declared.fault.RunFault.TheVariants.{Write}
 use Rattle.mc_commands.specs.declared.run_output.RunOutput.{RunOutput}

@@ -5,7 +5,7 @@ use Rattle.mc_igmp.specs.declared.record.Record.{Record}
 use Rattle.mc_igmp.specs.ReportList.{IsReportList}
 use Rattle.mc_igmp.specs.ReadingList.{read_list}
 use Rattle.mc_igmp.specs.Wants.{Wants}
-use Rattle.mc_text.specs.Device.{AppendsProperPrefix}
+use Rattle.mc_bundle.specs.Device.{AppendsProperPrefix}
 use Rattle.mc_commands.specs.declared.fault.RunFault.{RunFault}
 use Rattle.mc_commands.specs.declared.fault.RunFault.TheVariants.{Reports, Read, Write, Memory}
 

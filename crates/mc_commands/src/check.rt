@@ -4,8 +4,8 @@
 ghost use Rattle.std.specs.Prelude.{◌≡◌, ◌≢◌, ◌<◌, ℕ, IfErr, IfOk, IfSome, IsTrue, List, Err, false};
 ghost use Rattle.std.specs.Prelude.{is_some, true};
 ghost use Rattle.std.specs.String.{string_bytes};
-ghost use Rattle.mc_text.specs.Bundle.{max_input};
-ghost use Rattle.mc_text.specs.ReadFault.{ConsumesUpTo};
+ghost use Rattle.mc_bundle.specs.Bundle.{max_input};
+ghost use Rattle.mc_bundle.specs.ReadFault.{ConsumesUpTo};
 ghost use Rattle.mc_cert.specs.Certificate.{BelongsTo};
 ghost use Rattle.mc_forward.specs.Domains.{IsDomain};
 ghost use Rattle.mc_input.specs.InputView.{certificate_text};
@@ -13,7 +13,7 @@ ghost use Rattle.mc_input.specs.Meaning.{MeansDomain};
 ghost use Rattle.mc_commands.specs.InputMeaning.{IsRefusedFor, MeansCertified};
 ghost use Rattle.mc_commands.specs.CheckRun.{BundleKeepsHeadline, IsTextOfVerdicts, IsVerdictText};
 ghost use Rattle.mc_commands.specs.CheckRun.{KeepsHeadline, SaysYes};
-ghost use Rattle.mc_text.specs.Device.{failures_after};
+ghost use Rattle.mc_bundle.specs.Device.{failures_after};
 ghost use Rattle.mc_commands.specs.Failures.{IsNoDeviceFault, is_read, is_write};
 ghost use Rattle.mc_commands.specs.Faults.{IsFaultOfCheck};
 ghost use Rattle.mc_commands.specs.RunOutput.{Answers, IsWrittenWhole, WritesPart};
@@ -21,11 +21,12 @@ ghost use Rattle.mc_commands.specs.RunOutput.{Answers, IsWrittenWhole, WritesPar
 use crate::fault::RunFault;
 use crate::run_output::{RunOutput, write_output};
 use crate::shown::verdict_text::{are_yes, check_text};
+use mc_bundle::{Input, Output};
 use mc_cert::Certificate;
 use mc_check::check_all;
 use mc_forward::Domain;
 use mc_input::{BundleDomain, read_bundle_domain};
-use mc_text::{Input, Memory, Output};
+use mc_text::Memory;
 use std::alloc::Global;
 
 /// A domain, and a certificate of its topology.

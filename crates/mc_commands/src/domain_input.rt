@@ -1,18 +1,18 @@
 //! Reads a domain from the bundle of a run's input.
 
 ghost use Rattle.std.specs.Prelude.{◌≡◌, ◌<◌, IfErr, IfOk, IfSome, false};
-ghost use Rattle.mc_text.specs.ReadFault.{ConsumesUpTo};
-ghost use Rattle.mc_text.specs.Bundle.{max_input};
-ghost use Rattle.mc_text.specs.Device.{failures_after};
+ghost use Rattle.mc_bundle.specs.ReadFault.{ConsumesUpTo};
+ghost use Rattle.mc_bundle.specs.Bundle.{max_input};
+ghost use Rattle.mc_bundle.specs.Device.{failures_after};
 ghost use Rattle.mc_input.specs.Meaning.{MeansUncertifiedDomain};
 ghost use Rattle.mc_commands.specs.InputMeaning.{IsRefusedFor};
 ghost use Rattle.mc_commands.specs.Failures.{is_read, is_write};
 ghost use Rattle.mc_commands.specs.Faults.{IsFaultOfMake};
 
 use crate::fault::RunFault;
+use mc_bundle::Input;
 use mc_forward::Domain;
 use mc_input::read_bundle_domain;
-use mc_text::Input;
 use std::alloc::Global;
 
 /// Reads the domain of an input's bundle, which has no certificate.

@@ -6,12 +6,13 @@ ghost use Rattle.mc_commands.specs.PackingRun.{from_pack_fault};
 ghost use Rattle.mc_commands.specs.RunFault.{from_cert_fault, from_source_fault, from_input_fault};
 ghost use Rattle.mc_commands.specs.RunFault.{from_list_fault, from_read_fault, from_exclusion_fault};
 
+use mc_bundle::{BundleFault, PartName, ReadFault};
 use mc_cert::{CertFault, CertFaultKind};
 use mc_files::PackFault;
 use mc_igmp::{ListFault, ListFaultKind};
 use mc_input::{ExclusionFault, InputFault, SourceFault};
 use mc_tables::TableFault;
-use mc_text::{BundleFault, Memory as NoMemory, PartName, ReadFault};
+use mc_text::Memory as NoMemory;
 use mc_topology::TopologyFault;
 use thiserror::Error;
 

@@ -2,12 +2,12 @@
 
 ghost use Rattle.std.specs.Prelude.{◌≡◌, ◌≢◌, ◌++◌, ◌<◌, IfErr, IfOk, IfSome, Err, codes, false};
 ghost use Rattle.std.specs.String.{string_bytes};
-ghost use Rattle.mc_text.specs.Bundle.{max_input};
-ghost use Rattle.mc_text.specs.ReadFault.{ConsumesUpTo};
+ghost use Rattle.mc_bundle.specs.Bundle.{max_input};
+ghost use Rattle.mc_bundle.specs.ReadFault.{ConsumesUpTo};
 ghost use Rattle.mc_cert.specs.Certificate.{BelongsTo};
 ghost use Rattle.mc_cert.specs.CertificateText.{certificate_json as text_of_certificate};
 ghost use Rattle.mc_commands.specs.InputMeaning.{IsRefusedFor};
-ghost use Rattle.mc_text.specs.Device.{failures_after};
+ghost use Rattle.mc_bundle.specs.Device.{failures_after};
 ghost use Rattle.mc_commands.specs.Failures.{is_read, is_write};
 ghost use Rattle.mc_commands.specs.Faults.{IsFaultOfMake};
 ghost use Rattle.mc_commands.specs.MakeRun.{AreMadeListsAndLines, IsMadeText, IsMakeOutput, SaysAllRight};
@@ -17,10 +17,11 @@ use crate::domain_input::read_domain;
 use crate::fault::RunFault;
 use crate::run_output::{RunOutput, write_output};
 use crate::shown::found_text::push_found_lines;
+use mc_bundle::{Input, Output};
 use mc_cert::Trees;
 use mc_forward::Domain;
 use mc_maker::{Examined, examine};
-use mc_text::{Input, Memory, Output};
+use mc_text::Memory;
 use mc_topology::Topology;
 use std::alloc::Global;
 

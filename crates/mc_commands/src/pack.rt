@@ -1,18 +1,18 @@
 //! `mcaudit pack`: the bundle of a folder's files.
 
 ghost use Rattle.std.specs.Prelude.{◌≡◌, ◌≢◌, ◌<◌, List, Some, IfErr, IfOk, IfSome, Err};
-ghost use Rattle.mc_text.specs.Bundle.{PartText};
+ghost use Rattle.mc_bundle.specs.Bundle.{PartText};
 ghost use Rattle.mc_files.specs.Files.{FileText};
 ghost use Rattle.mc_files.specs.Packing.{IsPacked};
 ghost use Rattle.mc_files.specs.PackRun.{WritesPackedBundle, WritesPackedPrefix};
-ghost use Rattle.mc_text.specs.Device.{failures_after};
+ghost use Rattle.mc_bundle.specs.Device.{failures_after};
 ghost use Rattle.mc_commands.specs.Failures.{is_read, is_write};
 ghost use Rattle.mc_commands.specs.Faults.{IsFaultOfPack};
 ghost use Rattle.mc_commands.specs.PackingRun.{IsPackRunAnswer, IsDeviceOrMemoryFault};
 
 use crate::fault::RunFault;
+use mc_bundle::Output;
 use mc_files::FileSource;
-use mc_text::Output;
 use std::alloc::Global;
 
 /// Reads the files of a domain, each at most 16,777,216 bytes, and writes the bundle of them. With

@@ -2,9 +2,9 @@
 
 ghost use Rattle.std.specs.Prelude.{◌≡◌, ◌≢◌, ◌+◌, ◌<◌, ◌⊎◌, IfErr, IfOk, IfSome, Err, false, length};
 ghost use Rattle.std.specs.String.{string_bytes};
-ghost use Rattle.mc_text.specs.Bundle.{max_input};
-ghost use Rattle.mc_text.specs.ReadFault.{ConsumesUpTo};
-ghost use Rattle.mc_text.specs.Device.{failures_after};
+ghost use Rattle.mc_bundle.specs.Bundle.{max_input};
+ghost use Rattle.mc_bundle.specs.ReadFault.{ConsumesUpTo};
+ghost use Rattle.mc_bundle.specs.Device.{failures_after};
 ghost use Rattle.mc_commands.specs.Failures.{is_read, is_write};
 ghost use Rattle.mc_commands.specs.Faults.{IsFaultOfReplay};
 ghost use Rattle.mc_commands.specs.ReplayRun.{HasNoTravel, IsReplayRefused, IsTextOfTravel, IsTravelText};
@@ -14,9 +14,9 @@ use crate::domain_input::read_domain;
 use crate::fault::RunFault;
 use crate::run_output::{RunOutput, write_output};
 use crate::shown::travel_text::{is_clean, travel_text};
+use mc_bundle::{Input, Output};
 use mc_forward::Domain;
 use mc_replay::{Picker, replay};
-use mc_text::{Input, Output};
 use std::alloc::Global;
 
 /// The index, counted from 0, of the flow with this number, counted from 1.

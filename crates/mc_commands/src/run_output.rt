@@ -1,12 +1,12 @@
 //! The output of a run, and writing it.
 
 ghost use Rattle.std.specs.Prelude.{◌≡◌, ◌≢◌, ◌<◌, ℕ, IfErr, false};
-ghost use Rattle.mc_text.specs.Device.{failures_after};
+ghost use Rattle.mc_bundle.specs.Device.{failures_after};
 ghost use Rattle.mc_commands.specs.Failures.{is_read, is_write};
 ghost use Rattle.mc_commands.specs.RunOutput.{IsOutputWritten};
 
 use crate::fault::RunFault;
-use mc_text::{Output, write_all};
+use mc_bundle::{Output, write_all};
 
 /// The output of a run: a text, and whether its answer is yes.
 #[derive(Drop)]

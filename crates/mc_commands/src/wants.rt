@@ -3,17 +3,18 @@
 ghost use Rattle.std.specs.Prelude.{◌≡◌, ◌≢◌, ◌⊎◌, ◌+◌, ◌<◌, IfOk, IfErr, IfSome, OnOk, Err, length, min};
 ghost use Rattle.std.specs.Io.KnownBytes.{Appends, IsAtEnd};
 ghost use Rattle.mc_text.specs.Lines.{max_text};
-ghost use Rattle.mc_text.specs.ReadFault.{ConsumesUpTo};
-ghost use Rattle.mc_text.specs.Device.{failures_after};
+ghost use Rattle.mc_bundle.specs.ReadFault.{ConsumesUpTo};
+ghost use Rattle.mc_bundle.specs.Device.{failures_after};
 ghost use Rattle.mc_commands.specs.Failures.{is_read, is_write};
 ghost use Rattle.mc_commands.specs.Faults.{IsFaultOfWants};
 ghost use Rattle.mc_commands.specs.WantsRun.{answer_line, AnswersWants, WritesPartOfLine};
 ghost use Rattle.mc_commands.specs.WantsSoFar.{ReadsPiece, ReadsPieces};
 
 use crate::fault::RunFault;
+use mc_bundle::{Input, Output, write_all};
 use mc_filter::is_wanted;
 use mc_igmp::ListReader;
-use mc_text::{Addr, Input, Memory, Output, write_all};
+use mc_text::{Addr, Memory};
 use std::alloc::Global;
 
 /// The number of bytes that are read from the input at once.

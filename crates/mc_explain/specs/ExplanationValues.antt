@@ -4,7 +4,7 @@ use Rattle.mc_explain.specs.declared.causes.Cause.{Cause}
 use Rattle.mc_explain.specs.declared.causes.behind.Behind.{Behind}
 use Rattle.mc_explain.specs.declared.causes.explanation.Certainty.{Certainty}
 use Rattle.mc_explain.specs.declared.causes.explanation.Explanation.{Explanation}
-use Rattle.mc_explain.specs.declared.searches.searching.LanSearch.{LanSearch}
+use Rattle.mc_search.specs.declared.searching.LanSearch.{LanSearch}
 
 -- The explanation of a finding.
 pub record ExplanationValue : Type 0 where

@@ -1,17 +1,14 @@
 //! A cause of a flow's fault.
 
-pub(crate) mod behind;
-mod behind_text;
+mod behind;
 mod explained;
 mod explanation;
-pub(crate) mod first_copies;
 mod hop;
 mod path;
 mod second_copy;
 mod shown_need;
 
 pub use behind::{Behind, behind_stray};
-pub use behind_text::push_leaks_behind;
 pub use explained::explain;
 pub use explanation::{Certainty, Explanation, ShownBy};
 use mc_topology::{LanNo, RouterNo};

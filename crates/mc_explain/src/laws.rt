@@ -1,11 +1,6 @@
 //! Theorems: the causes that are reported are true.
 
 mod behind_laws;
-mod excluded_laws;
-mod line_laws;
-mod search_laws;
-mod unlisted_laws;
-mod unlisted_line_laws;
 
 ghost use Rattle.std.specs.Prelude.{◌≡◌, ◌≢◌, ◌<◌, ◌≤◌, ◌↔◌, ℕ, List, Some};
 ghost use Rattle.mc_theory.specs.Lists.{In};
@@ -29,11 +24,6 @@ ghost use Rattle.mc_explain.specs.CauseFacts.{ReachesAsMuch, ReachesEverySourceR
 ghost use Rattle.mc_explain.specs.CauseFacts.{StopsShortOfLan, final_finding};
 
 pub use behind_laws::what_is_behind_a_stray_is_of_a_run;
-pub use excluded_laws::excluded_lines_have_prefix;
-pub use line_laws::wanted_lines_begin_with_two_spaces;
-pub use search_laws::{a_search_ends, a_search_names_each_router};
-pub use unlisted_laws::the_lowest_unlisted_pairs_are_shown;
-pub use unlisted_line_laws::unlisted_lines_have_prefix;
 
 /// The row of a reported sender is of the flow's source and group, and has the vif among its outgoing
 /// ones, which is placed on the LAN.

@@ -8,8 +8,8 @@ use Rattle.std.proofs.lemmas.Bool.{false_from_ne_true, leb-true, le-leb}
 use Rattle.std.proofs.lemmas.List.{append-nil, append_assoc, drop_all, drop_more}
 use Rattle.std.proofs.lemmas.Option.{slice_get_within, get_or_from_slice_get}
 use Rattle.mc_text.specs.Steps.{◌>>=◌, Gives}
-use Rattle.mc_text.specs.Bundle.{PartText, IsPartName, AreWithinLimits, bundle_spelling}
-use Rattle.mc_text.specs.Bundle.{max_bundle, max_parts}
+use Rattle.mc_bundle.specs.Bundle.{PartText, IsPartName, AreWithinLimits, bundle_spelling}
+use Rattle.mc_bundle.specs.Bundle.{max_bundle, max_parts}
 use Rattle.mc_topology.proofs.Steps.{bind_ok, checked_ok, map_fault_ok, ok_injective}
 use Rattle.mc_topology.proofs.TopologyTexts.{parse_topology-denotes, parse_topology-from_denotes}
 use Rattle.mc_topology.proofs.Validity.{IsValidTopology-from_denotes}

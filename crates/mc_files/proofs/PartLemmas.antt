@@ -3,7 +3,7 @@ use Rattle.std.proofs.Common.{◌≡◌, ℕ, ◌≤◌, List, length, Option, S
 use Rattle.std.specs.Prelude.{nat_le}
 use Rattle.std.proofs.lemmas.Bool.{leb-true, le-leb}
 use Rattle.mc_text.specs.Steps.{◌>>=◌}
-use Rattle.mc_text.specs.Bundle.{PartText, max_part}
+use Rattle.mc_bundle.specs.Bundle.{PartText, max_part}
 use Rattle.mc_topology.proofs.Steps.{bind_ok, checked_ok, ok_injective}
 pub use Rattle.mc_topology.proofs.Steps.{map_fault_ok as Ok-from_refused_as}
 use Rattle.mc_files.specs.FilePart.{bytes_within_max_part, file_part}

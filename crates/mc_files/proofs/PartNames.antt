@@ -6,7 +6,8 @@ use Rattle.std.specs.List.{list_all}
 use Rattle.std.proofs.lemmas.Bool.{and_parts, leb-true}
 use Rattle.std.proofs.lemmas.List.Folds.{list_all-append}
 use Rattle.std.proofs.lemmas.List.Sums.{AllPass-from_list_all}
-use Rattle.mc_text.specs.Bundle.{IsPartName, is_name_byte as is_part_byte}
+use Rattle.mc_text.specs.Names.{is_part_byte}
+use Rattle.mc_bundle.specs.Bundle.{IsPartName}
 use Rattle.mc_topology.specs.Names.{is_name, is_name_byte}
 
 -- a byte of a name is a byte of a part's name

@@ -2,9 +2,9 @@
 use Rattle.std.proofs.Common.{◌≡◌, ℕ, Bool, List, ◌⊎◌, inl, inr, Option, Some, None, Result, Ok}
 use Rattle.std.proofs.Common.{Err, refl, ap, sym, subst}
 use Rattle.std.specs.Prelude.{IfErr, IfOk, IfSome, OnOk}
-use Rattle.mc_text.specs.Bundle.{PartText, AreWithinLimits, bundle_spelling}
-use Rattle.mc_text.specs.Bundle.{AppendsBundle}
-use Rattle.mc_text.specs.Device.{AppendsProperPrefix}
+use Rattle.mc_bundle.specs.Bundle.{PartText, AreWithinLimits, bundle_spelling}
+use Rattle.mc_bundle.specs.Bundle.{AppendsBundle}
+use Rattle.mc_bundle.specs.Device.{AppendsProperPrefix}
 use Rattle.mc_text.specs.Steps.{Gives}
 use Rattle.mc_files.specs.Files.{FileText, GivesFromContents}
 use Rattle.mc_files.specs.Packing.{IsPacked}

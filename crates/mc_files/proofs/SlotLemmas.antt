@@ -6,7 +6,7 @@ use Rattle.std.specs.Prelude.{◌&&◌, flat_map, IsTrue, nat_le, option_map, sl
 use Rattle.std.specs.List.{AllByRecursion, list_all}
 use Rattle.std.proofs.lemmas.Bool.{and_parts}
 use Rattle.std.proofs.lemmas.List.{length-append, length-map}
-use Rattle.mc_text.specs.Bundle.{IsPartName}
+use Rattle.mc_bundle.specs.Bundle.{IsPartName}
 use Rattle.mc_text.proofs.Lists.{AllByRecursion-append, slice_get-append_front}
 use Rattle.mc_topology.specs.Names.{is_name, is_name_byte}
 use Rattle.mc_topology.specs.SectionRows.{RouterRow}

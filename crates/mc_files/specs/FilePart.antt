@@ -2,7 +2,7 @@
 use Rattle.std.specs.Prelude.{ℕ, nat_le, List, length, Option, Some, None, Result, Ok, Err, ⊤, codes}
 use Rattle.std.specs.Prelude.{if◌then◌else◌}
 use Rattle.mc_text.specs.Steps.{◌>>=◌}
-use Rattle.mc_text.specs.Bundle.{PartText, max_part}
+use Rattle.mc_bundle.specs.Bundle.{PartText, max_part}
 use Rattle.mc_files.specs.Files.{FileText, file_named}
 use Rattle.mc_files.specs.Layout.{Slot, file_name, part_name}
 use Rattle.mc_files.specs.declared.fault.FileFault.{FileFault}

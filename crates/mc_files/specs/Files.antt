@@ -3,8 +3,8 @@ use Rattle.std.specs.Prelude.{◌≡◌, ℕ, ◌<◌, Bool, true, false, List, 
 use Rattle.std.specs.Prelude.{Option, option_map, Some, None, Result, Ok, Err, ⊤}
 use Rattle.std.specs.Str.{bytes_eq}
 use Rattle.mc_text.specs.Steps.{Gives}
-use Rattle.mc_text.specs.declared.io.input_bytes.ReadFault.{ReadFault}
-use Rattle.mc_text.specs.declared.io.input_bytes.ReadFault.TheVariants as reading
+use Rattle.mc_bundle.specs.declared.io.input_bytes.ReadFault.{ReadFault}
+use Rattle.mc_bundle.specs.declared.io.input_bytes.ReadFault.TheVariants as reading
 use Rattle.mc_files.specs.declared.fault.FileFault.{FileFault}
 use Rattle.mc_files.specs.declared.fault.FileFault.TheVariants.{Failed, TooLarge, Memory}
 

@@ -6,9 +6,9 @@ pub mod Layout
 pub mod Packing
 pub mod PackReading
 pub mod PackRun
-pub use Rattle.mc_text.specs.Bundle
-pub use Rattle.mc_text.specs.BundleReading
-pub use Rattle.mc_text.specs.Device
+pub use Rattle.mc_bundle.specs.Bundle
+pub use Rattle.mc_bundle.specs.BundleReading
+pub use Rattle.mc_bundle.specs.Device
 pub use Rattle.mc_text.specs.Steps
 pub use Rattle.mc_topology.specs.Names
 pub use Rattle.mc_topology.specs.Topology

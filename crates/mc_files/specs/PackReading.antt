@@ -4,7 +4,7 @@
 use Rattle.std.specs.Prelude.{ℕ, nat_le, Bool, List, [], ◌∷◌, ◌++◌, length, Result, Ok, Err}
 use Rattle.std.specs.Prelude.{if◌then◌else◌}
 use Rattle.mc_text.specs.Steps.{◌>>=◌, map_fault}
-use Rattle.mc_text.specs.Bundle.{PartText, bundle_spelling, max_bundle}
+use Rattle.mc_bundle.specs.Bundle.{PartText, bundle_spelling, max_bundle}
 use Rattle.mc_topology.specs.Reading.{parse_topology}
 use Rattle.mc_topology.specs.Topology.{TopologyValue}
 use Rattle.mc_files.specs.FilePart.{file_part}

@@ -1,14 +1,14 @@
 -- What packing a folder's files answers and writes, and which of its faults are failures of a
 -- device.
 use Rattle.std.specs.Prelude.{◌≡◌, ℕ, Bool, true, false, List, Option, Result, Ok, Err, ⊤}
-use Rattle.mc_text.specs.Bundle.{PartText, bundle_spelling}
-use Rattle.mc_text.specs.Bundle.{AppendsBundle}
-use Rattle.mc_text.specs.Device.{AppendsProperPrefix}
+use Rattle.mc_bundle.specs.Bundle.{PartText, bundle_spelling}
+use Rattle.mc_bundle.specs.Bundle.{AppendsBundle}
+use Rattle.mc_bundle.specs.Device.{AppendsProperPrefix}
 use Rattle.mc_files.specs.Files.{FileText}
 use Rattle.mc_files.specs.Packing.{IsPacked}
 use Rattle.mc_files.specs.PackReading.{packed_parts}
-use Rattle.mc_text.specs.declared.bundle.bundle_fault.BundleFault.{BundleFault}
-use Rattle.mc_text.specs.declared.bundle.bundle_fault.BundleFault.TheVariants as bundle
+use Rattle.mc_bundle.specs.declared.bundle_fault.BundleFault.{BundleFault}
+use Rattle.mc_bundle.specs.declared.bundle_fault.BundleFault.TheVariants as bundle
 use Rattle.mc_files.specs.declared.fault.PackFault.{PackFault}
 use Rattle.mc_files.specs.declared.fault.PackFault.TheVariants.{Topology, TooLarge, Read, Write}
 use Rattle.mc_files.specs.declared.fault.PackFault.TheVariants.{Memory}

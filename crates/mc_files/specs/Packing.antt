@@ -1,6 +1,6 @@
 -- The bundle that a folder's files are packed into.
 use Rattle.std.specs.Prelude.{◌≡◌, ℕ, Bool, List, [], ◌∷◌, codes, Some, ⊤}
-use Rattle.mc_text.specs.Bundle.{PartText, AreWithinLimits}
+use Rattle.mc_bundle.specs.Bundle.{PartText, AreWithinLimits}
 use Rattle.mc_topology.specs.Topology.{TopologyValue}
 use Rattle.mc_topology.specs.Denotation.{DenotesBoundedTopology}
 use Rattle.mc_files.specs.Files.{FileText, file_named}

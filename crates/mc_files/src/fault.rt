@@ -6,7 +6,7 @@ ghost use Rattle.mc_files.specs.PackReading.{from_file_fault};
 ghost use Rattle.mc_files.specs.declared.fault.FileFault.TheVariants as file;
 ghost use Rattle.mc_files.specs.declared.fault.PackFault.TheVariants as packing;
 
-use mc_text::ReadFault;
+use mc_bundle::ReadFault;
 use mc_topology::TopologyFault;
 use std::alloc::{AllocError, AllocFailed};
 use thiserror::Error;

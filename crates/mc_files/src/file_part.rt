@@ -1,15 +1,15 @@
 //! The part of a bundle that is made of a folder's file.
 
 ghost use Rattle.std.specs.Prelude.{◌≡◌, ◌<◌};
-ghost use Rattle.mc_text.specs.Device.{failures_after};
-ghost use Rattle.mc_text.specs.BundleView.{part_text};
+ghost use Rattle.mc_bundle.specs.Device.{failures_after};
+ghost use Rattle.mc_bundle.specs.BundleView.{part_text};
 ghost use Rattle.mc_files.specs.FilePart.{IsFailedOrMemory, file_part};
 ghost use Rattle.mc_files.specs.Files.{GivesFromContents, is_failure};
 
 use crate::fault::FileFault;
 use crate::slot::Slot;
 use crate::source::FileSource;
-use mc_text::{MAX_PART, Part, PartName};
+use mc_bundle::{MAX_PART, Part, PartName};
 use std::alloc::Global;
 use std::marker::Model;
 
@@ -21,7 +21,7 @@ pub struct FilePart {
 }
 
 impl Model for FilePart {
-    ghost use Rattle.mc_text.specs.Bundle.{PartText};
+    ghost use Rattle.mc_bundle.specs.Bundle.{PartText};
 
     ghost Value = { PartText };
 

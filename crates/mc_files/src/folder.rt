@@ -8,7 +8,7 @@ use crate::fault::FileFault;
 use crate::piece_source::PieceSource;
 use crate::source::FileSource;
 use crate::unread::Unread;
-use mc_text::{FromReader, ReadFault, read_to_limit};
+use mc_bundle::{FromReader, ReadFault, read_to_limit};
 use std::alloc::{AllocError, Global};
 use std::fs;
 use std::io::{Error, ErrorKind, Read};

@@ -2,8 +2,8 @@
 
 ghost use Rattle.std.specs.Prelude.{◌≡◌, ◌↔◌, Bool, List, map, None, Ok, IsTrue};
 ghost use Rattle.std.specs.List.{AllByRecursion, list_all};
-ghost use Rattle.mc_text.specs.Bundle.{IsPartName, PartText, bundle_spelling};
-ghost use Rattle.mc_text.specs.BundleReading.{bundle_of};
+ghost use Rattle.mc_bundle.specs.Bundle.{IsPartName, PartText, bundle_spelling};
+ghost use Rattle.mc_bundle.specs.BundleReading.{bundle_of};
 ghost use Rattle.mc_files.specs.PartMismatch.{first_part_mismatch};
 ghost use Rattle.mc_files.specs.Files.{FileText};
 ghost use Rattle.mc_topology.specs.Names.{is_name_byte};

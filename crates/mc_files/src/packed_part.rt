@@ -1,8 +1,8 @@
 //! The parts of the bundle that is packed of files.
 
 ghost use Rattle.std.specs.Prelude.{◌≡◌, ◌≢◌, ◌<◌, [], ◌∷◌, IfErr, IfOk};
-ghost use Rattle.mc_text.specs.Device.{failures_after};
-ghost use Rattle.mc_text.specs.BundleView.{part_texts};
+ghost use Rattle.mc_bundle.specs.Device.{failures_after};
+ghost use Rattle.mc_bundle.specs.BundleView.{part_texts};
 ghost use Rattle.mc_text.specs.Steps.{Gives};
 ghost use Rattle.mc_files.specs.Files.{GivesFromContents};
 ghost use Rattle.mc_files.specs.Layout.{slots_after_topology};
@@ -15,7 +15,7 @@ use crate::file_part::{FilePart, part_of_file};
 use crate::slot::Slot;
 use crate::slot_order::{slot_at, slot_count};
 use crate::source::FileSource;
-use mc_text::Part;
+use mc_bundle::Part;
 use mc_topology::{Topology, TopologyFault, TopologyFaultKind};
 use std::alloc::{AllocError, Global};
 

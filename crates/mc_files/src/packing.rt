@@ -1,10 +1,10 @@
 //! Packing a bundle of a folder's files.
 
 ghost use Rattle.std.specs.Prelude.{◌≡◌, ◌≢◌, ◌<◌, ◌⊎◌, List, OnOk, Some, IfErr, IfOk, IfSome, Err};
-ghost use Rattle.mc_text.specs.Bundle.{AreWithinLimits, PartText, bundle_spelling};
-ghost use Rattle.mc_text.specs.Bundle.{AppendsBundle};
-ghost use Rattle.mc_text.specs.Device.{AppendsProperPrefix, failures_after};
-ghost use Rattle.mc_text.specs.BundleView.{part_texts};
+ghost use Rattle.mc_bundle.specs.Bundle.{AreWithinLimits, PartText, bundle_spelling};
+ghost use Rattle.mc_bundle.specs.Bundle.{AppendsBundle};
+ghost use Rattle.mc_bundle.specs.Device.{AppendsProperPrefix, failures_after};
+ghost use Rattle.mc_bundle.specs.BundleView.{part_texts};
 ghost use Rattle.mc_files.specs.Files.{FileText};
 ghost use Rattle.mc_files.specs.Packing.{IsPacked};
 ghost use Rattle.mc_files.specs.PackRun.{IsPackAnswer, IsIoOrMemory, WritesPackedBundle, WritesPackedPrefix};
@@ -13,7 +13,7 @@ ghost use Rattle.mc_files.specs.PackRun.{is_read, is_write, from_bundle_fault};
 use crate::fault::PackFault;
 use crate::packed_part::{borrow_parts, read_parts};
 use crate::source::FileSource;
-use mc_text::{BundleFault, Output, Part, write_bundle};
+use mc_bundle::{BundleFault, Output, Part, write_bundle};
 use std::alloc::Global;
 
 /// Why a bundle isn't written, as a fault of packing.

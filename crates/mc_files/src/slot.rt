@@ -3,13 +3,13 @@
 ghost use Rattle.std.specs.Prelude.{◌≡◌, ◌≢◌, ◌++◌, ℕ, Bool, IfOk, IfSome, IsTrue, List, None, codes};
 ghost use Rattle.std.specs.Str.{bytes_eq};
 ghost use Rattle.std.specs.String.{string_bytes};
-ghost use Rattle.mc_text.specs.Bundle.{IsPartName};
+ghost use Rattle.mc_bundle.specs.Bundle.{IsPartName};
 ghost use Rattle.mc_files.specs.Layout.{cache_slot, certificate_slot, file_name};
 ghost use Rattle.mc_files.specs.Layout.{kind_word, part_name, reports_slot};
 ghost use Rattle.mc_files.specs.Layout.{table_slot, topology_slot, vif_slot};
 ghost use Rattle.mc_topology.specs.Names.{is_name};
 
-use mc_text::PartName;
+use mc_bundle::PartName;
 use std::alloc::{AllocError, Global};
 use std::marker::Model;
 
@@ -52,7 +52,7 @@ pub struct Slot<'a> {
 
 impl<'a> Model for Slot<'a> {
     ghost use Rattle.std.specs.Prelude.{option_map};
-    ghost use Rattle.mc_text.specs.Bundle.{IsPartName};
+    ghost use Rattle.mc_bundle.specs.Bundle.{IsPartName};
     ghost use Rattle.mc_files.specs.Layout.{Slot, kind_word, part_name};
 
     ghost Value = { Slot };

@@ -3,7 +3,7 @@
 ghost use Rattle.std.specs.Prelude.{◌≡◌, ◌<◌, ◌≤◌, ◌∷◌, ℕ, List, [], None, Option};
 ghost use Rattle.std.specs.Prelude.{IfOk, IfSome, vec_len};
 ghost use Rattle.std.specs.Borrow.{GName};
-ghost use Rattle.mc_text.specs.Device.{failures_after};
+ghost use Rattle.mc_bundle.specs.Device.{failures_after};
 ghost use Rattle.mc_files.specs.Files.{FileText, file_named, is_failure, IsRead};
 ghost use Rattle.mc_files.specs.Folder.{StaysKnown};
 

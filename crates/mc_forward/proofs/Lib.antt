@@ -9,6 +9,7 @@ pub mod VifLanLemmas
 pub mod WantsLemmas
 pub mod RunLemmas
 pub mod PerLanLemmas
+pub mod FirstLemmas
 pub mod RowLemmas
 pub mod TableFactLemmas
 pub mod ListedTableLemmas

@@ -4,7 +4,7 @@ use Rattle.std.proofs.Common.{ap, ap₂, arith, ◌∙◌, subst, sym}
 use Rattle.std.specs.FinMap.{FinMap}
 use Rattle.std.specs.Ordering.{nat_cmp}
 use Rattle.std.proofs.lemmas.Option.{slice_get_within}
-use Rattle.mc_text.specs.Bundle.{PartText}
+use Rattle.mc_bundle.specs.Bundle.{PartText}
 use Rattle.mc_text.proofs.StepLemmas.{ok_injective}
 use Rattle.mc_igmp.specs.ReadingList.{read_list}
 use Rattle.mc_igmp.specs.declared.fault.ListFault.{ListFault}

@@ -5,9 +5,9 @@ use Rattle.std.specs.FinMap.{FinMap}
 use Rattle.std.specs.Ordering.{nat_cmp}
 use Rattle.std.proofs.Common.{ap, ◌∙◌, arith, sym}
 use Rattle.std.proofs.lemmas.Slice.Eq.{bytes_eq-Decides}
-use Rattle.mc_text.specs.Bundle.{PartText}
-use Rattle.mc_text.specs.PartsReading.{PartsState, prepend_parts}
-use Rattle.mc_text.specs.RestOfBundle.{rest_of_bundle}
+use Rattle.mc_bundle.specs.Bundle.{PartText}
+use Rattle.mc_bundle.specs.PartsReading.{PartsState, prepend_parts}
+use Rattle.mc_bundle.specs.RestOfBundle.{rest_of_bundle}
 use Rattle.mc_text.specs.Steps.{◌>>=◌, map_fault}
 use Rattle.mc_text.specs.declared.text.addr.Order.{Order}
 use Rattle.mc_igmp.specs.declared.record.Record.{Record}

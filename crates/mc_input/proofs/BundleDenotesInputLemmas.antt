@@ -5,7 +5,7 @@ use Rattle.std.specs.Prelude.{Ok, refl}
 use Rattle.std.specs.Str.{bytes_eq}
 use Rattle.std.proofs.Common.{ap, ◌∙◌, sym, arith, subst, append_assoc, append-nil}
 use Rattle.std.proofs.lemmas.Slice.Eq.{bytes_eq-Decides}
-use Rattle.mc_text.specs.Bundle.{PartText}
+use Rattle.mc_bundle.specs.Bundle.{PartText}
 use Rattle.mc_text.proofs.StepLemmas.{if_ok}
 use Rattle.mc_igmp.specs.declared.record.Record.{Record}
 use Rattle.mc_topology.specs.SectionRows.{RouterRow}

@@ -1,7 +1,7 @@
 -- What is kept of a router's cache, with a summary or without.
 use Rattle.std.specs.Prelude.{◌≡◌, ℕ, Bool, List, Some, Result, Ok, Err, refl}
 use Rattle.std.proofs.Common.{ap}
-use Rattle.mc_text.specs.Bundle.{PartText}
+use Rattle.mc_bundle.specs.Bundle.{PartText}
 use Rattle.mc_text.specs.Steps.{map_fault}
 use Rattle.mc_text.specs.declared.text.addr.Order.{Order}
 use Rattle.mc_tables.specs.CacheReading.{cache_in, cache_rows_in}

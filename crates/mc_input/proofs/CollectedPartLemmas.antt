@@ -1,13 +1,13 @@
 -- A part that was opened and collected to its end is read.
 use Rattle.std.proofs.Common.{◌≡◌, ℕ, List, [], ◌∷◌, ◌++◌, take, Option, Some, ap, ◌∙◌, sym, refl}
 use Rattle.std.proofs.lemmas.List.{append-nil}
-use Rattle.mc_text.specs.Bundle.{PartText}
-use Rattle.mc_text.specs.PartsReading.{PartsState, prepend_parts, is_read as is_failed, parts_from_current}
-use Rattle.mc_text.specs.RestOfBundle.{rest_of_bundle}
-use Rattle.mc_text.specs.declared.bundle.bundle_fault.BundleFault.{BundleFault}
-use Rattle.mc_text.specs.declared.bundle.bundle_fault.BundleFault.TheVariants as bundle
-use Rattle.mc_text.specs.declared.bundle.stage.Stage.TheVariants as stages
-use Rattle.mc_text.proofs.RestOfBundleLemmas.{parts_from_current-in_part}
+use Rattle.mc_bundle.specs.Bundle.{PartText}
+use Rattle.mc_bundle.specs.PartsReading.{PartsState, prepend_parts, is_read as is_failed, parts_from_current}
+use Rattle.mc_bundle.specs.RestOfBundle.{rest_of_bundle}
+use Rattle.mc_bundle.specs.declared.bundle_fault.BundleFault.{BundleFault}
+use Rattle.mc_bundle.specs.declared.bundle_fault.BundleFault.TheVariants as bundle
+use Rattle.mc_bundle.specs.declared.stage.Stage.TheVariants as stages
+use Rattle.mc_bundle.proofs.RestOfBundleLemmas.{parts_from_current-in_part}
 use Rattle.mc_input.specs.SourceFault.{is_read, from_bundle_fault}
 
 -- two names of one part are one

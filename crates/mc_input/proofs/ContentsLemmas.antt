@@ -4,7 +4,7 @@ use Rattle.std.specs.Prelude.{Err, refl}
 use Rattle.std.specs.FinMap.{FinMap}
 use Rattle.std.specs.Ordering.{nat_cmp}
 use Rattle.std.proofs.Common.{ap, ◌∙◌, arith}
-use Rattle.mc_text.specs.Bundle.{PartText}
+use Rattle.mc_bundle.specs.Bundle.{PartText}
 use Rattle.mc_text.specs.Steps.{◌>>=◌, map_fault}
 use Rattle.mc_igmp.specs.declared.record.Record.{Record}
 use Rattle.mc_tables.specs.CacheTable.{CacheValue}

@@ -2,7 +2,7 @@
 use Rattle.std.specs.Prelude.{◌≡◌, ℕ, List, Option, Some, Result, Ok, Err, IfErr, IfOk, ◌+◌, drop, false}
 use Rattle.std.specs.Prelude.{slice_get, ◌∷◌, refl}
 use Rattle.std.proofs.Common.{ap, ◌∙◌, sym}
-use Rattle.mc_text.specs.Bundle.{PartText}
+use Rattle.mc_bundle.specs.Bundle.{PartText}
 use Rattle.mc_text.specs.Steps.{◌>>=◌, map_fault}
 use Rattle.mc_topology.specs.Topology.{TopologyValue}
 use Rattle.mc_files.specs.FilePart.{file_part}

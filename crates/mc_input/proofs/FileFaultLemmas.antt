@@ -4,7 +4,7 @@ use Rattle.std.specs.Prelude.{Option, Some, Result, Ok, Err, refl}
 use Rattle.std.specs.Prelude.{slice_get, IfErr, IfOk}
 use Rattle.std.proofs.Common.{ap, inl, inr, sym, ◌∙◌}
 use Rattle.std.specs.Result.{result_err}
-use Rattle.mc_text.specs.Bundle.{PartText}
+use Rattle.mc_bundle.specs.Bundle.{PartText}
 use Rattle.mc_text.specs.Steps.{map_fault}
 use Rattle.mc_text.specs.declared.text.addr.Order.{Order}
 use Rattle.mc_tables.specs.CacheTable.{CacheValue}

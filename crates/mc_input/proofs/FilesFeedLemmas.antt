@@ -3,7 +3,7 @@ use Rattle.std.specs.Prelude.{◌≡◌, ℕ, ◌≤◌, ◌<◌, List, length, 
 use Rattle.std.specs.Prelude.{Result, Ok, Err, OnOk, IfErr, IfSome, refl}
 use Rattle.std.proofs.Common.{subst}
 use Rattle.std.proofs.lemmas.Bool.{le-leb, lt-leb}
-use Rattle.mc_text.specs.Bundle.{max_part}
+use Rattle.mc_bundle.specs.Bundle.{max_part}
 use Rattle.mc_text.specs.Lines.{max_text}
 use Rattle.mc_text.proofs.StepLemmas.{on_ok_map}
 use Rattle.mc_files.specs.FilePart.{IsFailedOrMemory, bytes_within_max_part}

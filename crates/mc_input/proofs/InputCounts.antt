@@ -1,6 +1,6 @@
 -- An input that parts denote has tables for each router and a report list for each LAN.
 use Rattle.std.proofs.Common.{◌≡◌, suc, ℕ, List, [], ◌∷◌, length, Option, refl, ap}
-use Rattle.mc_text.specs.Bundle.{PartText}
+use Rattle.mc_bundle.specs.Bundle.{PartText}
 use Rattle.mc_igmp.specs.declared.record.Record.{Record}
 use Rattle.mc_topology.specs.SectionRows.{RouterRow}
 use Rattle.mc_forward.specs.Assembling.{HaveMatchingCounts}

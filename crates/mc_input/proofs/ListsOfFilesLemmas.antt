@@ -2,7 +2,7 @@
 use Rattle.std.specs.Prelude.{◌≡◌, ℕ, ◌+◌, ◌*◌, List, [], ◌∷◌, ◌++◌, flat_map, length, map}
 use Rattle.std.specs.Prelude.{Result, Ok, Err, refl, false}
 use Rattle.std.proofs.Common.{ap, ◌∙◌, sym, subst}
-use Rattle.mc_text.specs.Bundle.{PartText}
+use Rattle.mc_bundle.specs.Bundle.{PartText}
 use Rattle.mc_text.specs.Steps.{◌>>=◌, map_fault}
 use Rattle.mc_text.proofs.StepLemmas.{bind_ok, ok_injective}
 use Rattle.mc_igmp.specs.ReadingList.{read_list}

@@ -3,12 +3,12 @@ use Rattle.std.specs.Prelude.{◌≡◌, ℕ, Bool, List, Option, Some}
 use Rattle.std.specs.declared.alloc.Global.{Global}
 use Rattle.std.specs.Prelude.{None, Vec, is_some, Result, Ok, Err, IfErr, IfOk, IfSome, MatchResult, refl}
 use Rattle.std.proofs.Common.{ap, ◌∙◌, sym, subst, inl, inr, arith}
-use Rattle.mc_text.specs.Bundle.{max_input}
-use Rattle.mc_text.specs.PartsReading.{PartsState}
-use Rattle.mc_text.specs.PartsLimits.{ConsumesWithin}
-use Rattle.mc_text.specs.ReadFault.{ConsumesUpTo}
+use Rattle.mc_bundle.specs.Bundle.{max_input}
+use Rattle.mc_bundle.specs.PartsReading.{PartsState}
+use Rattle.mc_bundle.specs.PartsLimits.{ConsumesWithin}
+use Rattle.mc_bundle.specs.ReadFault.{ConsumesUpTo}
 use Rattle.mc_text.specs.Steps.{map_fault}
-use Rattle.mc_text.specs.declared.bundle.stage.Stage.TheVariants as stages
+use Rattle.mc_bundle.specs.declared.stage.Stage.TheVariants as stages
 use Rattle.mc_forward.specs.Assembling.{AreWanted, IsAssembled}
 use Rattle.mc_forward.specs.Domains.{DomainValue, IsDomain}
 use Rattle.mc_forward.proofs.ListedTableLemmas.{pairwise-count, pairwise-each}

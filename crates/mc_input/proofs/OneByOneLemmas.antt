@@ -4,7 +4,7 @@ use Rattle.std.specs.Prelude.{Ok, Err, refl, option_map, if◌then◌else◌}
 use Rattle.std.specs.Str.{bytes_eq}
 use Rattle.std.proofs.Common.{ap, ◌∙◌, arith}
 use Rattle.std.proofs.lemmas.Slice.Eq.{bytes_eq-Decides}
-use Rattle.mc_text.specs.Bundle.{PartText}
+use Rattle.mc_bundle.specs.Bundle.{PartText}
 use Rattle.mc_topology.specs.Topology.{TopologyValue}
 use Rattle.mc_files.specs.PartMismatch.{first_part_mismatch, first_mismatch}
 use Rattle.mc_files.specs.Layout.{Slot, part_name, slots}

@@ -1,10 +1,10 @@
 -- What reading a bundle answers, by what the bundle denotes.
 use Rattle.std.specs.Prelude.{◌≡◌, ℕ, Bool, List, Option, is_some, Result, Ok, Err}
 use Rattle.std.proofs.Common.{subst}
-use Rattle.mc_text.specs.Bundle.{PartText}
-use Rattle.mc_text.specs.BundleReading.{bundle_of}
+use Rattle.mc_bundle.specs.Bundle.{PartText}
+use Rattle.mc_bundle.specs.BundleReading.{bundle_of}
 use Rattle.mc_text.specs.Steps.{◌>>=◌, map_fault}
-use Rattle.mc_text.proofs.BundleLaws.{bundle_of-sound, bundle_of-complete}
+use Rattle.mc_bundle.proofs.BundleLaws.{bundle_of-sound, bundle_of-complete}
 use Rattle.mc_text.proofs.StepLemmas.{bind_ok}
 use Rattle.mc_files.proofs.PartLemmas.{Ok-from_refused_as}
 use Rattle.mc_input.specs.Input.{InputValue, DenotesInput, PartsDenoteInput}

@@ -4,13 +4,13 @@ use Rattle.std.specs.Prelude.{Some, None, IsSome, Result, Ok, Err, IfErr, refl, 
 use Rattle.std.specs.Str.{bytes_eq}
 use Rattle.std.proofs.Common.{ap, ◌∙◌, sym, subst, inl, inr}
 use Rattle.std.proofs.lemmas.Slice.Eq.{bytes_eq-Decides}
-use Rattle.mc_text.specs.declared.bundle.bundle_fault.BundleFault.{BundleFault}
-use Rattle.mc_text.specs.declared.bundle.bundle_fault.BundleFault.TheVariants as bundle
-use Rattle.mc_text.specs.Bundle.{PartText}
-use Rattle.mc_text.specs.PartsReading.{PartsState, prepend_parts, parts_from_current, current_part}
-use Rattle.mc_text.specs.RestOfBundle.{rest_of_bundle}
+use Rattle.mc_bundle.specs.declared.bundle_fault.BundleFault.{BundleFault}
+use Rattle.mc_bundle.specs.declared.bundle_fault.BundleFault.TheVariants as bundle
+use Rattle.mc_bundle.specs.Bundle.{PartText}
+use Rattle.mc_bundle.specs.PartsReading.{PartsState, prepend_parts, parts_from_current, current_part}
+use Rattle.mc_bundle.specs.RestOfBundle.{rest_of_bundle}
 use Rattle.mc_text.specs.Steps.{◌>>=◌, map_fault}
-use Rattle.mc_text.proofs.RestOfBundleLemmas.{rest_of_bundle-opened, parts_from_current-prepend}
+use Rattle.mc_bundle.proofs.RestOfBundleLemmas.{rest_of_bundle-opened, parts_from_current-prepend}
 use Rattle.mc_topology.specs.Topology.{TopologyValue}
 use Rattle.mc_files.specs.Layout.{Slot, part_name, slots}
 use Rattle.mc_input.specs.InputReading.{named}

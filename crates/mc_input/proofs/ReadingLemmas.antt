@@ -2,7 +2,7 @@
 use Rattle.std.specs.Prelude.{◌≡◌, ℕ, zero, suc, ◌+◌, List, [], ◌∷◌, drop}
 use Rattle.std.specs.Prelude.{slice_get, Some, Result, Ok, refl}
 use Rattle.std.proofs.Common.{add-one}
-use Rattle.mc_text.specs.Bundle.{PartText}
+use Rattle.mc_bundle.specs.Bundle.{PartText}
 use Rattle.mc_topology.specs.Topology.{TopologyValue}
 use Rattle.mc_files.specs.Layout.{Slot, topology_slot}
 use Rattle.mc_input.specs.PartsReading.{read_part}

@@ -3,7 +3,7 @@ use Rattle.std.specs.Prelude.{◌≡◌, ℕ, ◌+◌, ◌*◌, false, List, [],
 use Rattle.std.specs.Prelude.{Option, Result, Ok, refl}
 use Rattle.std.proofs.Common.{ap, arith, subst}
 use Rattle.mc_text.specs.Steps.{map_fault}
-use Rattle.mc_text.specs.Bundle.{PartText}
+use Rattle.mc_bundle.specs.Bundle.{PartText}
 use Rattle.mc_text.proofs.StepLemmas.{bind_ok}
 use Rattle.mc_tables.specs.VifReading.{vifs_in}
 use Rattle.mc_tables.specs.CacheReading.{cache_in}

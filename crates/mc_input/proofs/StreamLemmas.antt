@@ -2,11 +2,11 @@
 use Rattle.std.specs.Prelude.{◌≡◌, ℕ, ◌+◌, Bool, true, false, List, [], ◌∷◌, drop, map, slice_get, option_map}
 use Rattle.std.specs.Prelude.{Option, Some, None, Result, Ok, Err, refl}
 use Rattle.std.proofs.Common.{ap, arith, ◌∙◌, sym}
-use Rattle.mc_text.specs.Bundle.{PartText}
-use Rattle.mc_text.specs.PartsReading.{PartsState, prepend_parts}
-use Rattle.mc_text.specs.RestOfBundle.{ReadsPart, rest_of_bundle}
+use Rattle.mc_bundle.specs.Bundle.{PartText}
+use Rattle.mc_bundle.specs.PartsReading.{PartsState, prepend_parts}
+use Rattle.mc_bundle.specs.RestOfBundle.{ReadsPart, rest_of_bundle}
 use Rattle.mc_text.specs.Steps.{◌>>=◌, map_fault}
-use Rattle.mc_text.specs.declared.bundle.bundle_fault.BundleFault.{BundleFault}
+use Rattle.mc_bundle.specs.declared.bundle_fault.BundleFault.{BundleFault}
 use Rattle.mc_topology.specs.Topology.{TopologyValue}
 use Rattle.mc_files.specs.FilePart.{IsFailedOrMemory, file_part}
 use Rattle.mc_files.specs.Files.{FileText}

@@ -2,8 +2,8 @@
 -- denotes the same one.
 use Rattle.std.specs.Prelude.{◌≡◌, ℕ, false, List, [], ◌∷◌, Option, is_some, None, Some, Ok, refl}
 use Rattle.std.proofs.Common.{ap, ◌∙◌, sym, subst}
-use Rattle.mc_text.specs.Bundle.{PartText, IsBundle}
-use Rattle.mc_text.proofs.BundleLaws.{bundle_of-complete}
+use Rattle.mc_bundle.specs.Bundle.{PartText, IsBundle}
+use Rattle.mc_bundle.proofs.BundleLaws.{bundle_of-complete}
 use Rattle.mc_topology.specs.Topology.{TopologyValue}
 use Rattle.mc_topology.specs.Reading.{parse_topology}
 use Rattle.mc_topology.proofs.TopologyTexts.{parse_topology-from_denotes}

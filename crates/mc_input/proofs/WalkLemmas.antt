@@ -4,7 +4,7 @@ use Rattle.std.specs.Prelude.{IfOk, IfErr, map, option_map, refl}
 use Rattle.std.specs.FinMap.{FinMap}
 use Rattle.std.specs.Ordering.{nat_cmp}
 use Rattle.std.proofs.Common.{ap, ◌∙◌, sym, subst, inr, append_assoc, append-nil}
-use Rattle.mc_text.specs.Bundle.{PartText}
+use Rattle.mc_bundle.specs.Bundle.{PartText}
 use Rattle.mc_text.specs.Steps.{◌>>=◌, map_fault}
 use Rattle.mc_text.specs.declared.text.addr.Order.{Order}
 use Rattle.mc_igmp.specs.declared.record.Record.{Record}

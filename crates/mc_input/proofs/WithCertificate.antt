@@ -1,7 +1,7 @@
 -- A bundle with a certificate as one more part means the same domain.
 use Rattle.std.proofs.Common.{ℕ, List, [], ◌∷◌, ◌++◌, Some, None, ap, subst}
-use Rattle.mc_text.specs.Bundle.{PartText, IsBundle}
-use Rattle.mc_text.proofs.BundleLaws.{bundle_has_unique_parts}
+use Rattle.mc_bundle.specs.Bundle.{PartText, IsBundle}
+use Rattle.mc_bundle.proofs.BundleLaws.{bundle_has_unique_parts}
 use Rattle.mc_igmp.specs.declared.record.Record.{Record}
 use Rattle.mc_topology.specs.SectionRows.{RouterRow}
 use Rattle.mc_forward.specs.Domains.{DomainValue, TablesValue}

@@ -1,7 +1,7 @@
 -- The input that the files of a folder denote (docs/FORMATS.md, "The files of a folder").
 use Rattle.std.specs.Prelude.{◌≤◌, false, List, length, None}
 use Rattle.std.specs.List.{AllByRecursion}
-use Rattle.mc_text.specs.Bundle.{PartText, max_part}
+use Rattle.mc_bundle.specs.Bundle.{PartText, max_part}
 use Rattle.mc_files.specs.Files.{FileText}
 use Rattle.mc_files.specs.Layout.{slots}
 use Rattle.mc_files.specs.Packing.{ArePacked}

@@ -2,7 +2,7 @@
 -- Each file is read and judged before the next one is opened, in the order of the slots.
 use Rattle.std.specs.Prelude.{ℕ, List, Result, Ok}
 use Rattle.mc_text.specs.Steps.{map_fault}
-use Rattle.mc_text.specs.Bundle.{PartText}
+use Rattle.mc_bundle.specs.Bundle.{PartText}
 use Rattle.mc_files.specs.FilePart.{file_part}
 use Rattle.mc_files.specs.Files.{FileText}
 use Rattle.mc_files.specs.Layout.{Slot, topology_slot}

@@ -1,7 +1,7 @@
 -- The input that a bundle denotes (docs/FORMATS.md, "The parts of a domain"): a topology, the tables of each
 -- router, the reports of each LAN, and the text of a certificate, if the bundle has one.
 use Rattle.std.specs.Prelude.{◌≡◌, ℕ, List, [], ◌∷◌, ◌++◌, Option, Some, None}
-use Rattle.mc_text.specs.Bundle.{PartText, IsBundle}
+use Rattle.mc_bundle.specs.Bundle.{PartText, IsBundle}
 use Rattle.mc_tables.specs.VifTable.{DenotesVifs}
 use Rattle.mc_tables.specs.CacheTable.{DenotesCache}
 use Rattle.mc_igmp.specs.declared.record.Record.{Record}

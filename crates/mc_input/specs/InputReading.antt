@@ -6,8 +6,8 @@ use Rattle.std.specs.Prelude.{Option, Some, None, Result, Ok, Err, if◌then◌e
 use Rattle.std.specs.Str.{bytes_eq}
 use Rattle.mc_text.specs.Steps as Steps
 use Rattle.mc_text.specs.Steps.{◌>>=◌, map_fault}
-use Rattle.mc_text.specs.Bundle.{PartText}
-use Rattle.mc_text.specs.BundleReading.{bundle_of}
+use Rattle.mc_bundle.specs.Bundle.{PartText}
+use Rattle.mc_bundle.specs.BundleReading.{bundle_of}
 use Rattle.mc_topology.specs.Topology.{TopologyValue}
 use Rattle.mc_files.specs.PartMismatch.{first_part_mismatch}
 use Rattle.mc_files.specs.Layout.{Slot, part_name, slots}

@@ -17,8 +17,8 @@ pub mod StatesOfFiles
 pub mod AskedOfFiles
 pub mod Meaning
 pub mod ReadAsMeant
-pub use Rattle.mc_text.specs.Bundle
-pub use Rattle.mc_text.specs.BundleReading
+pub use Rattle.mc_bundle.specs.Bundle
+pub use Rattle.mc_bundle.specs.BundleReading
 pub use Rattle.mc_files.specs.Files
 pub use Rattle.mc_files.specs.Packing
 pub use Rattle.mc_files.specs.Layout

@@ -1,7 +1,7 @@
 -- The lists of reports in a folder's files, and what is kept of what they ask for and no flow answers
 -- (docs/FORMATS.md, "What hosts ask for and no flow answers").
 use Rattle.std.specs.Prelude.{◌≡◌, ℕ, Bool, List, length, Ok}
-use Rattle.mc_text.specs.Bundle.{PartText}
+use Rattle.mc_bundle.specs.Bundle.{PartText}
 use Rattle.mc_igmp.specs.ReadingList.{read_list}
 use Rattle.mc_igmp.specs.declared.record.Record.{Record}
 use Rattle.mc_topology.specs.Topology.{TopologyValue}

@@ -3,9 +3,9 @@
 use Rattle.std.specs.Prelude.{◌≡◌, ℕ, ◌+◌, Bool, List, [], ◌∷◌, drop, length}
 use Rattle.std.specs.Prelude.{slice_get, Option, Some, Result, Ok, Err, if◌then◌else◌}
 use Rattle.std.specs.Str.{bytes_eq}
-use Rattle.mc_text.specs.Bundle.{PartText}
-use Rattle.mc_text.specs.PartsReading.{PartsState}
-use Rattle.mc_text.specs.RestOfBundle.{rest_of_bundle}
+use Rattle.mc_bundle.specs.Bundle.{PartText}
+use Rattle.mc_bundle.specs.PartsReading.{PartsState}
+use Rattle.mc_bundle.specs.RestOfBundle.{rest_of_bundle}
 use Rattle.mc_text.specs.Steps.{◌>>=◌, map_fault}
 use Rattle.mc_topology.specs.Topology.{TopologyValue}
 use Rattle.mc_files.specs.Layout.{Slot, part_name, slots, topology_slot}

@@ -3,8 +3,8 @@
 -- texts.
 use Rattle.std.specs.Prelude.{◌≡◌, ◌⊎◌, Bool, true, false, List, Option, Result}
 use Rattle.mc_text.specs.Steps as Steps
-use Rattle.mc_text.specs.declared.bundle.bundle_fault.BundleFault.{BundleFault}
-use Rattle.mc_text.specs.declared.bundle.bundle_fault.BundleFault.TheVariants as bundle
+use Rattle.mc_bundle.specs.declared.bundle_fault.BundleFault.{BundleFault}
+use Rattle.mc_bundle.specs.declared.bundle_fault.BundleFault.TheVariants as bundle
 use Rattle.mc_files.specs.Files as Files
 use Rattle.mc_files.specs.Files.{FileText}
 use Rattle.mc_files.specs.declared.fault.FileFault.{FileFault}

@@ -3,7 +3,7 @@
 use Rattle.std.specs.Prelude.{◌≡◌, ℕ, List, length, map, slice_get, Ok, Some}
 use Rattle.std.specs.FinMap.{FinMap}
 use Rattle.std.specs.Ordering.{nat_cmp}
-use Rattle.mc_text.specs.Bundle.{PartText}
+use Rattle.mc_bundle.specs.Bundle.{PartText}
 use Rattle.mc_tables.specs.CacheReading.{cache_rows_in}
 use Rattle.mc_tables.specs.CacheTable.{RowValue}
 use Rattle.mc_tables.specs.VifTable.{VifValue}

@@ -6,9 +6,9 @@ use Rattle.std.specs.Prelude.{◌≡◌, ◌≤◌, ℕ, ◌+◌, Bool, true, fa
 use Rattle.std.specs.Prelude.{Option, Some, None, Result, Ok, Err}
 use Rattle.std.specs.FinMap.{FinMap}
 use Rattle.std.specs.Ordering.{nat_cmp}
-use Rattle.mc_text.specs.Bundle.{PartText}
+use Rattle.mc_bundle.specs.Bundle.{PartText}
 use Rattle.mc_text.specs.Lines.{max_text}
-use Rattle.mc_text.specs.PartsReading.{PartsState}
+use Rattle.mc_bundle.specs.PartsReading.{PartsState}
 use Rattle.mc_text.specs.Steps.{◌>>=◌, map_fault}
 use Rattle.mc_text.specs.declared.text.addr.Order.{Order}
 use Rattle.mc_tables.specs.CacheTable.{CacheValue}

@@ -1,7 +1,7 @@
 -- The summaries of the caches in a folder's files: what an audit keeps of each cache beside its listed rows
 -- (Summary of mc_tables).
 use Rattle.std.specs.Prelude.{◌≡◌, ℕ, Bool, List, length, Ok}
-use Rattle.mc_text.specs.Bundle.{PartText}
+use Rattle.mc_bundle.specs.Bundle.{PartText}
 use Rattle.mc_tables.specs.CacheReading.{cache_rows_in}
 use Rattle.mc_tables.specs.CacheTable.{RowValue}
 use Rattle.mc_tables.specs.Summary.{SummaryValue, summary_of}

@@ -1,8 +1,8 @@
 //! Reads the topology and the certificate of a bundle, whose parts have to have the names of their slots.
 
 ghost use Rattle.std.specs.Prelude.{◌≡◌, ◌<◌, Ok, IfOk, IfErr, drop, length};
-ghost use Rattle.mc_text.specs.Device.{failures_after};
-ghost use Rattle.mc_text.specs.RestOfBundle.{Advances, ReadsPart};
+ghost use Rattle.mc_bundle.specs.Device.{failures_after};
+ghost use Rattle.mc_bundle.specs.RestOfBundle.{Advances, ReadsPart};
 ghost use Rattle.mc_files.specs.Layout.{part_name, slots, topology_slot};
 ghost use Rattle.mc_input.specs.PartsOneByOne.{HasNameOfSlot, IsFaultOf, check_names_from};
 ghost use Rattle.mc_input.specs.PartsOneByOne.{read_first_topology};
@@ -13,8 +13,8 @@ use crate::fault::InputFault;
 use crate::part_result::topology_of;
 use crate::slot_part::{drain, open_named, open_slot};
 use crate::source_fault::SourceFault;
+use mc_bundle::{Input, Part, Parts, collect_part};
 use mc_files::Slot;
-use mc_text::{Input, Part, Parts, collect_part};
 use mc_topology::Topology;
 use std::alloc::Global;
 

@@ -2,8 +2,8 @@
 //! wrong name, and the faults of contents last.
 
 ghost use Rattle.std.specs.Prelude.{◌≡◌, ◌<◌, Some, Ok, Err, IfErr, IfOk, is_some, length, option_map};
-ghost use Rattle.mc_text.specs.Device.{failures_after};
-ghost use Rattle.mc_text.specs.RestOfBundle.{Advances};
+ghost use Rattle.mc_bundle.specs.Device.{failures_after};
+ghost use Rattle.mc_bundle.specs.RestOfBundle.{Advances};
 ghost use Rattle.mc_forward.specs.Assembling.{AreAnswers};
 ghost use Rattle.mc_forward.specs.RouterTables.{AreTablesFor};
 ghost use Rattle.mc_input.specs.Input.{InputValue};
@@ -22,8 +22,9 @@ use crate::slot_part::{check_names_to_end, open_named};
 use crate::slots::Slots;
 use crate::source_fault::SourceFault;
 use crate::walk::{Contents, read_contents};
+use mc_bundle::{Input, PartName, Parts, feed_part};
 use mc_files::{NumberedSlot, slot_count};
-use mc_text::{Input, PartName, Parts, PieceReader, feed_part};
+use mc_text::PieceReader;
 use mc_topology::Topology;
 use std::alloc::Global;
 
@@ -53,8 +54,8 @@ impl<R: Input> BundleSlots<R> {
 impl<R: Input> Slots for BundleSlots<R> {
     ghost use Rattle.std.specs.Prelude.{true, option_map, refl};
     ghost use Rattle.std.proofs.Common.{◌∙◌, rules};
-    ghost use Rattle.mc_text.specs.RestOfBundle.{Advances};
-    ghost use Rattle.mc_text.proofs.RestOfBundleLemmas.{advances_trans};
+    ghost use Rattle.mc_bundle.specs.RestOfBundle.{Advances};
+    ghost use Rattle.mc_bundle.proofs.RestOfBundleLemmas.{advances_trans};
     ghost use Rattle.mc_input.specs.Stream.{bundle_gives};
 
     ghost gives = { λ s t n. option_map (bundle_gives s.parts s.certified t n) s.parts.remaining };

@@ -2,10 +2,10 @@
 
 ghost use Rattle.std.specs.Prelude.{◌≡◌, ◌<◌, ℕ, Err, IfErr, IfOk, IfSome, List, Some, is_some};
 ghost use Rattle.std.specs.Prelude.{true};
-ghost use Rattle.mc_text.specs.Bundle.{max_input};
-ghost use Rattle.mc_text.specs.Device.{failures_after};
-ghost use Rattle.mc_text.specs.RestOfBundle.{Advances};
-ghost use Rattle.mc_text.specs.ReadFault.{ConsumesUpTo};
+ghost use Rattle.mc_bundle.specs.Bundle.{max_input};
+ghost use Rattle.mc_bundle.specs.Device.{failures_after};
+ghost use Rattle.mc_bundle.specs.RestOfBundle.{Advances};
+ghost use Rattle.mc_bundle.specs.ReadFault.{ConsumesUpTo};
 ghost use Rattle.mc_text.specs.Steps.{map_fault};
 ghost use Rattle.mc_forward.specs.Domains.{IsDomain};
 ghost use Rattle.mc_input.specs.InputReading.{input_of_bundle};
@@ -29,10 +29,11 @@ use crate::file_slots::topology_in as topology_of_files;
 use crate::files_once::{FilesOnce, read_files_once};
 use crate::source_fault::SourceFault;
 use crate::unanswered::{UnansweredWants, read_unanswered};
+use mc_bundle::{Input, Parts};
 use mc_files::PieceSource;
 use mc_forward::Domain;
 use mc_tables::CacheSummary;
-use mc_text::{GroupRange, Input, Parts};
+use mc_text::GroupRange;
 use std::alloc::Global;
 
 /// How many bytes of a part or a file are read at once.

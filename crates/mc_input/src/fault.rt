@@ -3,9 +3,10 @@
 ghost use Rattle.std.specs.Prelude.{◌≡◌};
 ghost use Rattle.mc_input.specs.declared.fault.InputFault.TheVariants.{Memory};
 
+use mc_bundle::{BundleFault, PartName};
 use mc_igmp::ListFault;
 use mc_tables::TableFault;
-use mc_text::{BundleFault, Memory as NoMemory, PartName};
+use mc_text::Memory as NoMemory;
 use mc_topology::TopologyFault;
 use std::alloc::{AllocError, AllocFailed};
 

@@ -2,15 +2,16 @@
 
 ghost use Rattle.std.specs.Prelude.{◌≡◌, ◌<◌, ◌≤◌, ◌+◌, ◌++◌, ℕ, List, [], Some, Err, false};
 ghost use Rattle.std.specs.Prelude.{IfErr, IfOk, IfSome, OnOk, length};
-ghost use Rattle.mc_text.specs.Bundle.{max_part};
-ghost use Rattle.mc_text.specs.Device.{failures_after};
+ghost use Rattle.mc_bundle.specs.Bundle.{max_part};
+ghost use Rattle.mc_bundle.specs.Device.{failures_after};
 ghost use Rattle.mc_files.specs.FilePart.{IsFailedOrMemory, bytes_within_max_part};
 ghost use Rattle.mc_files.specs.Files.{FileText, file_named, is_failure};
 ghost use Rattle.mc_files.specs.Layout.{file_name};
 ghost use Rattle.mc_input.specs.Feeding.{HasFedFile, SeesHeaderOrFile};
 
+use mc_bundle::MAX_PART;
 use mc_files::{FileFault, PieceSource, Slot};
-use mc_text::{MAX_PART, PieceReader};
+use mc_text::PieceReader;
 use std::alloc::Global;
 
 /// Feeds a piece of a file to a reader, unless it is longer than the `left` bytes that the file may still

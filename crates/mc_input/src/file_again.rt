@@ -1,8 +1,8 @@
 //! Reads a single file of a folder, whichever was read before.
 
 ghost use Rattle.std.specs.Prelude.{◌≡◌, ◌<◌, List, IfErr, IfOk, Ok, Result, Some, length, true};
-ghost use Rattle.mc_text.specs.Bundle.{PartText};
-ghost use Rattle.mc_text.specs.Device.{failures_after};
+ghost use Rattle.mc_bundle.specs.Bundle.{PartText};
+ghost use Rattle.mc_bundle.specs.Device.{failures_after};
 ghost use Rattle.mc_files.specs.FilePart.{file_part};
 ghost use Rattle.mc_files.specs.Files.{FileText};
 ghost use Rattle.mc_files.specs.Layout.{Slot as SlotText, numbered_slot};

@@ -1,7 +1,7 @@
 //! The files of a folder as the parts of a domain's slots. Each is judged as its turn comes.
 
 ghost use Rattle.std.specs.Prelude.{◌≡◌, ◌<◌, ◌≤◌, List, Some, IfErr, IfSome, length, true};
-ghost use Rattle.mc_text.specs.Device.{failures_after};
+ghost use Rattle.mc_bundle.specs.Device.{failures_after};
 ghost use Rattle.mc_files.specs.Files.{FileText};
 ghost use Rattle.mc_files.specs.Layout.{SlotNumber, numbered_slot};
 ghost use Rattle.mc_input.specs.ExcludedRouters.{files_without};
@@ -15,8 +15,9 @@ use crate::fed_file::feed_header_or_file;
 use crate::part_result::topology_of;
 use crate::slots::Slots;
 use crate::source_fault::SourceFault;
+use mc_bundle::PartName;
 use mc_files::{FileSource, NumberedSlot, PieceSource, Slot, part_of_file};
-use mc_text::{PartName, PieceReader};
+use mc_text::PieceReader;
 use mc_topology::Topology;
 use std::alloc::Global;
 

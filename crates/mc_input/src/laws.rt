@@ -1,7 +1,7 @@
 //! Laws that follow from the definitions alone.
 
 ghost use Rattle.std.specs.Prelude.{◌≡◌, ℕ, Bool, false, is_some, List, None, Option};
-ghost use Rattle.mc_text.specs.Bundle.{PartText, IsBundle};
+ghost use Rattle.mc_bundle.specs.Bundle.{PartText, IsBundle};
 ghost use Rattle.mc_tables.specs.Summary.{SummaryValue};
 ghost use Rattle.mc_topology.specs.Topology.{TopologyValue};
 ghost use Rattle.mc_files.specs.Files.{FileText};

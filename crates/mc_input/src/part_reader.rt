@@ -1,7 +1,7 @@
 //! The readers of kernel tables and report lists, as readers of a domain's parts.
 
 ghost use Rattle.std.specs.Prelude.{◌≡◌, [], ℕ, List, true, IfErr, Result};
-ghost use Rattle.mc_text.specs.Bundle.{PartText};
+ghost use Rattle.mc_bundle.specs.Bundle.{PartText};
 ghost use Rattle.mc_input.specs.PartsOneByOne.{IsPartResult};
 ghost use Rattle.mc_input.specs.SourceFault.{is_possible_for_files};
 ghost use Rattle.mc_input.specs.declared.fault.InputFault.{InputFault as Fault};
@@ -9,12 +9,13 @@ ghost use Rattle.mc_input.specs.declared.source_fault.SourceFault.TheVariants.{I
 
 use crate::fault::InputFault;
 use crate::part_result::{cache_or_fault, reports_or_fault, vifs_or_fault};
+use mc_bundle::PartName;
 use mc_igmp::{ListReader, ReportList};
 use mc_tables::{
     CacheReader, CacheTable, EachRowReader, RowFold, SummarizedCache, SummaryReader, VifReader,
     VifTable,
 };
-use mc_text::{PartName, PieceReader};
+use mc_text::PieceReader;
 
 /// A reader of a part, which is fed it in pieces.
 pub(crate) trait PartReader: PieceReader {

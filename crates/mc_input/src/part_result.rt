@@ -3,7 +3,7 @@
 ghost use Rattle.std.specs.Prelude.{◌≡◌, ◌↔◌, IfErr, IfOk, IsTrue, Err, true};
 ghost use Rattle.mc_igmp.specs.ReadingList.{oom_fault};
 ghost use Rattle.mc_tables.specs.Steps.{out_of_memory};
-ghost use Rattle.mc_text.specs.BundleView.{part_text};
+ghost use Rattle.mc_bundle.specs.BundleView.{part_text};
 ghost use Rattle.mc_text.specs.Steps.{map_fault};
 ghost use Rattle.mc_input.specs.InputReading.{Gives};
 ghost use Rattle.mc_input.specs.Kept.{AreFlowPairs};
@@ -16,10 +16,10 @@ ghost use Rattle.mc_input.specs.declared.fault.InputFault.TheVariants.{Vif as Re
 ghost use Rattle.mc_input.specs.declared.source_fault.SourceFault.TheVariants.{Input};
 
 use crate::fault::InputFault;
+use mc_bundle::{Part, PartName};
 use mc_forward::source_group_pairs;
 use mc_igmp::{ListFault, ListFaultKind, ReportList};
 use mc_tables::{ListedPairs, SummaryPairs, TableFault, TableFaultKind, VifTable};
-use mc_text::{Part, PartName};
 use mc_topology::{Topology, TopologyFault, TopologyFaultKind};
 use std::alloc::Global;
 

@@ -2,7 +2,7 @@
 
 ghost use Rattle.std.specs.Prelude.{◌≡◌, ◌≢◌, ◌<◌, ◌∷◌, ◌++◌, List, [], IfOk, OnOk, Some, Result};
 ghost use Rattle.std.specs.Prelude.{length, map};
-ghost use Rattle.mc_text.specs.Bundle.{PartText};
+ghost use Rattle.mc_bundle.specs.Bundle.{PartText};
 ghost use Rattle.mc_files.specs.Files.{FileText};
 ghost use Rattle.mc_files.specs.Layout.{Slot as SlotText, file_name, numbered_slot};
 ghost use Rattle.mc_input.specs.RefusedFiles.{IsOwnFaultUnlessMemory, ListsRefused, as_judged_file};

@@ -2,9 +2,9 @@
 
 ghost use Rattle.std.specs.Prelude.{◌≡◌, ◌<◌, ◌≤◌, ℕ, List, [], Some, Ok, OnOk, IfErr, drop, length};
 ghost use Rattle.std.specs.Prelude.{slice_get};
-ghost use Rattle.mc_text.specs.Device.{failures_after};
-ghost use Rattle.mc_text.specs.PartsReading.{IsOpened, parts_from_current};
-ghost use Rattle.mc_text.specs.RestOfBundle.{Advances, rest_of_bundle};
+ghost use Rattle.mc_bundle.specs.Device.{failures_after};
+ghost use Rattle.mc_bundle.specs.PartsReading.{IsOpened, parts_from_current};
+ghost use Rattle.mc_bundle.specs.RestOfBundle.{Advances, rest_of_bundle};
 ghost use Rattle.mc_text.specs.Steps.{map_fault};
 ghost use Rattle.mc_files.specs.Layout.{part_name, slots};
 ghost use Rattle.mc_input.specs.InputReading.{named};
@@ -15,8 +15,8 @@ ghost use Rattle.mc_input.specs.declared.source_fault.SourceFault.TheVariants.{I
 
 use crate::fault::InputFault;
 use crate::source_fault::SourceFault;
+use mc_bundle::{Input, Parts};
 use mc_files::{Slot, slot_at, slot_count};
-use mc_text::{Input, Parts};
 use mc_topology::Topology;
 
 /// Reads to the end of the bundle, and checks only its framing.

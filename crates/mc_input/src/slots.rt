@@ -2,7 +2,7 @@
 
 ghost use Rattle.std.specs.Prelude.{◌≡◌, ◌<◌, ◌+◌, ℕ, Bool, true, Option, Some, IfErr, IfOk};
 ghost use Rattle.std.specs.Prelude.{cond, length};
-ghost use Rattle.mc_text.specs.Device.{failures_after};
+ghost use Rattle.mc_bundle.specs.Device.{failures_after};
 ghost use Rattle.mc_topology.specs.Topology.{TopologyValue};
 ghost use Rattle.mc_input.specs.SourceFault.{IsReadOrMemory, is_possible_for_files, is_read};
 ghost use Rattle.mc_input.specs.Stream.{IsFaultBeforeOrOwn, IsFaultOfStream, IsFedPart, ReadsFirst};
@@ -12,8 +12,9 @@ ghost use Rattle.mc_input.specs.declared.source_fault.SourceFault.TheVariants.{I
 
 use crate::fault::InputFault;
 use crate::source_fault::SourceFault;
+use mc_bundle::PartName;
 use mc_files::NumberedSlot;
-use mc_text::{PartName, PieceReader};
+use mc_text::PieceReader;
 use std::alloc::Global;
 
 /// A source of the parts of a domain's slots.

@@ -6,8 +6,9 @@ ghost use Rattle.mc_input.specs.declared.fault.InputFault.TheVariants.{Memory};
 ghost use Rattle.mc_input.specs.declared.source_fault.SourceFault.TheVariants.{Input};
 
 use crate::fault::InputFault;
+use mc_bundle::BundleFault;
 use mc_files::FileFault;
-use mc_text::{BundleFault, Memory as NoMemory};
+use mc_text::Memory as NoMemory;
 use std::alloc::{AllocError, AllocFailed};
 
 /// Why no domain is read from a bundle or a folder's files: the first fault, in the order of the

@@ -4,7 +4,7 @@ ghost use Rattle.std.specs.Prelude.{◌≡◌, ◌<◌, ℕ, Bool, IfErr, IfOk, 
 ghost use Rattle.std.specs.FinMap.{FinMap};
 ghost use Rattle.std.specs.List.Sorted.{IsStrictlySortedBy};
 ghost use Rattle.std.specs.Ordering.{nat_cmp};
-ghost use Rattle.mc_text.specs.Device.{failures_after};
+ghost use Rattle.mc_bundle.specs.Device.{failures_after};
 ghost use Rattle.mc_tables.specs.CacheTable.{key_cmp};
 ghost use Rattle.mc_tables.specs.Summary.{SummaryValue};
 ghost use Rattle.mc_tables.specs.VifTable.{VifValue};

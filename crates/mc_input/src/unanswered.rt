@@ -3,7 +3,7 @@
 ghost use Rattle.std.specs.Prelude.{◌≡◌, ◌<◌, ◌^◌, ℕ, Bool, IfErr, IfOk, List, OnOk, Some, length, map};
 ghost use Rattle.std.specs.Prelude.{slice_get, true};
 ghost use Rattle.std.specs.List.Sorted.{IsStrictlySortedBy};
-ghost use Rattle.mc_text.specs.Device.{failures_after};
+ghost use Rattle.mc_bundle.specs.Device.{failures_after};
 ghost use Rattle.mc_igmp.specs.declared.record.Record.{Record};
 ghost use Rattle.mc_tables.specs.CacheTable.{key_cmp};
 ghost use Rattle.mc_tables.specs.Summary.{SummaryValue};

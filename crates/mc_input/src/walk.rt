@@ -2,8 +2,8 @@
 
 ghost use Rattle.std.specs.Prelude.{◌≡◌, ◌<◌, ◌≤◌, ◌+◌, ◌*◌, [], List, Some, Ok, Err, IfOk};
 ghost use Rattle.std.specs.Prelude.{◌++◌, ◌∷◌, IfErr, OnOk, false, true, length, map, Result};
-ghost use Rattle.mc_text.specs.Bundle.{PartText};
-ghost use Rattle.mc_text.specs.Device.{failures_after};
+ghost use Rattle.mc_bundle.specs.Bundle.{PartText};
+ghost use Rattle.mc_bundle.specs.Device.{failures_after};
 ghost use Rattle.mc_igmp.specs.declared.record.Record.{Record};
 ghost use Rattle.mc_files.specs.Layout.{first_lan_number};
 ghost use Rattle.mc_forward.specs.Assembling.{AreAnswers, AreWanted};

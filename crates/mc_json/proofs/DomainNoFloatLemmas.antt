@@ -5,7 +5,7 @@ use Rattle.mc_topology.specs.SectionRows.{InterfaceRow}
 use Rattle.mc_topology.specs.Topology.{TopologyValue}
 use Rattle.mc_theory.specs.Lists.{below}
 use Rattle.mc_forward.specs.ListedTables.{DomainFacts}
-use Rattle.mc_explain.specs.TopologyLans.{vif_of_device}
+use Rattle.mc_search.specs.TopologyLans.{vif_of_device}
 use Rattle.serde_json.specs.Data.{Data, string}
 use Rattle.serde_json.specs.Written.{has_float}
 use Rattle.mc_json.specs.DomainData.{domain_data, interfaces_data, lan_or_null, parts_data, source_data}

@@ -2,16 +2,15 @@
 use Rattle.std.proofs.Common.{◌==◌, ℕ, Bool, true, false, cond, List, [], ◌∷◌, flat_map, map, refl}
 use Rattle.std.specs.Prelude.{codes}
 use Rattle.mc_tables.specs.Summary.{SummaryValue}
-use Rattle.mc_topology.specs.Topology.{TopologyValue, flow_at}
+use Rattle.mc_topology.specs.Topology.{TopologyValue}
 use Rattle.mc_topology.specs.declared.flow.Flow.{Flow}
 use Rattle.mc_theory.specs.Certificates.{Entry}
 use Rattle.mc_theory.specs.Nets.{Net}
 use Rattle.mc_forward.specs.ListedTables.{DomainFacts}
-use Rattle.mc_explain.specs.ExcludedText.{excluded_routers}
-use Rattle.mc_explain.specs.ExplanationValues.{ExplanationValue}
-use Rattle.mc_explain.specs.RoutersForWant.{RoutersForWant}
-use Rattle.mc_explain.specs.UnlistedPairs.{with_routers}
-use Rattle.mc_explain.specs.UnlistedText.{further_rows, shown_unlisted_pairs}
+use Rattle.mc_shown.specs.ExcludedText.{excluded_routers}
+use Rattle.mc_shown.specs.RoutersForWant.{RoutersForWant}
+use Rattle.mc_shown.specs.UnlistedPairs.{with_routers}
+use Rattle.mc_shown.specs.UnlistedText.{further_rows, shown_unlisted_pairs}
 use Rattle.serde_json.specs.Data.{Data}
 use Rattle.json.specs.Print.{escape_byte}
 use Rattle.mc_asked.specs.ListWants.{Want}
@@ -21,10 +20,9 @@ use Rattle.mc_json.specs.DomainData.{domain_data}
 use Rattle.mc_json.specs.EndData.{routers_data, single_member, summary_data, unlisted_data, unlisted_line}
 use Rattle.mc_json.specs.EndData.{unlisted_lines, unlisted_more_data, unlisted_more_line, without_line}
 use Rattle.mc_json.specs.EndData.{without_line_of}
-use Rattle.mc_json.specs.FlowData.{WrongFlow, right_data, tree_data, wrong_data}
+use Rattle.mc_json.specs.FlowData.{right_data, tree_data}
 use Rattle.mc_json.specs.ObjectLines.{AreObjectLines}
 use Rattle.mc_json.specs.RowData.{line_of, list_data}
-use Rattle.mc_json.specs.WrongLine.{FoundTravelValue, wrong_flow_of, wrong_line}
 use Rattle.mc_json.proofs.ObjectLemmas.{are_object_lines-append, are_object_lines-flat_map}
 use Rattle.mc_json.proofs.ObjectLemmas.{are_object_lines-none, are_object_lines-one}
 
@@ -50,18 +48,6 @@ are_object_lines-right true number f copies tree wanted =
     are_object_lines-one (right_data true number f copies tree wanted) refl refl
 are_object_lines-right false number f copies tree wanted =
     are_object_lines-one (right_data false number f copies tree wanted) refl refl
-
--- a flow with a finding, of given members
-pub are_object_lines-wrong_flow : (number : ℕ) (f : Flow) (w : WrongFlow)
-    → AreObjectLines (line_of (wrong_data number f w))
-unfolding escape_byte
-are_object_lines-wrong_flow number f w = are_object_lines-one (wrong_data number f w) refl refl
-
--- so it is for the line that is written
-pub are_object_lines-wrong : (d : DomainFacts) (summary : List SummaryValue) (found : FoundTravelValue)
-    (x : ExplanationValue) → AreObjectLines (wrong_line d summary found x)
-are_object_lines-wrong d summary found x = are_object_lines-wrong_flow found.flow
-    (flow_at d.topology found.flow) (wrong_flow_of d summary found x)
 
 -- ---- after the flows
 

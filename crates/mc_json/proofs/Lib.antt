@@ -1,5 +1,4 @@
 pub mod NoFloatLemmas
-pub mod LineNoFloatLemmas
 pub mod LoopStepLemmas
 pub mod DomainNoFloatLemmas
 pub mod NoFeedLemmas

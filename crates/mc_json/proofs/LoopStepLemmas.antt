@@ -5,7 +5,7 @@ use Rattle.std.proofs.lemmas.Grind.{flat_map-append}
 use Rattle.std.proofs.lemmas.List.{map-append}
 use Rattle.mc_theory.specs.Lists.{below}
 use Rattle.mc_forward.proofs.IndexLemmas.{take-one_more}
-use Rattle.mc_explain.proofs.BucketLemmas.{flat_map-below_push}
+use Rattle.mc_search.proofs.BucketLemmas.{flat_map-below_push}
 use Rattle.serde_json.specs.Data.{Data}
 
 -- values by one number more

@@ -7,8 +7,8 @@ use Rattle.std.specs.Fmt.{signed_decimal}
 use Rattle.std.proofs.lemmas.Bool.{false≢true, ne_eqb}
 use Rattle.std.proofs.lemmas.Bool.Decides.{nat_tests}
 use Rattle.json.specs.Print.{escape, escape_byte, escape_letter, quoted}
-use Rattle.mc_text.proofs.BundleWords.{HasNoByte}
-use Rattle.mc_explain.proofs.LineFeedLemmas.{no_feed-flat_map, number as no_feed-decimal, no_feed-append}
+use Rattle.mc_text.proofs.ByteLemmas.{HasNoByte}
+use Rattle.mc_shown.proofs.LineFeedLemmas.{no_feed-flat_map, number as no_feed-decimal, no_feed-append}
 use Rattle.serde_json.specs.Data.{Num, unsigned, negative, float, Data, null, boolean, number, string}
 use Rattle.serde_json.specs.Data.{array, object, Items, no_items, item, Members, no_members, member}
 use Rattle.serde_json.specs.Written.{comma_if, compact_text, items_text, members_text, number_text}

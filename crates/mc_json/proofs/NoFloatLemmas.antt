@@ -23,13 +23,12 @@ use Rattle.mc_json.specs.RowData.{flow_row_data, row_data, incoming_device, inco
 use Rattle.mc_json.specs.RowData.{lan_data, router_data}
 use Rattle.mc_json.specs.FlowData.{event_data, finding_data, passed_vifs, interface_router, interface_vif}
 use Rattle.mc_json.specs.FlowData.{outcome_data, reached_data, right_data, optional_finding_data}
-use Rattle.mc_json.specs.FlowData.{shown_from_data, tree_data, wrong_data, wrong_mark}
+use Rattle.mc_json.specs.FlowData.{tree_data}
 use Rattle.mc_json.specs.EndData.{unlisted_data}
 use Rattle.mc_json.specs.AskedData.{address_data, asked_data_of, service_data, want_source_data}
 use Rattle.mc_asked.specs.ListWants.{Want}
-use Rattle.mc_explain.specs.declared.asked.asked_text.AskedLine.{AskedLine}
+use Rattle.mc_shown.specs.declared.asked.asked_text.AskedLine.{AskedLine}
 use Rattle.mc_json.specs.TreeKey.{taking_interface}
-use Rattle.mc_explain.specs.declared.causes.explanation.Certainty.{Certainty}
 
 -- ---- lists
 
@@ -152,7 +151,7 @@ no_float-outcome_data t n e (Sent copies strays) =
     rw (no_float-map count_data (λ vif. refl) (passed_vifs e.ttl (n.row e.router)))
 
 -- events
-no_float-events : (t : TopologyValue) (n : Net) (es : List Event) → HaveNoFloat (map (event_data t n) es)
+pub no_float-events : (t : TopologyValue) (n : Net) (es : List Event) → HaveNoFloat (map (event_data t n) es)
 no_float-events t n es = no_float-map (event_data t n) (λ e. no_float-outcome_data t n e e.outcome) es
 
 -- a finding
@@ -163,77 +162,11 @@ no_float-finding_data t (Loop lan) = refl
 no_float-finding_data t (Stray router vif) = refl
 no_float-finding_data t (Missed lan) = refl
 
--- the events, if they are written
-abbrev pub EventsHaveNoFloat : Option (List Data) → Type 0
-EventsHaveNoFloat None = Unit {0}
-EventsHaveNoFloat (Some es) = HaveNoFloat es
-
--- whether a fault is known
-no_float-wrong_mark : (known : Bool) → has_float (wrong_mark known) ≡ false
-no_float-wrong_mark true = refl
-no_float-wrong_mark false = refl
-
--- the TTL from which on packets show it, or null
-pub no_float-shown_from : (shown_from : Option ℕ) → has_float (shown_from_data shown_from) ≡ false
-no_float-shown_from None = refl
-no_float-shown_from (Some ttl) = refl
-
 -- a finding, or null
 pub no_float-optional_finding : (t : TopologyValue) (found : Option Finding)
     → has_float (optional_finding_data t found) ≡ false
 no_float-optional_finding t None = refl
 no_float-optional_finding t (Some finding) = no_float-finding_data t finding
-
--- a flow with a finding, of members without a fraction
-pub no_float-wrong_data : (number : ℕ) (f : Flow) (certainty : Certainty) (also : List Data)
-    (at_flow_ttl behind : Data)
-    (events : Option (List Data)) (finding : Data) (found_ttl : ℕ) (wanted why : List Data)
-    → HaveNoFloat also → has_float at_flow_ttl ≡ false → has_float behind ≡ false → EventsHaveNoFloat events
-    → has_float finding ≡ false → HaveNoFloat wanted → HaveNoFloat why
-    → has_float (wrong_data number f (record {
-      certainty = certainty;
-      also = also;
-      at_flow_ttl = at_flow_ttl;
-      behind = behind;
-      events = events;
-      finding = finding;
-      found_ttl = found_ttl;
-      wanted = wanted;
-      why = why;
-    })) ≡ false
-no_float-wrong_data number f certainty also below past None finding found_ttl wanted why plain own further
-    causes found lans
-    because =
-    rw (
-      plain,
-      own,
-      further,
-      found,
-      no_float-wrong_mark certainty.known,
-      no_float-shown_from certainty.shown_by.from,
-      lans,
-      because,
-    )
-no_float-wrong_data number f certainty also below past (Some es) finding found_ttl wanted why plain own
-    further causes found lans
-    because =
-    rw (
-      plain,
-      own,
-      further,
-      causes,
-      found,
-      no_float-wrong_mark certainty.known,
-      no_float-shown_from certainty.shown_by.from,
-      lans,
-      because,
-    )
-
--- events, if they are asked for
-pub no_float-events_if_asked : (t : TopologyValue) (n : Net) (events : Option (List Event))
-    → EventsHaveNoFloat (option_map (map (event_data t n)) events)
-no_float-events_if_asked t n (Some events) = no_float-events t n events
-no_float-events_if_asked t n None = tt
 
 -- ---- after the flows
 

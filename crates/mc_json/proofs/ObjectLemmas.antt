@@ -5,9 +5,9 @@ use Rattle.std.specs.Prelude.{slice_index_or}
 use Rattle.std.proofs.lemmas.Bool.{false≢true}
 use Rattle.std.proofs.lemmas.Grind.{flat_map-append}
 use Rattle.mc_theory.proofs.ListLemmas.{in-append_cases}
-use Rattle.mc_explain.specs.Indented.{HasNoLineFeed}
-use Rattle.mc_explain.specs.UnlistedLines.{with_line_feed}
-use Rattle.mc_explain.proofs.IndentedLemmas.{has_no_line_feed-from_no_byte}
+use Rattle.mc_shown.specs.Indented.{HasNoLineFeed}
+use Rattle.mc_shown.specs.UnlistedLines.{with_line_feed}
+use Rattle.mc_shown.proofs.IndentedLemmas.{has_no_line_feed-from_no_byte}
 use Rattle.serde_json.specs.Data.{Data}
 use Rattle.serde_json.specs.Written.{compact_text}
 use Rattle.mc_json.specs.ObjectLines.{AreObjectLines, BeginsObject, IsNotVerdict}

@@ -6,9 +6,9 @@ use Rattle.mc_topology.specs.Topology.{TopologyValue}
 use Rattle.mc_asked.specs.declared.forwarding.RouterState.{RouterState}
 use Rattle.mc_asked.specs.ListWants.{Want, any_source}
 use Rattle.mc_asked.specs.Services.{service_name}
-use Rattle.mc_explain.specs.AskedText.{listed_sources}
-use Rattle.mc_explain.specs.RoutersForWant.{RoutersForWant, routers_by_state, routers_value}
-use Rattle.mc_explain.specs.declared.asked.asked_text.AskedLine.{AskedLine}
+use Rattle.mc_shown.specs.AskedText.{listed_sources}
+use Rattle.mc_shown.specs.RoutersForWant.{RoutersForWant, routers_by_state, routers_value}
+use Rattle.mc_shown.specs.declared.asked.asked_text.AskedLine.{AskedLine}
 use Rattle.serde_json.specs.Data.{Data, string, null}
 use Rattle.mc_json.specs.EndData.{list_line, routers_data, single_member}
 use Rattle.mc_json.specs.RowData.{count_data, lan_data, line_of, list_data, object_data}

@@ -10,8 +10,8 @@ use Rattle.mc_topology.specs.SectionRows.{InterfaceRow, SourceRow}
 use Rattle.mc_topology.specs.Topology.{TopologyValue}
 use Rattle.mc_theory.specs.Lists.{below}
 use Rattle.mc_forward.specs.ListedTables.{DomainFacts}
-use Rattle.mc_explain.specs.RowText.{device_name_text}
-use Rattle.mc_explain.specs.TopologyLans.{vif_of_device}
+use Rattle.mc_shown.specs.RowText.{device_name_text}
+use Rattle.mc_search.specs.TopologyLans.{vif_of_device}
 use Rattle.serde_json.specs.Data.{Data, null, string}
 use Rattle.mc_json.specs.RowData.{count_data, list_data, object_data}
 use Rattle.mc_json.specs.RowData.{lan_data, router_data}

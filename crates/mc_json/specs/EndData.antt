@@ -4,9 +4,9 @@ use Rattle.std.specs.Prelude.{if◌then◌else◌, codes}
 use Rattle.mc_tables.specs.Summary.{SummaryValue}
 use Rattle.mc_text.specs.Addr.{dotted}
 use Rattle.mc_topology.specs.Topology.{TopologyValue}
-use Rattle.mc_explain.specs.ExcludedText.{excluded_routers}
-use Rattle.mc_explain.specs.UnlistedPairs.{with_routers}
-use Rattle.mc_explain.specs.UnlistedText.{further_rows, shown_unlisted_pairs}
+use Rattle.mc_shown.specs.ExcludedText.{excluded_routers}
+use Rattle.mc_shown.specs.UnlistedPairs.{with_routers}
+use Rattle.mc_shown.specs.UnlistedText.{further_rows, shown_unlisted_pairs}
 use Rattle.serde_json.specs.Data.{Data, string}
 use Rattle.mc_json.specs.RowData.{count_data, line_of, list_data, object_data}
 use Rattle.mc_json.specs.RowData.{router_data}

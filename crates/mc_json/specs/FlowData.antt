@@ -11,11 +11,10 @@ use Rattle.mc_theory.specs.Events.Outcome.{Open, NoRow, OtherVif, Sent}
 use Rattle.mc_theory.specs.Nets.{Interface, Net, Row}
 use Rattle.mc_theory.specs.CertificateOfCopies.{row_pairs}
 use Rattle.mc_forward.specs.ListedTables.{DomainFacts}
-use Rattle.mc_explain.specs.WantedText.{lans_wanting}
+use Rattle.mc_shown.specs.WantedText.{lans_wanting}
 use Rattle.mc_replay.specs.declared.finding.Finding.{Finding}
 use Rattle.mc_replay.specs.declared.finding.Finding.TheVariants.{Clean, Duplicate, Loop, Stray}
 use Rattle.mc_replay.specs.declared.finding.Finding.TheVariants.{Missed}
-use Rattle.mc_explain.specs.declared.causes.explanation.Certainty.{Certainty}
 use Rattle.serde_json.specs.Data.{Data, null, boolean, string}
 use Rattle.mc_json.specs.RowData.{count_data, line_of, list_data, object_data}
 use Rattle.mc_json.specs.RowData.{lan_data, router_data}
@@ -80,7 +79,7 @@ right_data whole number flow copies tree wanted = object_data (
     ∷ (codes "ttl", count_data flow.ttl)
     ∷ (codes "wanted", list_data wanted) ∷ [])
 
--- ---- a flow that isn't right
+-- ---- a finding, and the events that show it
 
 -- a finding that is about a LAN
 abbrev pub finding_at_lan : TopologyValue → (kind : List ℕ) → (lan : ℕ) → Data
@@ -147,71 +146,7 @@ outcome_data topology net event (Sent copies strays) =
 abbrev pub event_data : TopologyValue → Net → Event → Data
 event_data topology net event = outcome_data topology net event event.outcome
 
--- that the flow isn't right, or null where that isn't known
-abbrev pub wrong_mark : (known : Bool) → Data
-wrong_mark true = boolean false
-wrong_mark false = null
-
--- the TTL from which on packets show a finding; null where none is given
-abbrev pub shown_from_data : Option ℕ → Data
-shown_from_data None = null
-shown_from_data (Some ttl) = count_data ttl
-
 -- a finding; null where there is none
 abbrev pub optional_finding_data : TopologyValue → Option Finding → Data
 optional_finding_data topology None = null
 optional_finding_data topology (Some finding) = finding_data topology finding
-
--- the members of a flow with a finding from `flow` on, in the order of keys
-abbrev pub each_wrong_members : (number : ℕ) → Flow → Certainty → (found_ttl : ℕ) → (wanted why : List Data)
-    → List (List ℕ × Data)
-each_wrong_members number flow certainty found_ttl wanted why =
-    (codes "flow", count_data (number + 1))
-    ∷ (codes "found_ttl", count_data found_ttl)
-    ∷ (codes "group", string (dotted flow.group))
-    ∷ (codes "right", wrong_mark certainty.known)
-    ∷ (codes "shown_from", shown_from_data certainty.shown_by.from)
-    ∷ (codes "source", string (dotted flow.source))
-    ∷ (codes "ttl", count_data flow.ttl)
-    ∷ (codes "wanted", list_data wanted)
-    ∷ (codes "why", list_data why) ∷ []
-
--- What is written of a flow with a finding, beside its number, addresses and TTL.
-pub record WrongFlow : Type 0 where
-  -- how certain the finding is
-  pub certainty : Certainty
-  -- the LANs that were also missed
-  pub also : List Data
-  -- what a packet with the flow's own TTL meets
-  pub at_flow_ttl : Data
-  -- what is behind a stray
-  pub behind : Data
-  -- the travel's events, if they are asked for
-  pub events : Option (List Data)
-  -- the finding
-  pub finding : Data
-  -- the TTL of the packet that shows it
-  pub found_ttl : ℕ
-  -- the LANs that want the flow
-  pub wanted : List Data
-  -- the causes
-  pub why : List Data
-
--- the member `events`, if the travel's events are asked for
-abbrev pub events_member : Option (List Data) → List (List ℕ × Data)
-events_member None = []
-events_member (Some events) = (codes "events", list_data events) ∷ []
-
--- all members of a flow with a finding
-abbrev pub wrong_members : (number : ℕ) → Flow → WrongFlow → List (List ℕ × Data)
-wrong_members number flow wrong =
-    (codes "also", list_data wrong.also)
-    ∷ (codes "at_ttl", wrong.at_flow_ttl)
-    ∷ (codes "behind", wrong.behind)
-    ∷ (events_member wrong.events
-    ++ ((codes "finding", wrong.finding) ∷ each_wrong_members number flow wrong.certainty wrong.found_ttl
-    wrong.wanted wrong.why))
-
--- a flow with a finding
-abbrev pub wrong_data : (number : ℕ) → Flow → WrongFlow → Data
-wrong_data number flow wrong = object_data (wrong_members number flow wrong)

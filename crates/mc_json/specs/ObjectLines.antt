@@ -4,8 +4,8 @@ use Rattle.std.specs.Prelude.{◌≡◌, ◌≢◌, ℕ, List, ◌++◌, codes, 
 use Rattle.serde_json.specs.Data.{Members}
 use Rattle.serde_json.specs.View.{members_view}
 use Rattle.mc_theory.specs.Lists.{In}
-use Rattle.mc_explain.specs.Indented.{HasNoLineFeed}
-use Rattle.mc_explain.specs.UnlistedLines.{with_line_feed}
+use Rattle.mc_shown.specs.Indented.{HasNoLineFeed}
+use Rattle.mc_shown.specs.UnlistedLines.{with_line_feed}
 use Rattle.mc_json.specs.declared.fields.Fields.{Fields}
 
 -- The fields that were built have these members, unless an allocation failed.

@@ -9,8 +9,8 @@ use Rattle.mc_topology.specs.declared.flow.Flow.{Flow}
 use Rattle.mc_theory.specs.Nets.{Row}
 use Rattle.mc_forward.specs.Domains.{oif_pairs}
 use Rattle.mc_forward.specs.ListedTables.{DomainFacts}
-use Rattle.mc_explain.specs.EverySourceText.{every_source_of}
-use Rattle.mc_explain.specs.RowText.{address_text, device_name_text, of_entry_or}
+use Rattle.mc_search.specs.SearchLine.{every_source_of}
+use Rattle.mc_shown.specs.RowText.{address_text, device_name_text, of_entry_or}
 use Rattle.serde_json.specs.Data.{Data, Members, null, number, unsigned, string, array, object}
 use Rattle.serde_json.specs.Data.{member, no_members}
 use Rattle.serde_json.specs.View.{items_of}

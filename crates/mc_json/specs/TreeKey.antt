@@ -2,7 +2,7 @@
 use Rattle.std.specs.Prelude.{ℕ, List, ◌++◌, map, Option, Some, None}
 use Rattle.mc_theory.specs.Certificates.{Entry}
 use Rattle.mc_theory.specs.Nets.{Interface, Net, Row}
-use Rattle.mc_explain.specs.RowText.{of_entry_or}
+use Rattle.mc_shown.specs.RowText.{of_entry_or}
 
 -- the interface at which a router takes the packets, by its row; none for a row without an incoming vif
 abbrev pub incoming_interface : (router : ℕ) → Row → Option Interface

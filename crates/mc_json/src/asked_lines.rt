@@ -12,7 +12,7 @@ use crate::fields::Fields;
 use crate::line::{push_line, push_list_line};
 use crate::name_values::{lan_names, router_names};
 use mc_asked::{SharedPair, service_name};
-use mc_explain::AskedLine;
+use mc_shown::AskedLine;
 use mc_text::{Addr, Memory};
 use mc_topology::{LanNo, Topology};
 use serde_json::Value;

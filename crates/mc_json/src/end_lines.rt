@@ -10,7 +10,7 @@ ghost use Rattle.mc_json.specs.RowData.{line_of};
 use crate::fields::Fields;
 use crate::line::{push_line, push_list_line};
 use crate::name_values::router_names;
-use mc_explain::{UnlistedPair, UnlistedPairs};
+use mc_shown::{UnlistedPair, UnlistedPairs};
 use mc_tables::CacheSummary;
 use mc_text::Memory;
 use mc_topology::{RouterNo, Topology};

@@ -16,7 +16,7 @@ use std::alloc::{AllocError, Global};
 /// The members so far, or the first failed allocation. Each step consumes the builder and returns it with
 /// one member more, so that a failure keeps nothing.
 #[derive(Drop)]
-pub(crate) struct Fields {
+pub struct Fields {
     alloc: Global,
     built: Result<Map<String, Value>, AllocError>,
 }
@@ -56,7 +56,7 @@ fn string(text: Result<String, AllocError>) -> Result<Value, AllocError>
 
 impl Fields {
     /// A builder without members.
-    pub(crate) fn new(alloc: Global) -> Fields
+    pub fn new(alloc: Global) -> Fields
         ensures { HasMembers result no_members }
     {
         let built = Ok(Map::new(alloc));
@@ -64,7 +64,7 @@ impl Fields {
     }
 
     /// Adds a member with this value.
-    pub(crate) fn value(self, key: &str, value: Result<Value, AllocError>) -> Fields
+    pub fn value(self, key: &str, value: Result<Value, AllocError>) -> Fields
         ensures { (members : Members) → (given : Data) → HasMembers self members
             → IfOk value (λ v. data_of v ≡ given)
             → HasMembers result (with_member key.now given members) }
@@ -75,7 +75,7 @@ impl Fields {
     }
 
     /// Adds an array of these items.
-    pub(crate) fn list(self, key: &str, items: Result<Vec<Value>, AllocError>) -> Fields
+    pub fn list(self, key: &str, items: Result<Vec<Value>, AllocError>) -> Fields
         ensures { (members : Members) → (values : List Data) → HasMembers self members
             → IfOk items (λ verdicts. map data_of verdicts.items ≡ values)
             → HasMembers result (with_member key.now (list_data values) members) }
@@ -84,7 +84,7 @@ impl Fields {
     }
 
     /// Adds an owned string.
-    pub(crate) fn string(self, key: &str, text: Result<String, AllocError>) -> Fields
+    pub fn string(self, key: &str, text: Result<String, AllocError>) -> Fields
         ensures { (members : Members) → (bytes : List ℕ) → HasMembers self members
             → IfOk text (λ t. string_bytes t ≡ bytes)
             → HasMembers result (with_member key.now (string bytes) members) }
@@ -93,7 +93,7 @@ impl Fields {
     }
 
     /// Adds a copy of a text.
-    pub(crate) fn text(self, key: &str, text: &str) -> Fields
+    pub fn text(self, key: &str, text: &str) -> Fields
         ensures { (members : Members) → HasMembers self members
             → HasMembers result (with_member key.now (string text.now) members) }
     {
@@ -103,7 +103,7 @@ impl Fields {
     }
 
     /// Adds a number.
-    pub(crate) fn count(self, key: &str, number: u64) -> Fields
+    pub fn count(self, key: &str, number: u64) -> Fields
         ensures { (members : Members) → HasMembers self members
             → HasMembers result (with_member key.now (count_data number) members) }
     {
@@ -111,7 +111,7 @@ impl Fields {
     }
 
     /// Adds a truth value.
-    pub(crate) fn flag(self, key: &str, flag: bool) -> Fields
+    pub fn flag(self, key: &str, flag: bool) -> Fields
         ensures { (members : Members) → HasMembers self members
             → HasMembers result (with_member key.now (boolean flag) members) }
     {
@@ -119,7 +119,7 @@ impl Fields {
     }
 
     /// Adds null.
-    pub(crate) fn null(self, key: &str) -> Fields
+    pub fn null(self, key: &str) -> Fields
         ensures { (members : Members) → HasMembers self members
             → HasMembers result (with_member key.now null members) }
     {
@@ -127,7 +127,7 @@ impl Fields {
     }
 
     /// Adds the name of a LAN.
-    pub(crate) fn lan(self, key: &str, topology: &Topology, lan: LanNo) -> Fields
+    pub fn lan(self, key: &str, topology: &Topology, lan: LanNo) -> Fields
         ensures { (members : Members) → HasMembers self members
             → HasMembers result (with_member key.now (lan_data topology.now lan) members) }
     {
@@ -135,7 +135,7 @@ impl Fields {
     }
 
     /// Adds the name of a router.
-    pub(crate) fn router(self, key: &str, topology: &Topology, router: RouterNo) -> Fields
+    pub fn router(self, key: &str, topology: &Topology, router: RouterNo) -> Fields
         ensures { (members : Members) → HasMembers self members
             → HasMembers result (with_member key.now (router_data topology.now router) members) }
     {
@@ -143,7 +143,7 @@ impl Fields {
     }
 
     /// The finished object, or the first failed allocation.
-    pub(crate) fn object(self) -> Result<Value, AllocError>
+    pub fn object(self) -> Result<Value, AllocError>
         ensures { (members : Members) → HasMembers self members
             → IfOk result (λ v. data_of v ≡ object members) }
     {

@@ -115,7 +115,7 @@ fn event_value(alloc: Global, view: &FlowView<'_>, event: &Event) -> Result<Valu
 }
 
 /// The events of a travel, in order.
-pub(crate) fn event_values(
+pub fn event_values(
     alloc: Global,
     view: &FlowView<'_>,
     events: &[Event],
@@ -170,7 +170,7 @@ fn stray_finding(
 }
 
 /// The finding of a travel.
-pub(crate) fn finding_value(
+pub fn finding_value(
     alloc: Global,
     topology: &Topology,
     finding: Finding,
@@ -187,7 +187,7 @@ pub(crate) fn finding_value(
 }
 
 /// A finding, null where there is none.
-pub(crate) fn optional_finding_value(
+pub fn optional_finding_value(
     alloc: Global,
     topology: &Topology,
     found: Option<Finding>,

@@ -9,10 +9,10 @@ ghost use Rattle.mc_forward.specs.ListedTables.{facts};
 ghost use Rattle.mc_json.specs.DomainData.{interface_data, interfaces_data, lan_or_null, unmatched_data};
 ghost use Rattle.mc_json.specs.DomainData.{vif_data, vifs_data};
 
-use crate::device_value::device_name;
+use crate::device_values::device_name;
 use crate::fields::Fields;
-use mc_explain::vif_of_device;
 use mc_forward::Domain;
+use mc_search::vif_of_device;
 use mc_topology::{Interface, LanNo, RouterNo, Topology};
 use serde_json::Value;
 use std::alloc::{AllocError, Global};

@@ -13,17 +13,18 @@ ghost use Rattle.mc_theory.specs.Flights.{Waiting};
 ghost use Rattle.mc_theory.specs.Nets.{Net};
 ghost use Rattle.mc_forward.specs.ListedTables.{DomainFacts};
 ghost use Rattle.mc_asked.specs.ListWants.{Want};
-ghost use Rattle.mc_explain.specs.RoutersForWant.{RoutersForWant};
+ghost use Rattle.mc_shown.specs.RoutersForWant.{RoutersForWant};
 ghost use Rattle.mc_json.specs.AskedData.{asked_more_line, asked_object, asked_services_line};
 ghost use Rattle.mc_json.specs.DomainData.{domain_data};
 ghost use Rattle.mc_json.specs.EndData.{summary_data, unlisted_lines, verdict_data, without_line};
-ghost use Rattle.mc_json.specs.FlowData.{WrongFlow, right_data, sent_vifs, tree_data, wrong_data};
+ghost use Rattle.mc_json.specs.FlowData.{right_data, sent_vifs, tree_data};
 ghost use Rattle.mc_json.specs.ObjectLines.{AreObjectLines};
 ghost use Rattle.mc_json.specs.RowData.{line_of};
 ghost use Rattle.mc_json.specs.TreeKey.{tree_key};
 
-/// Each line except the verdict's begins an object other than the verdict, and its only line feed ends it,
-/// whatever words of the command line and names of LANs, routers and devices it has.
+/// Each line but the verdict's and those of flows with a finding begins an object other than the verdict, and
+/// its only line feed ends it, whatever words of the command line and names of LANs, routers and devices it
+/// has.
 pub fn each_line_is_an_object()
     ensures domain { (domain : DomainFacts) (words : List (List ℕ)) →
         AreObjectLines (line_of (domain_data domain words)) }
@@ -31,8 +32,6 @@ pub fn each_line_is_an_object()
         AreObjectLines (line_of (tree_data topology net entries tree)) }
     ensures right { (whole : Bool) (number : ℕ) (flow : Flow) (copies tree : ℕ) (wanted : List Data) →
         AreObjectLines (line_of (right_data whole number flow copies tree wanted)) }
-    ensures wrong { (number : ℕ) (flow : Flow) (wrong : WrongFlow) →
-        AreObjectLines (line_of (wrong_data number flow wrong)) }
     ensures unlisted { (all : Bool) (topology : TopologyValue) (summary : List SummaryValue) →
         AreObjectLines (unlisted_lines all topology summary) }
     ensures without { (topology : TopologyValue) (excluded : List Bool) →

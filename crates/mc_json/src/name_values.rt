@@ -9,7 +9,7 @@ use serde_json::Value;
 use std::alloc::{AllocError, Global};
 
 /// The names of LANs.
-pub(crate) fn lan_names(
+pub fn lan_names(
     alloc: Global,
     topology: &Topology,
     lans: &[LanNo],
@@ -25,7 +25,7 @@ pub(crate) fn lan_names(
 }
 
 /// The names of routers.
-pub(crate) fn router_names(
+pub fn router_names(
     alloc: Global,
     topology: &Topology,
     routers: &[RouterNo],

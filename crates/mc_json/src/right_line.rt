@@ -13,7 +13,7 @@ ghost use Rattle.mc_json.specs.FlowData.{right_mark, tree_data};
 ghost use Rattle.mc_json.specs.RowData.{line_of};
 
 use crate::fields::Fields;
-use crate::flow_fields::flow_fields;
+use crate::fields_of_flow::flow_fields;
 use crate::line::push_line;
 use crate::name_values::lan_names;
 use crate::tree_keys::taking_interface;

@@ -4,18 +4,18 @@ use Rattle.std.proofs.Common.{codes, decimal, flat_map, refl}
 use Rattle.std.specs.List.{list_all}
 use Rattle.std.proofs.lemmas.Bool.{and_parts}
 use Rattle.mc_tables.specs.Summary.{SummaryValue}
-use Rattle.mc_text.proofs.BundleWords.{HasNoByte}
+use Rattle.mc_text.proofs.ByteLemmas.{HasNoByte}
 use Rattle.mc_topology.specs.Topology.{IsValidTopology}
 use Rattle.mc_forward.specs.ListedTables.{DomainFacts}
 use Rattle.mc_explain.specs.declared.causes.Cause.{Cause}
-use Rattle.mc_explain.specs.declared.searches.searching.LanSearch.{LanSearch}
-use Rattle.mc_explain.specs.Indented.{AreIndented}
-use Rattle.mc_explain.specs.ShownLines.{shown_lines}
-use Rattle.mc_explain.proofs.IndentedLemmas.{are_indented-append, are_indented-flat_map}
-use Rattle.mc_explain.proofs.IndentedLemmas.{are_indented-from_line_rest, are_indented-none}
-use Rattle.mc_explain.proofs.IndentedLemmas.{is_line_rest-append, is_line_rest-append_front}
-use Rattle.mc_explain.proofs.IndentedLemmas.{is_line_rest-feed}
-use Rattle.mc_explain.proofs.LineFeedLemmas.{no_feed-from_list_all, number}
+use Rattle.mc_search.specs.declared.searching.LanSearch.{LanSearch}
+use Rattle.mc_shown.specs.Indented.{AreIndented}
+use Rattle.mc_search.specs.ShownLines.{shown_lines}
+use Rattle.mc_shown.proofs.IndentedLemmas.{are_indented-append, are_indented-flat_map}
+use Rattle.mc_shown.proofs.IndentedLemmas.{are_indented-from_line_rest, are_indented-none}
+use Rattle.mc_shown.proofs.IndentedLemmas.{is_line_rest-append, is_line_rest-append_front}
+use Rattle.mc_shown.proofs.IndentedLemmas.{is_line_rest-feed}
+use Rattle.mc_shown.proofs.LineFeedLemmas.{no_feed-from_list_all, number}
 use Rattle.mc_lines.specs.CauseLines.{cause_items, cause_lines}
 use Rattle.mc_lines.specs.ExplanationText.{causes_text, context_of, deeper_causes_text, first_lines_text}
 use Rattle.mc_lines.specs.ExplanationText.{more_lines_text}

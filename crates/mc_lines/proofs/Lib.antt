@@ -4,3 +4,5 @@ pub mod NoFeedLemmas
 pub mod WellFormedLemmas
 pub mod IndentedLemmas
 pub mod FirstLinesLemmas
+pub mod LeakLineLemmas
+pub mod BehindTextLemmas

@@ -4,18 +4,18 @@ use Rattle.std.specs.Prelude.{not, codes, flat_map}
 use Rattle.std.specs.List.{list_all}
 use Rattle.std.specs.Str.{bytes_eq}
 use Rattle.std.proofs.lemmas.Bool.{and_parts}
-use Rattle.mc_text.proofs.BundleWords.{HasNoByte}
+use Rattle.mc_text.proofs.ByteLemmas.{HasNoByte}
 use Rattle.mc_topology.specs.Topology.{IsValidTopology}
 use Rattle.mc_theory.specs.Nets.{Row as NetRow}
 use Rattle.mc_theory.specs.Nets.Row.{Exact, Open, NoRow}
-use Rattle.mc_explain.specs.RowText.{byte_text, is_plain}
-use Rattle.mc_explain.specs.TopologyLans.{interface_at}
-use Rattle.mc_explain.proofs.LineFeedLemmas.{no_feed-append, no_feed-cond, no_feed-device_text}
-use Rattle.mc_explain.proofs.LineFeedLemmas.{no_feed-escaped_byte, no_feed-every_source_text}
-use Rattle.mc_explain.proofs.LineFeedLemmas.{no_feed-flat_map, no_feed-flow_row_text, no_feed-from_list_all}
-use Rattle.mc_explain.proofs.LineFeedLemmas.{no_feed-incoming_text, no_feed-lan_name, no_feed-router_name}
-use Rattle.mc_explain.proofs.LineFeedLemmas.{number}
-use Rattle.mc_explain.proofs.NameListLemmas.{no_feed-routers_text}
+use Rattle.mc_shown.specs.RowText.{byte_text, is_plain}
+use Rattle.mc_search.specs.TopologyLans.{interface_at}
+use Rattle.mc_shown.proofs.LineFeedLemmas.{no_feed-append, no_feed-cond, no_feed-device_text}
+use Rattle.mc_shown.proofs.LineFeedLemmas.{no_feed-escaped_byte, no_feed-every_source_text}
+use Rattle.mc_shown.proofs.LineFeedLemmas.{no_feed-flat_map, no_feed-flow_row_text, no_feed-from_list_all}
+use Rattle.mc_shown.proofs.LineFeedLemmas.{no_feed-incoming_text, no_feed-lan_name, no_feed-router_name}
+use Rattle.mc_shown.proofs.LineFeedLemmas.{number}
+use Rattle.mc_shown.proofs.NameListLemmas.{no_feed-routers_text}
 use Rattle.mc_lines.specs.FactText.{fact_text, flag_text, incoming_number_text}
 use Rattle.mc_lines.specs.Filled.{text_of_key}
 use Rattle.mc_lines.specs.FlowContext.{FlowContext, flow_of, row_for_flow}

@@ -9,16 +9,16 @@ use Rattle.mc_forward.specs.declared.unplaced.UnplacedReason.TheVariants.{NoDevi
 use Rattle.mc_explain.specs.declared.causes.Cause.{Cause}
 use Rattle.mc_explain.specs.declared.causes.Cause.TheVariants.{SentOnto, Circle, TakeOut, Unplaced}
 use Rattle.mc_explain.specs.declared.causes.Cause.TheVariants.{LeastTtl, OnlyEverySource, StoppedAt}
-use Rattle.mc_explain.specs.declared.searches.search_line.SearchLine.{SearchLine}
-use Rattle.mc_explain.specs.declared.searches.search_line.SearchLine.TheVariants.{Excluded}
-use Rattle.mc_explain.specs.declared.searches.search_line.SearchLine.TheVariants.{NoVif, NotMulticast, NoRow}
-use Rattle.mc_explain.specs.declared.searches.search_line.SearchLine.TheVariants.{Unresolved, EverySource}
-use Rattle.mc_explain.specs.declared.searches.search_line.SearchLine.TheVariants.{FromUnplaced, DoesNotSend}
-use Rattle.mc_explain.specs.declared.searches.search_line.SearchLine.TheVariants.{Stopped, WaitsFor}
-use Rattle.mc_explain.specs.declared.searches.search_line.SearchLine.TheVariants.{ExpectedFromHere, NoRouter}
-use Rattle.mc_explain.specs.declared.searches.search_line.SearchLine.TheVariants.{NoSender}
-use Rattle.mc_explain.specs.declared.searches.shown_line.ShownLine.{ShownLine}
-use Rattle.mc_explain.specs.declared.searches.shown_line.ShownLine.TheVariants.{One, Expected}
+use Rattle.mc_search.specs.declared.search_line.SearchLine.{SearchLine}
+use Rattle.mc_search.specs.declared.search_line.SearchLine.TheVariants.{Excluded}
+use Rattle.mc_search.specs.declared.search_line.SearchLine.TheVariants.{NoVif, NotMulticast, NoRow}
+use Rattle.mc_search.specs.declared.search_line.SearchLine.TheVariants.{Unresolved, EverySource}
+use Rattle.mc_search.specs.declared.search_line.SearchLine.TheVariants.{FromUnplaced, DoesNotSend}
+use Rattle.mc_search.specs.declared.search_line.SearchLine.TheVariants.{Stopped, WaitsFor}
+use Rattle.mc_search.specs.declared.search_line.SearchLine.TheVariants.{ExpectedFromHere, NoRouter}
+use Rattle.mc_search.specs.declared.search_line.SearchLine.TheVariants.{NoSender}
+use Rattle.mc_search.specs.declared.shown_line.ShownLine.{ShownLine}
+use Rattle.mc_search.specs.declared.shown_line.ShownLine.TheVariants.{One, Expected}
 use Rattle.mc_lines.specs.CauseLines.{cause_lines, take_out_line, unplaced_line}
 use Rattle.mc_lines.specs.Filled.{has_well_formed_sentences}
 use Rattle.mc_lines.specs.FlowContext.{FlowContext, flow_of, row_for_flow}

@@ -5,10 +5,10 @@ use Rattle.std.specs.Prelude.{take}
 use Rattle.mc_tables.specs.Summary.{SummaryValue}
 use Rattle.mc_forward.specs.ListedTables.{DomainFacts}
 use Rattle.mc_explain.specs.declared.causes.Cause.{Cause}
-use Rattle.mc_explain.specs.declared.searches.searching.LanSearch.{LanSearch}
-use Rattle.mc_explain.specs.declared.searches.shown_line.ShownLine.{ShownLine}
-use Rattle.mc_explain.specs.Indented.{AreIndented}
-use Rattle.mc_explain.specs.ShownLines.{shown_lines}
+use Rattle.mc_search.specs.declared.searching.LanSearch.{LanSearch}
+use Rattle.mc_search.specs.declared.shown_line.ShownLine.{ShownLine}
+use Rattle.mc_shown.specs.Indented.{AreIndented}
+use Rattle.mc_search.specs.ShownLines.{shown_lines}
 use Rattle.mc_lines.specs.CauseLines.{causes_items}
 use Rattle.mc_lines.specs.Filled.{deeper_line_text, line_text}
 use Rattle.mc_lines.specs.FlowContext.{FlowContext}

@@ -2,11 +2,11 @@
 use Rattle.std.specs.Prelude.{ℕ, Bool, true, false, List, [], codes, decimal}
 use Rattle.mc_theory.specs.Nets.{Row as NetRow}
 use Rattle.mc_topology.specs.Topology.{TopologyValue, lan_name, router_name}
-use Rattle.mc_explain.specs.EverySourceText.{every_source_text}
-use Rattle.mc_explain.specs.ShownNames.{routers_text}
-use Rattle.mc_explain.specs.RowText.{device_name_text, device_text, flow_row_text, incoming_text}
-use Rattle.mc_explain.specs.RowText.{of_entry_or}
-use Rattle.mc_explain.specs.TopologyLans.{interface_at}
+use Rattle.mc_shown.specs.EverySourceText.{every_source_text}
+use Rattle.mc_shown.specs.ShownNames.{routers_text}
+use Rattle.mc_shown.specs.RowText.{device_name_text, device_text, flow_row_text, incoming_text}
+use Rattle.mc_shown.specs.RowText.{of_entry_or}
+use Rattle.mc_search.specs.TopologyLans.{interface_at}
 use Rattle.mc_lines.specs.FlowContext.{FlowContext, flow_of, row_for_flow}
 use Rattle.mc_lines.specs.Lines.{FactValue}
 use Rattle.mc_lines.specs.Lines.FactValue.{Lan, Router, Device, Interface, IncomingDevice, IncomingVif, Row}

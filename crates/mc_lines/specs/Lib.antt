@@ -7,6 +7,7 @@ pub mod Filled
 pub mod CauseLines
 pub mod SearchLines
 pub mod ExplanationText
+pub mod BehindText
 pub use Rattle.mc_tables.specs.Summary
 pub use Rattle.mc_forward.specs.ListedTables
 pub use Rattle.mc_forward.specs.UnplacedReasons

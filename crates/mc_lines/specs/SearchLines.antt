@@ -7,18 +7,18 @@ use Rattle.mc_forward.specs.UnplacedReasons.{unplaced_reason}
 use Rattle.mc_forward.specs.declared.unplaced.UnplacedReason.{UnplacedReason}
 use Rattle.mc_forward.specs.declared.unplaced.UnplacedReason.TheVariants.{NoVifLine, RegisterVif, Tunnel}
 use Rattle.mc_forward.specs.declared.unplaced.UnplacedReason.TheVariants.{NoDevice, OnNoLan}
-use Rattle.mc_explain.specs.declared.searches.search_line.SearchLine.{SearchLine}
-use Rattle.mc_explain.specs.declared.searches.search_line.SearchLine.TheVariants.{Excluded}
-use Rattle.mc_explain.specs.declared.searches.search_line.SearchLine.TheVariants.{NoVif, NotMulticast, NoRow}
-use Rattle.mc_explain.specs.declared.searches.search_line.SearchLine.TheVariants.{Unresolved, EverySource}
-use Rattle.mc_explain.specs.declared.searches.search_line.SearchLine.TheVariants.{FromUnplaced, DoesNotSend}
-use Rattle.mc_explain.specs.declared.searches.search_line.SearchLine.TheVariants.{Stopped, WaitsFor}
-use Rattle.mc_explain.specs.declared.searches.search_line.SearchLine.TheVariants.{ExpectedFromHere, NoRouter}
-use Rattle.mc_explain.specs.declared.searches.search_line.SearchLine.TheVariants.{NoSender}
-use Rattle.mc_explain.specs.declared.searches.shown_line.ShownLine.{ShownLine}
-use Rattle.mc_explain.specs.declared.searches.shown_line.ShownLine.TheVariants.{One, Expected}
-use Rattle.mc_explain.specs.RowText.{of_entry_or}
-use Rattle.mc_explain.specs.ShownLines.{shown_lines}
+use Rattle.mc_search.specs.declared.search_line.SearchLine.{SearchLine}
+use Rattle.mc_search.specs.declared.search_line.SearchLine.TheVariants.{Excluded}
+use Rattle.mc_search.specs.declared.search_line.SearchLine.TheVariants.{NoVif, NotMulticast, NoRow}
+use Rattle.mc_search.specs.declared.search_line.SearchLine.TheVariants.{Unresolved, EverySource}
+use Rattle.mc_search.specs.declared.search_line.SearchLine.TheVariants.{FromUnplaced, DoesNotSend}
+use Rattle.mc_search.specs.declared.search_line.SearchLine.TheVariants.{Stopped, WaitsFor}
+use Rattle.mc_search.specs.declared.search_line.SearchLine.TheVariants.{ExpectedFromHere, NoRouter}
+use Rattle.mc_search.specs.declared.search_line.SearchLine.TheVariants.{NoSender}
+use Rattle.mc_search.specs.declared.shown_line.ShownLine.{ShownLine}
+use Rattle.mc_search.specs.declared.shown_line.ShownLine.TheVariants.{One, Expected}
+use Rattle.mc_shown.specs.RowText.{of_entry_or}
+use Rattle.mc_search.specs.ShownLines.{shown_lines}
 use Rattle.mc_lines.specs.FlowContext.{FlowContext, row_for_flow}
 use Rattle.mc_lines.specs.Lines.{Line, line}
 use Rattle.mc_lines.specs.Lines.FactValue.{Lan, Router, Device, Interface, IncomingDevice, IncomingVif, Row}

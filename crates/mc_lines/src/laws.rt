@@ -7,9 +7,9 @@ ghost use Rattle.mc_topology.specs.Topology.{IsValidTopology, lan_name, router_n
 ghost use Rattle.mc_forward.specs.ListedTables.{DomainFacts};
 ghost use Rattle.mc_explain.specs.declared.causes.Cause.{Cause};
 ghost use Rattle.mc_explain.specs.declared.causes.Cause.TheVariants.{SentOnto, StoppedAt};
-ghost use Rattle.mc_explain.specs.declared.searches.shown_line.ShownLine.{ShownLine};
-ghost use Rattle.mc_explain.specs.Indented.{AreIndented, indented};
-ghost use Rattle.mc_explain.specs.RowText.{device_text, flow_row_text};
+ghost use Rattle.mc_search.specs.declared.shown_line.ShownLine.{ShownLine};
+ghost use Rattle.mc_shown.specs.Indented.{AreIndented, indented};
+ghost use Rattle.mc_shown.specs.RowText.{device_text, flow_row_text};
 ghost use Rattle.mc_lines.specs.CauseLines.{cause_items, cause_lines};
 ghost use Rattle.mc_lines.specs.ExplanationText.{IsEachSearchIndented, causes_text, deeper_causes_text};
 ghost use Rattle.mc_lines.specs.Filled.{has_well_formed_sentences, joined_sentences, line_text};

@@ -2,6 +2,7 @@
 //! and is written as text here and as JSON above.
 #![tactic(auto)]
 
+mod behind;
 mod context;
 mod deeper_text;
 mod explanation_text;
@@ -11,6 +12,7 @@ mod line_sink;
 mod sentences;
 mod text_sink;
 
+pub use behind::push_leaks_behind;
 pub use context::LineContext;
 pub use explanation_text::{push_causes, push_deeper_causes, push_search};
 pub use facts::Fact;

@@ -31,7 +31,7 @@ use Rattle.mc_forward.proofs.CopiesInDomainLemmas.{all-from_each_member}
 use Rattle.mc_forward.proofs.PerLanLemmas.{first_with_key-entry_on}
 use Rattle.mc_replay.specs.FindingValues.{HasItemWhereCarried}
 use Rattle.mc_replay.specs.Travels.{IsTravelTo, first_choices}
-use Rattle.mc_replay.proofs.FirstLemmas.{double-append}
+use Rattle.mc_forward.proofs.FirstLemmas.{double-append}
 use Rattle.mc_replay.proofs.TravelLemmas.{is_travel_to-cons}
 use Rattle.mc_maker.specs.EntriesByLan.{AreEntriesByLan}
 use Rattle.mc_maker.specs.CleanRuns.{CopiesSoFar, EntriesSoFar, GoesOnTo, GoesPast, GoesPastInterface}

@@ -1,4 +1,3 @@
-pub mod FirstLemmas
 pub mod MissedLemmas
 pub mod WalkLemmas
 pub mod TravelLemmas

@@ -6,7 +6,7 @@ use Rattle.mc_theory.specs.Lists.{below}
 use Rattle.mc_theory.specs.Nets.{Net}
 use Rattle.mc_theory.specs.Flights.{Copy}
 use Rattle.mc_theory.specs.Findings.{first_copy_on, missed}
-use Rattle.mc_replay.proofs.FirstLemmas.{first_some}
+use Rattle.mc_forward.proofs.FirstLemmas.{first_some}
 
 -- the missed LAN of a list with one more is that of the list, or else the last one if it is missed
 missed-push : (n : Net) (cs : List Copy) (xs : List ℕ) (x : ℕ)

@@ -9,8 +9,7 @@ ghost use Rattle.mc_replay.specs.FindingValues.{HasItemWhereCarried, optional_fi
 ghost use Rattle.mc_forward.specs.FlightsInDomain.{net_in};
 
 use crate::finding::Finding;
-use crate::first_copies::sender_on;
-use mc_forward::{CarriedCopy, Flight, FlowView, PerLan};
+use mc_forward::{CarriedCopy, Flight, FlowView, PerLan, sender_on};
 use mc_topology::LanNo;
 
 /// Whether the walk back from a copy to the source visits the copy's own LAN. Each step goes to the

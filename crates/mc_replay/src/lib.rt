@@ -3,7 +3,6 @@
 #![tactic(auto)]
 
 mod finding;
-mod first_copies;
 mod flight_finding;
 mod past_strays;
 mod picker;
@@ -11,7 +10,6 @@ mod shown;
 mod travel;
 
 pub use finding::Finding;
-pub use first_copies::{record_first_copies, sender_on};
 pub use flight_finding::misses_any_lan;
 pub use past_strays::{FlightPastStrays, run_past_strays};
 pub use picker::{First, Last, Numbers, Picker};

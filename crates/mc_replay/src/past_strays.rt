@@ -10,9 +10,8 @@ ghost use Rattle.mc_replay.specs.FindingValues.{finding_value, optional_finding_
 ghost use Rattle.mc_replay.specs.PastStrays.{EndsPastStrays, IsFlightPastStrays, finding_of_double};
 
 use crate::finding::Finding;
-use crate::first_copies::record_first_copies;
 use crate::flight_finding::walk_back_reaches_own_lan;
-use mc_forward::{CarriedCopy, Domain, Flight, FlowView, PerLan};
+use mc_forward::{CarriedCopy, Domain, Flight, FlowView, PerLan, record_first_copies};
 use mc_text::Memory;
 use std::alloc::Global;
 

@@ -12,10 +12,9 @@ ghost use Rattle.mc_replay.specs.Travels.{EndShowsFinding, ShowsWrongFlow, Walks
 ghost use Rattle.mc_replay.specs.Travels.{replay_of};
 
 use crate::finding::Finding;
-use crate::first_copies::record_first_copies;
 use crate::flight_finding::finding_of;
 use crate::picker::Picker;
-use mc_forward::{CarriedCopy, Domain, Event, Flight, FlowView, PerLan};
+use mc_forward::{CarriedCopy, Domain, Event, Flight, FlowView, PerLan, record_first_copies};
 use mc_text::Memory;
 use std::alloc::Global;
 

@@ -16,8 +16,8 @@ use Rattle.mc_asked.specs.Forwarding.{routers_in}
 use Rattle.mc_asked.specs.ListWants.{Want}
 use Rattle.mc_asked.specs.declared.forwarding.RouterState.{RouterState}
 use Rattle.mc_asked.specs.declared.forwarding.RouterState.TheVariants.{EverySource, NoneOut, Forwards}
-use Rattle.mc_explain.specs.AskedText.{asked_line_text, forwarding_text, listed_sources, what_in}
-use Rattle.mc_explain.specs.declared.asked.asked_text.AskedLine.{AskedLine}
+use Rattle.mc_shown.specs.AskedText.{asked_line_text, forwarding_text, listed_sources, what_in}
+use Rattle.mc_shown.specs.declared.asked.asked_text.AskedLine.{AskedLine}
 use Rattle.mc_input.specs.AskedOfFiles.{UnansweredWantsValue}
 use Rattle.mc_json.specs.AskedData.{asked_object}
 use Rattle.mc_json.specs.RowData.{line_of}

@@ -4,9 +4,9 @@ use Rattle.std.proofs.Common.{append_assoc}
 use Rattle.std.specs.Prelude.{OnOk, flat_map, not}
 use Rattle.mc_tables.specs.Summary.{SummaryValue}
 use Rattle.mc_topology.specs.Topology.{TopologyValue}
-use Rattle.mc_explain.specs.ExcludedText.{excluded_routers, excluded_text, verdict_reason, excluded_line}
-use Rattle.mc_explain.specs.ExcludedText.{excluded_lines}
-use Rattle.mc_explain.specs.UnlistedText.{unlisted_text}
+use Rattle.mc_shown.specs.ExcludedText.{excluded_routers, excluded_text, verdict_reason, excluded_line}
+use Rattle.mc_shown.specs.ExcludedText.{excluded_lines}
+use Rattle.mc_shown.specs.UnlistedText.{unlisted_text}
 use Rattle.mc_json.specs.EndData.{summary_data, unlisted_lines, without_line, without_line_of}
 use Rattle.mc_json.specs.RowData.{line_of}
 use Rattle.mc_input.specs.AskedOfFiles.{UnansweredWantsValue}

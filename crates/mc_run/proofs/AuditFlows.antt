@@ -12,7 +12,7 @@ use Rattle.mc_maker.specs.Examined.{is_certified}
 use Rattle.mc_maker.specs.declared.examined_flights.ExaminedFlights.TheVariants.{Certified}
 use Rattle.mc_maker.specs.declared.examination.Examined.{Examined}
 use Rattle.mc_maker.specs.declared.examination.Examined.TheVariants as examined
-use Rattle.mc_explain.specs.declared.searches.searching.LanSearch.{LanSearch}
+use Rattle.mc_search.specs.declared.searching.LanSearch.{LanSearch}
 use Rattle.mc_json.specs.TreeKey.{tree_key}
 use Rattle.mc_run.specs.FlowCounts.{FlowAnswer, are_right, count, is_right, is_unknown, is_unwanted}
 use Rattle.mc_run.specs.FlowCounts.{is_wrong, one_if_true, says_right, says_wrong, with_status}

@@ -2,22 +2,22 @@
 use Rattle.std.proofs.Common.{◌≡◌, ℕ, Bool, true, false, List, [], ◌∷◌, ◌++◌, length, Option, Some, None}
 use Rattle.std.proofs.Common.{refl, sym, ap, subst, ◌∙◌, append_assoc}
 use Rattle.std.specs.Prelude.{◌==◌, ◌&&◌, not, codes, slice_get, decimal, flat_map}
-use Rattle.mc_text.proofs.BundleWords.{HasNoByte}
+use Rattle.mc_text.proofs.ByteLemmas.{HasNoByte}
 use Rattle.mc_topology.specs.Topology.{TopologyValue, IsValidTopology}
 use Rattle.mc_tables.specs.Summary.{SummaryValue}
 use Rattle.mc_forward.specs.ListedTables.{flow_pairs}
 use Rattle.mc_asked.specs.ListWants.{Want}
 use Rattle.mc_asked.specs.declared.forwarding.RouterState.{RouterState}
-use Rattle.mc_explain.specs.AskedText.{IsAskedLine, asked_more_text, listed_sources, services_text}
-use Rattle.mc_explain.specs.ExcludedText.{IsExcludedLine, excluded_text, excluded_lines}
+use Rattle.mc_shown.specs.AskedText.{IsAskedLine, asked_more_text, listed_sources, services_text}
+use Rattle.mc_shown.specs.ExcludedText.{IsExcludedLine, excluded_text, excluded_lines}
 use Rattle.mc_theory.specs.Lists.{below}
-use Rattle.mc_explain.specs.UnlistedLines.{AreLines, IsUnlistedLine}
-use Rattle.mc_explain.specs.UnlistedText.{unlisted_text}
-use Rattle.mc_explain.specs.RoutersForWant.{routers_by_state}
-use Rattle.mc_explain.proofs.AskedLineLemmas.{are_asked_lines-asked_more, are_asked_lines-asked_text}
-use Rattle.mc_explain.proofs.AskedLineLemmas.{are_asked_lines-services}
-use Rattle.mc_explain.proofs.ExcludedLemmas.{are_indented-excluded_text, are_excluded_lines-excluded_lines}
-use Rattle.mc_explain.proofs.UnlistedLineLemmas.{are_unlisted_lines-unlisted_text}
+use Rattle.mc_shown.specs.UnlistedLines.{AreLines, IsUnlistedLine}
+use Rattle.mc_shown.specs.UnlistedText.{unlisted_text}
+use Rattle.mc_shown.specs.RoutersForWant.{routers_by_state}
+use Rattle.mc_shown.proofs.AskedLineLemmas.{are_asked_lines-asked_more, are_asked_lines-asked_text}
+use Rattle.mc_shown.proofs.AskedLineLemmas.{are_asked_lines-services}
+use Rattle.mc_shown.proofs.ExcludedLemmas.{are_indented-excluded_text, are_excluded_lines-excluded_lines}
+use Rattle.mc_shown.proofs.UnlistedLineLemmas.{are_unlisted_lines-unlisted_text}
 use Rattle.mc_input.specs.AskedOfFiles.{UnansweredWantsValue}
 use Rattle.mc_json.specs.AskedData.{asked_more_line, asked_services_line}
 use Rattle.mc_json.specs.EndData.{summary_data, unlisted_lines, without_line}
@@ -31,7 +31,7 @@ use Rattle.mc_run.specs.FlowCounts.{count}
 use Rattle.mc_run.specs.AuditEnd.{end_text_or_objects, strict_lines, strict_line, summary_line}
 use Rattle.mc_run.specs.AuditEnd.{summary_of_flows, end_objects, end_text}
 use Rattle.mc_cli.specs.declared.audit_options.AuditOptions.{AuditOptions}
-use Rattle.mc_explain.proofs.LineFeedLemmas.{number, no_feed-from_list_all, no_feed-append}
+use Rattle.mc_shown.proofs.LineFeedLemmas.{number, no_feed-from_list_all, no_feed-append}
 use Rattle.mc_commands.proofs.VerdictLines.{AreLinesWithoutYes, BeginsWithOtherByte, no_yes_line-append}
 use Rattle.mc_commands.proofs.VerdictLines.{no_yes_line-if, no_yes_line-no_lines, no_yes_line-text_line}
 use Rattle.mc_run.proofs.LinesWithoutYes.{begins-excluded_line, begins-row_line}

@@ -26,8 +26,8 @@ use Rattle.mc_replay.specs.TravelText.{finding_text}
 use Rattle.mc_tables.specs.Summary.{SummaryValue}
 use Rattle.mc_lines.specs.ExplanationText.{causes_text, deeper_causes_text}
 use Rattle.mc_explain.specs.ShownNeed.{IsShownFromIfAny}
-use Rattle.mc_explain.specs.WantedText.{missed_besides, also_missed_text}
-use Rattle.mc_explain.specs.declared.searches.searching.LanSearch.{LanSearch}
+use Rattle.mc_shown.specs.WantedText.{missed_besides, also_missed_text}
+use Rattle.mc_search.specs.declared.searching.LanSearch.{LanSearch}
 use Rattle.mc_explain.specs.declared.causes.Cause.{Cause}
 use Rattle.mc_explain.specs.declared.causes.behind.Behind.{Behind}
 use Rattle.mc_explain.specs.declared.causes.explanation.ShownBy.{ShownBy}

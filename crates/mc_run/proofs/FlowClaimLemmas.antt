@@ -17,11 +17,11 @@ use Rattle.mc_cert.specs.declared.reached.Reached.{Reached}
 use Rattle.mc_explain.specs.BehindFacts.{IsTrueBehind}
 use Rattle.mc_explain.specs.declared.causes.behind.Behind.{Behind}
 use Rattle.mc_explain.proofs.BehindFactLemmas.{is_true-behind}
-use Rattle.mc_explain.specs.WantedText.{lans_wanting}
+use Rattle.mc_shown.specs.WantedText.{lans_wanting}
 use Rattle.mc_maker.specs.Examined.{IfFound, is_certified}
 use Rattle.mc_maker.specs.declared.examination.Examined.{Examined}
 use Rattle.mc_maker.specs.declared.examination.Examined.TheVariants.{Certified, Found}
-use Rattle.mc_json.specs.WrongLine.{wrong_flow_of}
+use Rattle.mc_json_wrong.specs.WrongLine.{wrong_flow_of}
 use Rattle.mc_run.specs.FlowCounts.{are_right}
 use Rattle.mc_run.specs.AuditObjects.{found_travel}
 use Rattle.mc_run.specs.AuditedFiles.{AuditedValue, excluded, is_whole}
@@ -34,7 +34,7 @@ use Rattle.mc_run.specs.AuditFlowText.{answer_lines, right_flow_lines, wrong_lin
 use Rattle.mc_run.specs.AuditFlowText.{wrong_flow_lines}
 use Rattle.mc_run.specs.AuditExplanation.{IsBehindAt255, IsBehindIfStray, IsExplanation, IsShownFromAt255}
 use Rattle.mc_run.specs.AuditExplanation.{IsShownFromUnless, is_known_wrong}
-use Rattle.mc_explain.specs.declared.searches.searching.LanSearch.{LanSearch}
+use Rattle.mc_search.specs.declared.searching.LanSearch.{LanSearch}
 use Rattle.mc_tables.specs.Summary.{SummaryValue}
 use Rattle.mc_maker.specs.ExaminedFlights.{HasExaminedFlights, IsFinishedTravelOf, without_flights}
 use Rattle.mc_maker.specs.declared.examined_flights.ExaminedFlights.{ExaminedFlights}

@@ -2,7 +2,7 @@
 use Rattle.std.proofs.Common.{◌≡◌, ℕ, suc, Bool, true, false, List, [], ◌∷◌, ◌++◌, length, Option, Some}
 use Rattle.std.proofs.Common.{None, refl, sym, ap, subst, ◌∙◌, append_assoc}
 use Rattle.std.specs.Prelude.{codes, slice_get, decimal, flat_map, is_some, map}
-use Rattle.mc_text.proofs.BundleWords.{HasNoByte}
+use Rattle.mc_text.proofs.ByteLemmas.{HasNoByte}
 use Rattle.mc_topology.specs.Topology.{TopologyValue, IsValidTopology, flow_at}
 use Rattle.mc_cert.specs.Certificate.{Tree}
 use Rattle.mc_cert.specs.Distinct.{find_tree}
@@ -14,20 +14,20 @@ use Rattle.mc_maker.specs.declared.examination.Examined.TheVariants.{Certified, 
 use Rattle.mc_tables.specs.Summary.{SummaryValue}
 use Rattle.mc_forward.specs.ListedTables.{DomainFacts, facts}
 use Rattle.mc_lines.specs.ExplanationText.{causes_text, deeper_causes_text}
-use Rattle.mc_explain.specs.WantedText.{also_missed_text, wanted_text}
-use Rattle.mc_explain.specs.declared.searches.searching.LanSearch.{LanSearch}
-use Rattle.mc_explain.specs.BehindText.{leaks_behind_text}
+use Rattle.mc_shown.specs.WantedText.{also_missed_text, wanted_text}
+use Rattle.mc_search.specs.declared.searching.LanSearch.{LanSearch}
+use Rattle.mc_lines.specs.BehindText.{leaks_behind_text}
 use Rattle.mc_explain.specs.declared.causes.Cause.{Cause}
 use Rattle.mc_explain.specs.declared.causes.behind.Behind.{Behind}
 use Rattle.mc_explain.specs.declared.causes.explanation.ShownBy.{ShownBy}
-use Rattle.mc_explain.proofs.BehindTextLemmas.{are_indented-leaks_behind_text}
-use Rattle.mc_explain.proofs.NameListLemmas.{are_indented-also_missed_text, are_indented-wanted_text}
+use Rattle.mc_lines.proofs.BehindTextLemmas.{are_indented-leaks_behind_text}
+use Rattle.mc_shown.proofs.NameListLemmas.{are_indented-also_missed_text, are_indented-wanted_text}
 use Rattle.mc_lines.proofs.IndentedLemmas.{are_indented-causes_text, are_indented-deeper_causes_text}
 use Rattle.mc_lines.proofs.IndentedLemmas.{are_indented-search_text}
 use Rattle.mc_json.specs.FlowData.{tree_data}
 use Rattle.mc_json.specs.RowData.{line_of, lan_data}
 use Rattle.mc_json.proofs.EachLineLemmas.{are_object_lines-right, are_object_lines-tree}
-use Rattle.mc_json.proofs.EachLineLemmas.{are_object_lines-wrong}
+use Rattle.mc_json_wrong.proofs.WrongObjectLemmas.{are_object_lines-wrong}
 use Rattle.mc_run.specs.FlowCounts.{FlowAnswer}
 use Rattle.mc_run.specs.AuditObjects.{found_travel, key_of_tree, tree_line, tree_number}
 use Rattle.mc_run.specs.AuditedFiles.{AuditedValue, is_whole}
@@ -38,7 +38,7 @@ use Rattle.mc_run.specs.AuditText.{behind_text, found_flow_line, searched_lines,
 use Rattle.mc_run.specs.AuditText.{shown_by_text, shown_from_text}
 use Rattle.mc_run.specs.AuditFlowText.{answer_lines, is_hidden, right_lines_or_object, wrong_lines_or_object}
 use Rattle.mc_cli.specs.declared.audit_options.AuditOptions.{AuditOptions}
-use Rattle.mc_explain.proofs.LineFeedLemmas.{number, no_feed-from_list_all, no_feed-append}
+use Rattle.mc_shown.proofs.LineFeedLemmas.{number, no_feed-from_list_all, no_feed-append}
 use Rattle.mc_commands.proofs.VerdictLines.{AreLinesWithoutYes, no_yes_line-append, no_yes_line-if}
 use Rattle.mc_commands.proofs.VerdictLines.{no_yes_line-no_lines, no_yes_line-text_line}
 use Rattle.mc_run.proofs.LinesWithoutYes.{finding_text-no_yes, no_yes_line-events_if_shown}

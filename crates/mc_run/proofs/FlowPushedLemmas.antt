@@ -24,8 +24,8 @@ use Rattle.mc_maker.specs.declared.examination.Examined.{Examined}
 use Rattle.mc_maker.specs.declared.examination.Examined.TheVariants as examined
 use Rattle.mc_replay.specs.declared.travel.FinishedTravel.{FinishedTravel}
 use Rattle.mc_replay.specs.declared.travel.Travel.{Travel}
-use Rattle.mc_explain.specs.WantedText.{lans_wanting}
-use Rattle.mc_explain.specs.declared.searches.searching.LanSearch.{LanSearch}
+use Rattle.mc_shown.specs.WantedText.{lans_wanting}
+use Rattle.mc_search.specs.declared.searching.LanSearch.{LanSearch}
 use Rattle.mc_explain.specs.declared.causes.Cause.{Cause}
 use Rattle.mc_explain.specs.declared.causes.behind.Behind.{Behind}
 use Rattle.mc_explain.specs.declared.causes.explanation.ShownBy.{ShownBy}

@@ -2,7 +2,7 @@
 use Rattle.std.proofs.Common.{◌≡◌, ℕ, eqb, Bool, true, false, List, [], ◌∷◌, ◌++◌, inl, inr, refl, sym}
 use Rattle.std.proofs.Common.{ap, subst, ◌∙◌, append_assoc, arith}
 use Rattle.std.specs.Prelude.{codes, slice_index, decimal, flat_map}
-use Rattle.mc_text.proofs.BundleWords.{HasNoByte}
+use Rattle.mc_text.proofs.ByteLemmas.{HasNoByte}
 use Rattle.mc_topology.specs.declared.flow.Flow.{Flow}
 use Rattle.mc_topology.specs.Topology.{TopologyValue, IsValidTopology, router_name}
 use Rattle.mc_theory.specs.Events.{Event, Outcome}
@@ -12,17 +12,17 @@ use Rattle.mc_replay.specs.TravelText.{event_text, finding_text, outcome_text}
 use Rattle.mc_replay.specs.declared.finding.Finding.{Finding}
 use Rattle.mc_replay.specs.declared.finding.Finding.TheVariants.{Clean, Duplicate, Loop, Stray, Missed}
 use Rattle.mc_replay.specs.declared.travel.Travel.{Travel}
-use Rattle.mc_explain.specs.Indented.{AreIndented, HasNoLineFeed, indented}
-use Rattle.mc_explain.specs.ExcludedText.{IsExcludedLine}
+use Rattle.mc_shown.specs.Indented.{AreIndented, HasNoLineFeed, indented}
+use Rattle.mc_shown.specs.ExcludedText.{IsExcludedLine}
 use Rattle.mc_theory.specs.Lists.{In}
-use Rattle.mc_explain.specs.UnlistedLines.{AreLines, IsUnlistedLine, with_line_feed}
+use Rattle.mc_shown.specs.UnlistedLines.{AreLines, IsUnlistedLine, with_line_feed}
 use Rattle.mc_json.specs.ObjectLines.{AreObjectLines, BeginsObject, IsNotVerdict}
 use Rattle.mc_commands.specs.CheckRun.{AreYesWords, yes_object}
 use Rattle.mc_run.specs.AuditText.{events_if_shown, right_line, found_flow_line, known_word}
 use Rattle.mc_commands.specs.ReplayRun.{event_line, event_lines}
 use Rattle.mc_commands.specs.VerdictText.{flow_words}
-use Rattle.mc_explain.proofs.LineFeedLemmas.{no_feed-dotted, number, no_feed-from_list_all}
-use Rattle.mc_explain.proofs.LineFeedLemmas.{no_feed-router_name, no_feed-append}
+use Rattle.mc_shown.proofs.LineFeedLemmas.{no_feed-dotted, number, no_feed-from_list_all}
+use Rattle.mc_shown.proofs.LineFeedLemmas.{no_feed-router_name, no_feed-append}
 use Rattle.mc_commands.proofs.VerdictLines.{AreLinesWithoutYes, BeginsWithOtherByte, no_yes_line-append}
 use Rattle.mc_commands.proofs.VerdictLines.{no_yes_line-line, lan_name-no_line_feed}
 use Rattle.mc_commands.proofs.VerdictLines.{router_and_vif-no_line_feed, no_yes_line-no_lines}

@@ -22,10 +22,10 @@ use Rattle.mc_replay.specs.Travels.{first_choices}
 use Rattle.mc_maker.specs.declared.examined_flights.ExaminedFlights.{ExaminedFlights}
 use Rattle.mc_maker.specs.declared.examined_flights.ExaminedFlights.TheVariants.{Certified, FoundAtTtl255}
 use Rattle.mc_maker.specs.declared.examined_flights.ExaminedFlights.TheVariants.{FoundAtFlowTtl}
-use Rattle.mc_explain.specs.SearchReach.{name_excluded_router}
+use Rattle.mc_search.specs.SearchReach.{name_excluded_router}
 use Rattle.mc_explain.specs.ShownNeed.{IsShownFromIfAny}
-use Rattle.mc_explain.specs.declared.searches.search_line.SearchLine.{SearchLine}
-use Rattle.mc_explain.specs.declared.searches.searching.LanSearch.{LanSearch}
+use Rattle.mc_search.specs.declared.search_line.SearchLine.{SearchLine}
+use Rattle.mc_search.specs.declared.searching.LanSearch.{LanSearch}
 use Rattle.mc_explain.specs.declared.causes.explanation.Certainty.{Certainty}
 use Rattle.mc_explain.specs.declared.causes.explanation.ShownBy.{ShownBy}
 use Rattle.mc_explain.proofs.UniqueCauseLemmas.{causes-are_unique}

@@ -9,24 +9,24 @@ use Rattle.mc_forward.specs.ListedTables.{DomainFacts}
 use Rattle.mc_replay.specs.declared.finding.Finding.{Finding}
 use Rattle.mc_replay.specs.declared.travel.FinishedTravel.{FinishedTravel}
 use Rattle.mc_maker.specs.declared.examination.Examined.TheVariants as examined_as
-use Rattle.mc_explain.specs.declared.searches.searching.LanSearch.{LanSearch}
+use Rattle.mc_search.specs.declared.searching.LanSearch.{LanSearch}
 use Rattle.mc_lines.specs.ExplanationText.{causes_text, context_of, first_lines_text}
 use Rattle.mc_lines.specs.Filled.{line_text}
 use Rattle.mc_lines.specs.SearchLines.{reach_items, search_items}
-use Rattle.mc_explain.specs.ShownLines.{shown_lines}
-use Rattle.mc_explain.specs.WantedText.{also_missed_text, lans_wanting}
-use Rattle.mc_explain.specs.BehindText.{leaks_behind_text}
+use Rattle.mc_search.specs.ShownLines.{shown_lines}
+use Rattle.mc_shown.specs.WantedText.{also_missed_text, lans_wanting}
+use Rattle.mc_lines.specs.BehindText.{leaks_behind_text}
 use Rattle.mc_explain.specs.declared.causes.Cause.{Cause}
 use Rattle.mc_explain.specs.declared.causes.behind.Behind.{Behind}
 use Rattle.mc_explain.specs.declared.causes.explanation.Certainty.{Certainty}
-use Rattle.mc_json.specs.BehindData.{behind_data, found_behind_data, stray_data}
+use Rattle.mc_json_wrong.specs.BehindData.{behind_data, found_behind_data, stray_data}
 use Rattle.mc_json.specs.EndData.{routers_data}
-use Rattle.mc_json.specs.FlowData.{WrongFlow, event_data, finding_data, optional_finding_data}
-use Rattle.mc_json.specs.FlowData.{shown_from_data, wrong_data}
+use Rattle.mc_json.specs.FlowData.{event_data, finding_data, optional_finding_data}
+use Rattle.mc_json_wrong.specs.WrongData.{WrongFlow, shown_from_data, wrong_data}
 use Rattle.mc_json.specs.RowData.{lan_data, line_of, list_data, object_data}
-use Rattle.mc_json.specs.LineData.{line_values}
-use Rattle.mc_json.specs.WhyData.{causes_data, search_data_if_any, why_data}
-use Rattle.mc_json.specs.WrongLine.{wrong_flow_of}
+use Rattle.mc_json_wrong.specs.LineData.{line_values}
+use Rattle.mc_json_wrong.specs.WhyData.{causes_data, search_data_if_any, why_data}
+use Rattle.mc_json_wrong.specs.WrongLine.{wrong_flow_of}
 use Rattle.serde_json.specs.Data.{Data}
 use Rattle.mc_run.specs.AuditObjects.{found_travel, wrong_object}
 use Rattle.mc_explain.specs.ExplanationValues.{ExplanationValue}

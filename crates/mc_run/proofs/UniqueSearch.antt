@@ -16,9 +16,9 @@ use Rattle.mc_maker.specs.declared.examined_flights.ExaminedFlights.{ExaminedFli
 use Rattle.mc_maker.specs.declared.examined_flights.ExaminedFlights.TheVariants.{Certified, FoundAtTtl255}
 use Rattle.mc_maker.specs.declared.examined_flights.ExaminedFlights.TheVariants.{FoundAtFlowTtl}
 use Rattle.mc_explain.specs.Explained.{ExplainsAtFlowTtl, ExplainsFinding, IsExplained}
-use Rattle.mc_explain.specs.SearchLine.{Search}
-use Rattle.mc_explain.specs.WantedText.{missed_besides}
-use Rattle.mc_explain.specs.declared.searches.searching.LanSearch.{LanSearch}
+use Rattle.mc_search.specs.SearchLine.{Search}
+use Rattle.mc_shown.specs.WantedText.{missed_besides}
+use Rattle.mc_search.specs.declared.searching.LanSearch.{LanSearch}
 use Rattle.mc_explain.specs.declared.causes.Cause.{Cause}
 use Rattle.mc_run.specs.AuditExplanation.{IsSearchAt255, IsSearchIfMissed, also_missed, search_context}
 use Rattle.mc_run.proofs.UniqueTravel.{IsSameFinishedTravel}

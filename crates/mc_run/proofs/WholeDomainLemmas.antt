@@ -18,7 +18,7 @@ use Rattle.mc_maker.specs.declared.examination.Examined.TheVariants as examined
 use Rattle.mc_maker.specs.declared.examined_flights.ExaminedFlights.{ExaminedFlights}
 use Rattle.mc_maker.specs.declared.examined_flights.ExaminedFlights.TheVariants.{Certified, FoundAtTtl255}
 use Rattle.mc_maker.specs.declared.examined_flights.ExaminedFlights.TheVariants.{FoundAtFlowTtl}
-use Rattle.mc_explain.specs.WantedText.{lans_wanting}
+use Rattle.mc_shown.specs.WantedText.{lans_wanting}
 use Rattle.mc_input.specs.ExcludedRouters.{is_excluded}
 use Rattle.mc_input.specs.Meaning.{FilesMeanDomain}
 use Rattle.mc_input.proofs.ExcludedPerFlowLemmas.{ExcludesRouters-from_files}

@@ -8,8 +8,8 @@ use Rattle.mc_forward.specs.ListedTables.{flow_pairs}
 use Rattle.mc_asked.specs.ListWants.{Want}
 use Rattle.mc_asked.specs.declared.forwarding.RouterState.{RouterState}
 use Rattle.mc_asked.specs.declared.forwarding.RouterState.TheVariants.{Nothing}
-use Rattle.mc_explain.specs.AskedText.{asked_more_text, asked_text, asked_text_of, services_text}
-use Rattle.mc_explain.specs.declared.asked.asked_text.AskedLine.{AskedLine}
+use Rattle.mc_shown.specs.AskedText.{asked_more_text, asked_text, asked_text_of, services_text}
+use Rattle.mc_shown.specs.declared.asked.asked_text.AskedLine.{AskedLine}
 use Rattle.mc_input.specs.AskedOfFiles.{UnansweredWantsValue}
 use Rattle.mc_json.specs.AskedData.{asked_data, asked_data_of, asked_more_line, asked_services_line}
 use Rattle.mc_json.specs.RowData.{line_of}

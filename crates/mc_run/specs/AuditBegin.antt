@@ -6,7 +6,7 @@ use Rattle.std.specs.Str.{bytes_eq}
 use Rattle.mc_topology.specs.Topology.{TopologyValue, router_name}
 use Rattle.mc_theory.specs.Lists.{below}
 use Rattle.mc_forward.specs.ListedTables.{DomainFacts}
-use Rattle.mc_explain.specs.ExcludedText.{excluded_routers}
+use Rattle.mc_shown.specs.ExcludedText.{excluded_routers}
 use Rattle.mc_json.specs.DomainData.{domain_data}
 use Rattle.mc_json.specs.RowData.{line_of}
 use Rattle.mc_cli.specs.AuditOptionWords.{faults_word, json_word, strict_word, travel_word, unlisted_word}

@@ -19,9 +19,9 @@ use Rattle.mc_maker.specs.ExaminedFlights.{HasExaminedFlights}
 use Rattle.mc_maker.specs.declared.examined_flights.ExaminedFlights.{ExaminedFlights}
 use Rattle.mc_explain.specs.BehindFacts.{IsTrueBehind}
 use Rattle.mc_explain.specs.ExplanationValues.{ExplanationValue}
-use Rattle.mc_explain.specs.WantedText.{lans_wanting}
+use Rattle.mc_shown.specs.WantedText.{lans_wanting}
 use Rattle.mc_explain.specs.declared.causes.behind.Behind.{Behind}
-use Rattle.mc_json.specs.FlowData.{WrongFlow, wrong_data}
+use Rattle.mc_json_wrong.specs.WrongData.{WrongFlow, wrong_data}
 use Rattle.mc_json.specs.RowData.{line_of}
 use Rattle.mc_cli.specs.declared.audit_options.AuditOptions.{AuditOptions}
 use Rattle.mc_run.specs.AuditEnd.{verdict_line}

@@ -5,8 +5,8 @@ use Rattle.std.specs.Prelude.{ℕ, ◌==◌, ◌+◌, ◌&&◌, not, Bool, List,
 use Rattle.std.specs.Prelude.{if◌then◌else◌, true, false}
 use Rattle.mc_tables.specs.Summary.{SummaryValue}
 use Rattle.mc_topology.specs.Topology.{TopologyValue}
-use Rattle.mc_explain.specs.ExcludedText.{excluded_text, excluded_lines}
-use Rattle.mc_explain.specs.UnlistedText.{unlisted_text}
+use Rattle.mc_shown.specs.ExcludedText.{excluded_text, excluded_lines}
+use Rattle.mc_shown.specs.UnlistedText.{unlisted_text}
 use Rattle.mc_json.specs.EndData.{summary_data, unlisted_lines, verdict_data, without_line}
 use Rattle.mc_json.specs.RowData.{line_of}
 use Rattle.mc_input.specs.AskedOfFiles.{UnansweredWantsValue}

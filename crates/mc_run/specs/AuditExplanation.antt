@@ -21,10 +21,10 @@ use Rattle.mc_explain.specs.Behind.{IsBehind}
 use Rattle.mc_explain.specs.Explained.{IsExplained}
 use Rattle.mc_explain.specs.declared.causes.behind.Behind.{Behind}
 use Rattle.mc_explain.specs.ShownNeed.{IsShownFromIfAny}
-use Rattle.mc_explain.specs.SearchReach.{IsLanSearch, name_excluded_router}
-use Rattle.mc_explain.specs.SearchLine.{Search}
-use Rattle.mc_explain.specs.WantedText.{missed_besides}
-use Rattle.mc_explain.specs.declared.searches.searching.LanSearch.{LanSearch}
+use Rattle.mc_search.specs.SearchReach.{IsLanSearch, name_excluded_router}
+use Rattle.mc_search.specs.SearchLine.{Search}
+use Rattle.mc_shown.specs.WantedText.{missed_besides}
+use Rattle.mc_search.specs.declared.searching.LanSearch.{LanSearch}
 use Rattle.mc_explain.specs.declared.causes.Cause.{Cause}
 use Rattle.mc_explain.specs.declared.causes.explanation.ShownBy.{ShownBy}
 use Rattle.mc_explain.specs.declared.causes.Cause.TheVariants.{Circle, LeastTtl, OnlyEverySource}

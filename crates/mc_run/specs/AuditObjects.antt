@@ -12,7 +12,7 @@ use Rattle.mc_replay.specs.declared.travel.Travel.{Travel}
 use Rattle.mc_json.specs.FlowData.{right_data, tree_data}
 use Rattle.mc_json.specs.RowData.{lan_data, line_of}
 use Rattle.mc_json.specs.TreeKey.{tree_key}
-use Rattle.mc_json.specs.WrongLine.{FoundTravelValue, wrong_line}
+use Rattle.mc_json_wrong.specs.WrongLine.{FoundTravelValue, wrong_line}
 use Rattle.mc_explain.specs.ExplanationValues.{ExplanationValue}
 
 -- ---- a flow that is right

@@ -6,10 +6,10 @@ use Rattle.mc_forward.specs.ListedTables.{facts}
 use Rattle.mc_cert.specs.Certificate.{Tree}
 use Rattle.mc_replay.specs.declared.travel.FinishedTravel.{FinishedTravel}
 use Rattle.mc_replay.specs.declared.travel.Travel.{Travel}
-use Rattle.mc_explain.specs.TopologyLans.{interfaces_on_lans}
-use Rattle.mc_explain.specs.SearchLine.{Search}
-use Rattle.mc_explain.specs.WantedText.{lans_wanting, missed_besides}
-use Rattle.mc_explain.specs.declared.searches.searching.LanSearch.{LanSearch}
+use Rattle.mc_search.specs.TopologyLans.{interfaces_on_lans}
+use Rattle.mc_search.specs.SearchLine.{Search}
+use Rattle.mc_shown.specs.WantedText.{lans_wanting, missed_besides}
+use Rattle.mc_search.specs.declared.searching.LanSearch.{LanSearch}
 use Rattle.mc_explain.specs.declared.causes.Cause.{Cause}
 use Rattle.mc_explain.specs.declared.causes.behind.Behind.{Behind}
 use Rattle.mc_explain.specs.declared.causes.explanation.Certainty.{Certainty}

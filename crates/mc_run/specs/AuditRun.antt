@@ -14,7 +14,7 @@ use Rattle.mc_maker.specs.ExaminedFlights.{HasExaminedFlights, without_flights}
 use Rattle.mc_maker.specs.declared.examination.Examined.{Examined}
 use Rattle.mc_maker.specs.declared.examined_flights.ExaminedFlights.{ExaminedFlights}
 use Rattle.mc_explain.specs.ExplanationValues.{ExplanationValue}
-use Rattle.mc_explain.specs.WantedText.{lans_wanting}
+use Rattle.mc_shown.specs.WantedText.{lans_wanting}
 use Rattle.mc_cli.specs.declared.audit_options.AuditOptions.{AuditOptions}
 use Rattle.mc_run.specs.FlowCounts.{FlowAnswer, are_right, count, is_unwanted}
 use Rattle.mc_run.specs.AuditBegin.{begin_lines}

@@ -11,11 +11,11 @@ use Rattle.mc_replay.specs.TravelText.{finding_text}
 use Rattle.mc_replay.specs.declared.finding.Finding.{Finding}
 use Rattle.mc_replay.specs.declared.travel.Travel.{Travel}
 use Rattle.mc_lines.specs.ExplanationText.{causes_text, deeper_causes_text, search_text}
-use Rattle.mc_explain.specs.BehindText.{leaks_behind_text}
+use Rattle.mc_lines.specs.BehindText.{leaks_behind_text}
 use Rattle.mc_explain.specs.ExplanationValues.{ExplanationValue}
-use Rattle.mc_explain.specs.WantedText.{also_missed_text, wanted_text}
+use Rattle.mc_shown.specs.WantedText.{also_missed_text, wanted_text}
 use Rattle.mc_explain.specs.declared.causes.behind.Behind.{Behind}
-use Rattle.mc_explain.specs.declared.searches.searching.LanSearch.{LanSearch}
+use Rattle.mc_search.specs.declared.searching.LanSearch.{LanSearch}
 use Rattle.mc_explain.specs.declared.causes.Cause.{Cause}
 use Rattle.mc_explain.specs.declared.causes.explanation.ShownBy.{ShownBy}
 use Rattle.mc_commands.specs.ReplayRun.{event_lines}

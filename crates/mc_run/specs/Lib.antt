@@ -14,9 +14,9 @@ pub mod AuditYes
 pub mod AuditPieces
 pub mod Task
 pub mod TaskRuns
-pub use Rattle.mc_text.specs.Device
+pub use Rattle.mc_bundle.specs.Device
 pub use Rattle.mc_text.specs.Lines
-pub use Rattle.mc_text.specs.ReadFault
+pub use Rattle.mc_bundle.specs.ReadFault
 pub use Rattle.mc_theory.specs.Nets
 pub use Rattle.mc_theory.specs.Flights
 pub use Rattle.mc_theory.specs.Certificates

@@ -3,10 +3,10 @@
 use Rattle.std.specs.Prelude.{◌≡◌, ◌==◌, ◌+◌, ◌&&◌, ◌||◌, not, ℕ, Bool, true, false, List, [], map}
 use Rattle.std.specs.Prelude.{Option, Some, Result, Ok, Err, IfErr, IfOk, IfSome, OnErr, OnOk}
 use Rattle.std.specs.Io.KnownBytes.{Appends}
-use Rattle.mc_text.specs.Bundle.{PartText, max_input}
-use Rattle.mc_text.specs.Device.{AppendsProperPrefix}
+use Rattle.mc_bundle.specs.Bundle.{PartText, max_input}
+use Rattle.mc_bundle.specs.Device.{AppendsProperPrefix}
 use Rattle.mc_text.specs.Lines.{max_text}
-use Rattle.mc_text.specs.ReadFault.{ConsumesUpTo}
+use Rattle.mc_bundle.specs.ReadFault.{ConsumesUpTo}
 use Rattle.mc_theory.specs.Findings.{Choices}
 use Rattle.mc_files.specs.Files.{FileText}
 use Rattle.mc_files.specs.Packing.{IsPacked}

@@ -26,7 +26,7 @@ ghost use Rattle.mc_run.specs.AuditRun.{HasCounts, IsAuditText, IsAudited};
 ghost use Rattle.mc_run.specs.AuditClaims.{SaysOfEach, SaysWhichAreRight};
 ghost use Rattle.mc_run.specs.AuditExclusions.{AreFoundInWhole};
 ghost use Rattle.mc_run.specs.AuditYes.{AuditSaysYes, FilesKeepHeadline};
-ghost use Rattle.mc_text.specs.Device.{failures_after};
+ghost use Rattle.mc_bundle.specs.Device.{failures_after};
 ghost use Rattle.mc_commands.specs.Failures.{is_read, is_write};
 ghost use Rattle.mc_commands.specs.Faults.{IsFaultOfAudit};
 ghost use Rattle.mc_commands.specs.InputMeaning.{AreRefusedWithout};
@@ -42,13 +42,14 @@ use crate::audit::audited_domain::AuditedDomain;
 use crate::audit::flow_status::FlowCounts;
 pub use crate::audit::left_out::LeftOut;
 use crate::excluded::excluded_marks;
+use mc_bundle::Output;
 use mc_cert::DistinctTrees;
 use mc_cli::AuditOptions;
 use mc_commands::{RunFault, RunOutput, write_output};
-use mc_explain::InterfacesOfLans;
 use mc_files::PieceSource;
 use mc_input::{FolderDomain, FolderOptions, read_folder_domain};
-use mc_text::{Memory, Output};
+use mc_search::InterfacesOfLans;
+use mc_text::Memory;
 use std::alloc::Global;
 
 /// Appends the lines of each flow of a domain, in order, and counts the flows by their status.

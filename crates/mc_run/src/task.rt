@@ -5,7 +5,7 @@ mod task_input;
 mod task_text;
 
 ghost use Rattle.std.specs.Prelude.{◌≡◌, ◌≢◌, ◌<◌, IfErr, true, false};
-ghost use Rattle.mc_text.specs.Device.{failures_after};
+ghost use Rattle.mc_bundle.specs.Device.{failures_after};
 ghost use Rattle.mc_cli.specs.Task.{IsAllowed};
 ghost use Rattle.mc_commands.specs.Failures.{is_read, is_write};
 ghost use Rattle.mc_run.specs.Task.{IfAudit, IfCheck, IfHelp, IfMake, IfPack, IfReplay, IfVersion};
@@ -16,10 +16,10 @@ ghost use Rattle.mc_run.specs.TaskRuns.{IsTextRun, IsWantsRun};
 use crate::task::task_files::{audit_task, pack_task};
 use crate::task::task_input::{check_task, make_task, replay_task, wants_task};
 use crate::task::task_text::{VERSION_LINE, text_task};
+use mc_bundle::{Input, Output};
 use mc_cli::Task;
 use mc_commands::RunFault;
 use mc_files::PieceSource;
-use mc_text::{Input, Output};
 use std::alloc::Global;
 
 /// Runs a task with its own arguments. `wants`, `check`, `make` and `replay` read the input; `pack` and

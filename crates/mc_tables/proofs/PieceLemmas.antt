@@ -7,7 +7,7 @@ use Rattle.std.proofs.lemmas.Bool.{false_from_ne_true, cases_Bool, eqb-true, ltb
 use Rattle.std.proofs.lemmas.Bool.Decides.{nat_tests}
 use Rattle.std.proofs.lemmas.List.{append-nil, length-append, nil_from_length}
 use Rattle.mc_text.specs.Lines.{LineText, HasNoLineFeed, lines_from}
-use Rattle.mc_text.proofs.BundleWords.{HasNoByte-append}
+use Rattle.mc_text.proofs.ByteLemmas.{HasNoByte-append}
 use Rattle.mc_text.proofs.LineLemmas.{lines_from-unended}
 use Rattle.mc_text.proofs.PieceLemmas.{lines_from-first_ended}
 use Rattle.mc_text.proofs.StepLemmas.{bind-same}

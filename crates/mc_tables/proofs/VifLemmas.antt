@@ -15,7 +15,7 @@ use Rattle.std.proofs.lemmas.List.Elements.{filter_map-append}
 use Rattle.std.proofs.lemmas.Map.Keys.{IsDistinct-push}
 use Rattle.mc_text.specs.Lines.{LineText}
 use Rattle.mc_text.specs.Lines.{words_of}
-use Rattle.mc_text.specs.DeviceName.{is_device_name}
+use Rattle.mc_text.specs.Names.{is_device_name}
 use Rattle.mc_tables.specs.declared.fault.TableFaultKind.TheVariants.{Unended, WordCount, BadIndex}
 use Rattle.mc_tables.specs.declared.fault.TableFaultKind.TheVariants.{BadDevice, BadCounter}
 use Rattle.mc_tables.specs.declared.fault.TableFaultKind.TheVariants.{BadFlags, BadAddress}

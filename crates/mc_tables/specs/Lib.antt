@@ -26,7 +26,7 @@ pub mod SummarySoFar
 pub mod SummaryReading
 pub use Rattle.mc_text.specs.Addr
 pub use Rattle.mc_text.specs.AddressReading
-pub use Rattle.mc_text.specs.DeviceName
+pub use Rattle.mc_text.specs.Names
 pub use Rattle.mc_text.specs.AddressWord
 pub use Rattle.mc_text.specs.Lines
 pub use Rattle.mc_text.specs.Number

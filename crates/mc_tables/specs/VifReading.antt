@@ -10,7 +10,7 @@ use Rattle.std.specs.Str.Parse.{digits_value}
 use Rattle.std.specs.FinMap.{FinMap, from_entries}
 use Rattle.mc_text.specs.Lines.{LineText}
 use Rattle.mc_text.specs.Lines.{words_of}
-use Rattle.mc_text.specs.DeviceName.{is_device_name}
+use Rattle.mc_text.specs.Names.{is_device_name}
 use Rattle.mc_tables.specs.declared.fault.TableFault.{TableFault}
 use Rattle.mc_tables.specs.declared.fault.TableFaultKind.{TableFaultKind}
 use Rattle.mc_tables.specs.declared.fault.TableFaultKind.TheVariants.{Unended, WordCount, BadIndex}

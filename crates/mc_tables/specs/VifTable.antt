@@ -10,7 +10,7 @@ use Rattle.std.specs.Coded.{Coded, code_by, coded×, coded_list, coded_ℕ, code
 use Rattle.std.specs.FinMap.{FinMap, from_entries}
 use Rattle.mc_text.specs.Lines.{LineText}
 use Rattle.mc_text.specs.Lines.{words_of}
-use Rattle.mc_text.specs.DeviceName.{is_device_name}
+use Rattle.mc_text.specs.Names.{is_device_name}
 use Rattle.mc_tables.specs.TableWords.{is_counter, is_hexadecimal, WordDenotesNumber}
 use Rattle.mc_tables.specs.TableLines.{HasHeader, EachDenotes}
 

@@ -23,7 +23,7 @@ use Rattle.mc_text.specs.AddressWord.{printed_octets, IsAddressWord}
 use Rattle.mc_text.proofs.AddrLemmas.{octets_of-below_256, octets_of-from_be_bytes}
 use Rattle.mc_text.proofs.AddrLemmas.{from_be_bytes-below_2_32, decode_of-below_256}
 use Rattle.mc_text.proofs.AddrLemmas.{length-printed_octets}
-use Rattle.mc_text.proofs.BundleWords.{HasNoByte-decimal}
+use Rattle.mc_text.proofs.ByteLemmas.{HasNoByte-decimal}
 use Rattle.mc_text.proofs.Searches.{slice_split-append_passing, slice_split-none_passes}
 
 -- ---- dotted text

@@ -14,9 +14,9 @@ use Rattle.mc_text.specs.Addr.{dotted}
 use Rattle.mc_text.specs.GroupRange.{range_text}
 use Rattle.mc_text.specs.Number.{IsDecimal, is_plain_decimal}
 use Rattle.mc_text.proofs.AddrLemmas.{octets_of-below_256}
-use Rattle.mc_text.proofs.BundleWords.{HasNoByte, HasNoByte-append, HasNoByte-decimal}
-use Rattle.mc_text.proofs.BundleWords.{decimal-of_digits_value, is_plain_decimal-decimal}
-use Rattle.mc_text.proofs.BundleWords.{position-append_byte, split_at_byte}
+use Rattle.mc_text.proofs.ByteLemmas.{HasNoByte, HasNoByte-append, HasNoByte-decimal}
+use Rattle.mc_text.proofs.ByteLemmas.{decimal-of_digits_value, is_plain_decimal-decimal}
+use Rattle.mc_text.proofs.ByteLemmas.{position-append_byte, split_at_byte}
 
 -- ---- plain numbers
 

@@ -2,7 +2,6 @@ pub mod Lists
 pub mod Searches
 pub mod LineLemmas
 pub mod PieceLemmas
-pub mod FedPieceLemmas
 pub mod ResultLemmas
 pub mod StepLemmas
 pub mod AddrLemmas
@@ -13,15 +12,6 @@ pub mod DigitLaneLemmas
 pub mod AddressReading
 pub mod AddressTests
 pub mod NumberReading
-pub mod BundleWords
-pub mod BundlePlaces
-pub mod BundleLaws
-pub mod BundleFront
-mod FaultLemmas
-pub mod Pieces
-pub mod PartsLemmas
-pub mod PartsMeaning
-pub mod PartsLimitLemmas
-pub mod RestOfBundleLemmas
+pub mod ByteLemmas
 mod FindByte
 pub mod GroupRangeLemmas

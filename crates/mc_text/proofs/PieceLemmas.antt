@@ -7,7 +7,7 @@ use Rattle.std.proofs.lemmas.List.Quantifiers.{position-Some}
 use Rattle.std.proofs.lemmas.List.Splits.{length-slice_split}
 use Rattle.mc_text.specs.Lines.{numbered, lines_from, HasNoLineFeed}
 use Rattle.mc_text.proofs.Searches.{slice_split-append_passing}
-use Rattle.mc_text.proofs.BundleWords.{HasNoByte-append, split_at_byte}
+use Rattle.mc_text.proofs.ByteLemmas.{HasNoByte-append, split_at_byte}
 use Rattle.mc_text.proofs.LineLemmas.{HasNoByte-take_position, numbered-more}
 
 -- the place of the first line feed is within the text

@@ -1,11 +1,7 @@
 pub mod Addr
 pub mod AddressReading
 pub mod AddressWord
-pub mod Bundle
-pub mod BundleFaults
-pub mod BundleReading
-pub mod Device
-pub mod DeviceName
+pub mod Names
 pub mod DigitPairs
 pub mod GroupRange
 pub mod Index
@@ -13,11 +9,5 @@ pub mod Lines
 pub mod LineView
 pub mod Number
 pub mod Pair
-pub mod PartName
-pub mod PartsReading
-pub mod PartsLimits
-pub mod RestOfBundle
-pub mod BundleView
-pub mod ReadFault
 pub mod Steps
 pub use Rattle.hex.specs.Hex

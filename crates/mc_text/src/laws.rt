@@ -12,7 +12,6 @@ ghost use Rattle.mc_text.specs.Lines.{max_text};
 ghost use Rattle.mc_text.specs.Number.{IsDecimal, number_up_to};
 ghost use Rattle.mc_text.specs.declared.text.addr.Order.{Order};
 
-pub use crate::bundle::{bundle_front_decides, bundle_has_one_part_list, written_bundle_is_read};
 use crate::text::{Addr, MAX_TEXT};
 
 /// The lines of a text, each with its line feed if it has one, join to the text.

@@ -18,6 +18,5 @@ pub use device_name::is_device_name;
 pub use digit_lanes::{are_hex_digits, bytes_of_hex_digits};
 pub use group_range::GroupRange;
 pub use lines::{Line, Lines, MAX_TEXT};
-pub use number::decimal;
-pub(crate) use number::is_plain_decimal;
+pub use number::{decimal, is_plain_decimal};
 pub use words::Words;

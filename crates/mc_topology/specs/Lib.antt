@@ -16,8 +16,7 @@ pub mod Sources
 pub mod Denotation
 pub mod Topology
 pub use Rattle.mc_text.specs.Addr
-pub use Rattle.mc_text.specs.Bundle
-pub use Rattle.mc_text.specs.DeviceName
+pub use Rattle.mc_text.specs.Names as TextNames
 pub use Rattle.toml.specs.Data
 pub use Rattle.toml.specs.View
 pub use Rattle.toml.specs.Parse

@@ -3,8 +3,7 @@ use Rattle.std.specs.Prelude.{ℕ, ◌==◌, ◌&&◌, not, nat_le, Bool, List, 
 use Rattle.std.specs.Prelude.{Option}
 use Rattle.std.specs.List.{list_all}
 use Rattle.std.specs.Str.{bytes_eq}
-use Rattle.mc_text.specs.Bundle.{is_name_byte as is_part_byte}
-use Rattle.mc_text.specs.DeviceName.{is_device_name}
+use Rattle.mc_text.specs.Names.{is_device_name, is_part_byte}
 
 -- whether a byte may be in a name: a letter, a digit, `-`, `_` or `.`, which are the bytes of a
 -- part's name in a bundle, but for `/`

@@ -2,7 +2,7 @@
 
 ghost use Rattle.std.specs.Prelude.{◌≡◌, None};
 
-use mc_text::{DeviceFault, Output};
+use mc_bundle::{DeviceFault, Output};
 use std::marker::Model;
 use std::str;
 
@@ -16,7 +16,7 @@ pub(crate) struct ToStandardError<'r, R: Eprint> {
 
 impl<'r, R: Eprint> Model for ToStandardError<'r, R> {
     ghost use Rattle.std.specs.Prelude.{None};
-    ghost use Rattle.mc_text.specs.Device.{OutputState};
+    ghost use Rattle.mc_bundle.specs.Device.{OutputState};
 
     ghost Value = { OutputState };
 

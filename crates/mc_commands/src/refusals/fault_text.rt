@@ -5,10 +5,10 @@ ghost use Rattle.mc_commands.specs.FaultText.{fault_text, line_of_fault, line_or
 ghost use Rattle.mc_commands.specs.FaultText.{table_fault_text, topology_fault_text};
 
 use crate::refusals::fault_words::{list_word, table_word, topology_word};
+use mc_bundle::MAX_PART;
 use mc_igmp::ListFault;
 use mc_input::InputFault;
 use mc_tables::TableFault;
-use mc_text::MAX_PART;
 use mc_topology::TopologyFault;
 use std::fmt;
 

@@ -2,14 +2,15 @@
 
 ghost use Rattle.std.specs.Prelude.{◌≡◌, ◌≢◌, ◌<◌, ◌≤◌, ◌∷◌, ℕ, List, [], Some, IfErr, IfOk, IfSome};
 ghost use Rattle.std.specs.Prelude.{OnOk, length, option_map, take, vec_len};
-ghost use Rattle.mc_text.specs.Device.{failures_after};
+ghost use Rattle.mc_bundle.specs.Device.{failures_after};
 ghost use Rattle.mc_files.specs.Files.{is_failure};
 ghost use Rattle.mc_input.specs.RefusedFiles.{saturating_failures};
 ghost use Rattle.mc_commands.specs.LineFront.{TakesPiece, front_after_more, line_front};
 ghost use Rattle.mc_commands.specs.RefusalText.{IsFrontInFile, lost_calls};
 
+use mc_bundle::MAX_PART;
 use mc_files::{FileFault, PieceSource};
-use mc_text::{MAX_PART, Memory};
+use mc_text::Memory;
 use std::alloc::Global;
 
 /// The most bytes of a line that are printed.

@@ -21,7 +21,7 @@ struct QuotedByte {
 impl fmt::Display for QuotedByte {
     ghost output = { λ shown. Some (quoted_byte shown.byte) };
 
-    #[tactic(auto, using(mc_explain::proofs::DeviceLemmas::hex_text))]
+    #[tactic(auto, using(mc_shown::proofs::DeviceLemmas::hex_text))]
     fn fmt<W: fmt::Write>(&self, f: &mut fmt::Formatter<W>) -> fmt::Result {
         let byte = self.byte;
         if is_unescaped(byte) {

@@ -3,7 +3,7 @@
 ghost use Rattle.std.specs.Prelude.{◌≡◌, ◌≢◌, ◌<◌, ◌++◌, ℕ, List, [], IfErr, IfOk, IfSome, OnOk, codes};
 ghost use Rattle.std.specs.Prelude.{length, map, option_map, unwrap_or};
 ghost use Rattle.std.specs.String.{string_bytes};
-ghost use Rattle.mc_text.specs.Device.{failures_after};
+ghost use Rattle.mc_bundle.specs.Device.{failures_after};
 ghost use Rattle.mc_files.specs.FilePart.{unread_text};
 ghost use Rattle.mc_input.specs.declared.refused_file.Refusal.TheVariants.{Fault};
 ghost use Rattle.mc_commands.specs.Failures.{is_write};
@@ -16,9 +16,10 @@ use crate::fault::RunFault;
 use crate::refusals::fault_text::{ShownFault, line_of_fault};
 use crate::refusals::line_front::front_of_line;
 use crate::refusals::quoted::Quoted;
+use mc_bundle::{Output, write_all};
 use mc_files::{PieceSource, Unread};
 use mc_input::{InputFault, PIECE, Refusal, RefusedFile, refused_files};
-use mc_text::{Memory, Output, write_all};
+use mc_text::Memory;
 use std::alloc::Global;
 
 /// The most files that are printed.

@@ -16,10 +16,10 @@ ghost use Rattle.mc_explain.specs.Behind.{with_open_router, with_router_once};
 ghost use Rattle.mc_explain.specs.ShownNeed.{need_of_two_copies as least_of_two_copies};
 
 use crate::causes::Cause;
-use crate::causes::first_copies::FirstCopies;
 use crate::causes::second_copy::{second_causes, second_shown_from};
 use mc_forward::{CarriedCopy, Domain, Flight, FlowView, RowFor, Stray};
 use mc_replay::{Finding, run_past_strays};
+use mc_search::FirstCopies;
 use mc_text::Memory;
 use mc_topology::{LanNo, RouterNo};
 use std::alloc::Global;

@@ -12,12 +12,12 @@ ghost use Rattle.mc_explain.specs.LastFlights.{HasLoop, EndsTravel, HasSecondCop
 ghost use Rattle.mc_explain.specs.LastFlights.{IsSecondCopy};
 
 use crate::causes::Cause;
-use crate::causes::first_copies::FirstCopies;
 use crate::causes::hop::Hop;
 use crate::causes::path::{first_stop, hops_around, hops_back, need};
 use mc_forward::{CarriedCopy, Domain, Flight, FlowView, RowFor};
 use mc_maker::ExaminedFlights;
 use mc_replay::{Finding, FinishedTravel};
+use mc_search::FirstCopies;
 use mc_text::Memory;
 use mc_topology::{LanNo, RouterNo};
 use std::alloc::Global;

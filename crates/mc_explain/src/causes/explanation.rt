@@ -2,8 +2,8 @@
 
 use crate::causes::Cause;
 use crate::causes::behind::Behind;
-use crate::searches::searching::LanSearch;
 use mc_replay::Finding;
+use mc_search::LanSearch;
 use mc_topology::LanNo;
 
 /// Which packets show a finding of a packet with TTL 255.

@@ -7,10 +7,9 @@ ghost use Rattle.mc_theory.specs.Hops.{hops_back, hops_until, stopping_hop};
 ghost use Rattle.mc_forward.specs.FlightsInDomain.{net_in};
 ghost use Rattle.mc_forward.specs.PerLan.{HoldsFirstOfEachKey};
 
-use crate::causes::first_copies::FirstCopies;
 use crate::causes::hop::{Hop, hop_sent};
-use mc_forward::{CarriedCopy, FlowView};
-use mc_replay::sender_on;
+use mc_forward::{CarriedCopy, FlowView, sender_on};
+use mc_search::FirstCopies;
 use mc_text::Memory;
 use mc_topology::LanNo;
 use std::alloc::Global;

@@ -12,11 +12,11 @@ ghost use Rattle.mc_explain.specs.ShownNeed.{need_of_two_copies as least_of_two_
 
 use crate::causes::Cause;
 use crate::causes::explained::{add_sender, circle_causes};
-use crate::causes::first_copies::FirstCopies;
 use crate::causes::path::hops_around;
 use crate::causes::shown_need::need_of_two_copies;
-use mc_forward::{CarriedCopy, FlowView};
-use mc_replay::{Finding, sender_on};
+use mc_forward::{CarriedCopy, FlowView, sender_on};
+use mc_replay::Finding;
+use mc_search::FirstCopies;
 use mc_text::Memory;
 use mc_topology::LanNo;
 use std::alloc::Global;

@@ -10,11 +10,11 @@ ghost use Rattle.mc_maker.specs.ExaminedFlights.{IsFinishedTravelOf};
 ghost use Rattle.mc_explain.specs.ShownNeed.{IsShownFromIfAny, hops_from_lan_if_any, hops_of_copy_if_any};
 ghost use Rattle.mc_explain.specs.ShownNeed.{need_behind, need_of_finding, need_of_stray, need_of_two_copies};
 
-use crate::causes::first_copies::FirstCopies;
 use crate::causes::hop::Hop;
 use crate::causes::path::{hops_back, need};
 use mc_forward::{CarriedCopy, Domain, FlowView, RowFor, threshold_of};
 use mc_replay::{Finding, FinishedTravel};
+use mc_search::FirstCopies;
 use mc_text::Memory;
 use mc_topology::{LanNo, RouterNo};
 use std::alloc::Global;

@@ -9,10 +9,10 @@ ghost use Rattle.mc_lines.specs.GivenLines.{fact_value};
 
 use crate::context::LineContext;
 use crate::facts::fact::Fact;
-use mc_explain::{
+use mc_forward::{FlowView, RowFor};
+use mc_shown::{
     ShownDevice, ShownDeviceName, ShownEverySource, ShownIncoming, ShownRouters, ShownRow,
 };
-use mc_forward::{FlowView, RowFor};
 use mc_topology::{RouterNo, Topology};
 use std::alloc::AllocError;
 use std::fmt;

@@ -9,7 +9,7 @@ ghost use Rattle.mc_lines.specs.SearchLines.{took_none_sentences};
 use crate::context::LineContext;
 use crate::facts::fact::Fact::Routers;
 use crate::line_sink::LineSink;
-use mc_explain::Reach;
+use mc_search::Reach;
 use mc_text::Memory;
 use mc_topology::RouterNo;
 

@@ -3,10 +3,10 @@
 ghost use Rattle.std.specs.Prelude.{◌≡◌, ◌++◌, OnOk};
 ghost use Rattle.mc_forward.specs.FlightsInDomain.{net_in};
 ghost use Rattle.mc_forward.specs.ListedTables.{facts};
-ghost use Rattle.mc_explain.specs.declared.searches.search_line.SearchLine.TheVariants.{DoesNotSend};
-ghost use Rattle.mc_explain.specs.declared.searches.search_line.SearchLine.TheVariants.{EverySource};
-ghost use Rattle.mc_explain.specs.declared.searches.search_line.SearchLine.TheVariants.{FromUnplaced};
-ghost use Rattle.mc_explain.specs.declared.searches.search_line.SearchLine.TheVariants.{Stopped, WaitsFor};
+ghost use Rattle.mc_search.specs.declared.search_line.SearchLine.TheVariants.{DoesNotSend};
+ghost use Rattle.mc_search.specs.declared.search_line.SearchLine.TheVariants.{EverySource};
+ghost use Rattle.mc_search.specs.declared.search_line.SearchLine.TheVariants.{FromUnplaced};
+ghost use Rattle.mc_search.specs.declared.search_line.SearchLine.TheVariants.{Stopped, WaitsFor};
 ghost use Rattle.mc_lines.specs.FlowContext.{flow_context};
 ghost use Rattle.mc_lines.specs.SearchLines.{expected_line, incoming_reason, incoming_words};
 ghost use Rattle.mc_lines.specs.SearchLines.{missing_sentence, search_line};

@@ -12,7 +12,7 @@ use crate::sentences::row_lines::{
     add_does_not_send, add_every_source, add_expected, add_from_unplaced, add_stopped,
     add_waits_for,
 };
-use mc_explain::{LanSearch, SearchLine, ShownLine, ShownLines};
+use mc_search::{LanSearch, SearchLine, ShownLine, ShownLines};
 use mc_text::Memory;
 use std::alloc::Global;
 

@@ -2,7 +2,7 @@
 
 ghost use Rattle.std.specs.Prelude.{◌≡◌, ◌<◌, ◌++◌, IfOk, OnOk, length, not, slice_get};
 ghost use Rattle.std.specs.String.{string_bytes};
-ghost use Rattle.mc_explain.specs.AskedText.{listed_sources};
+ghost use Rattle.mc_shown.specs.AskedText.{listed_sources};
 ghost use Rattle.mc_forward.specs.ListedTables.{flow_pairs};
 ghost use Rattle.mc_run.specs.AuditAsked.{asked_end, asked_lines, line_written, numbered_asked_line};
 ghost use Rattle.mc_run.specs.AuditAsked.{state_at, states_of_line};
@@ -11,10 +11,10 @@ ghost use Rattle.mc_run.specs.AuditedFiles.{is_whole};
 
 use crate::audit::audited_domain::AuditedDomain;
 use mc_asked::RouterState;
-use mc_explain::{AskedLine, RoutersByState, push_asked, push_asked_more, push_asked_services};
 use mc_forward::Items;
 use mc_input::UnansweredWants;
 use mc_json::{push_asked_line, push_asked_more_line, push_asked_services_line};
+use mc_shown::{AskedLine, RoutersByState, push_asked, push_asked_more, push_asked_services};
 use mc_text::{Addr, Memory};
 use mc_topology::Topology;
 use std::alloc::Global;

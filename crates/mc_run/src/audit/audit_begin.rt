@@ -12,8 +12,8 @@ use mc_cli::{
     AuditOptions, FAULTS_WORD, IGNORE_WORD, JSON_WORD, STRICT_WORD, TRAVEL_WORD, UNLISTED_WORD,
     WITHOUT_WORD,
 };
-use mc_explain::list_excluded_routers;
 use mc_json::push_domain_line;
+use mc_shown::list_excluded_routers;
 use mc_text::{GroupRange, Memory};
 use mc_topology::{RouterNo, Topology};
 use std::alloc::Global;

@@ -9,10 +9,8 @@ use crate::audit::audit_asked::push_asked_lines;
 use crate::audit::audited_domain::AuditedDomain;
 use crate::audit::flow_status::FlowCounts;
 use mc_commands::push_overall_verdict;
-use mc_explain::{
-    list_excluded_routers, push_excluded_routers, push_unlisted, push_verdict_reason,
-};
 use mc_json::{push_summary_line, push_unlisted_lines, push_verdict_line, push_without_line};
+use mc_shown::{list_excluded_routers, push_excluded_routers, push_unlisted, push_verdict_reason};
 use mc_text::Memory;
 use std::alloc::Global;
 

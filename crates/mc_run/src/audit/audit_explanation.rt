@@ -9,8 +9,10 @@ ghost use Rattle.mc_run.specs.AuditPieces.{second_behind_of};
 
 use crate::audit::audit_shown_by::push_shown_from;
 use crate::audit::audited_domain::AuditedDomain;
-use mc_explain::{Behind, Explanation, LanSearch, push_also_missed, push_leaks_behind};
-use mc_lines::{push_causes, push_deeper_causes, push_search};
+use mc_explain::{Behind, Explanation};
+use mc_lines::{push_causes, push_deeper_causes, push_leaks_behind, push_search};
+use mc_search::LanSearch;
+use mc_shown::push_also_missed;
 use mc_text::Memory;
 use std::alloc::Global;
 

@@ -12,10 +12,11 @@ use crate::audit::audit_wrong_text::push_wrong_lines;
 use crate::audit::audited_domain::AuditedDomain;
 use crate::audit::flow_status::FlowStatus;
 use crate::audit::reasons::Reasons;
-use mc_explain::{Certainty, Explanation, missed_besides};
+use mc_explain::{Certainty, Explanation};
 use mc_forward::Event;
-use mc_json::{FoundTravel, push_wrong_line};
+use mc_json_wrong::{FoundTravel, push_wrong_line};
 use mc_replay::{FinishedTravel, Travel};
+use mc_shown::missed_besides;
 use mc_text::Memory;
 use std::alloc::Global;
 

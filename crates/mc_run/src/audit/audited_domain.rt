@@ -1,9 +1,9 @@
 //! The domain that is audited.
 
 use mc_cli::AuditOptions;
-use mc_explain::InterfacesOfLans;
 use mc_forward::Domain;
 use mc_input::UnansweredWants;
+use mc_search::InterfacesOfLans;
 use mc_tables::CacheSummary;
 use mc_text::GroupRange;
 

@@ -10,9 +10,10 @@ ghost use Rattle.mc_run.specs.AuditExplanation.{is_known_wrong as says_known_wro
 ghost use Rattle.mc_run.specs.AuditedFiles.{is_whole};
 
 use crate::audit::audited_domain::AuditedDomain;
-use mc_explain::{Behind, Cause, LanSearch, ShownBy, behind_stray, search, shown_from};
+use mc_explain::{Behind, Cause, ShownBy, behind_stray, shown_from};
 use mc_forward::{FlowView, Stray};
 use mc_replay::{Finding, FinishedTravel, First, replay};
+use mc_search::{LanSearch, search};
 use mc_text::Memory;
 use std::alloc::Global;
 

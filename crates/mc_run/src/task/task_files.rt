@@ -1,17 +1,17 @@
 //! The tasks that read the files of a folder, each with its own arguments.
 
 ghost use Rattle.std.specs.Prelude.{◌≡◌, ◌≢◌, ◌<◌, IfErr};
-ghost use Rattle.mc_text.specs.Device.{failures_after};
+ghost use Rattle.mc_bundle.specs.Device.{failures_after};
 ghost use Rattle.mc_commands.specs.Failures.{is_read, is_write};
 ghost use Rattle.mc_run.specs.TaskRuns.{IsAuditRun, IsPackRun, enough_of, is_enough};
 
 use crate::audit::audit_output::{AuditAnswer, AuditCounts};
 use crate::audit::left_out::LeftOut;
 use crate::audit::run_audit;
+use mc_bundle::Output;
 use mc_cli::AuditWords;
 use mc_commands::{RunFault, run_pack};
 use mc_files::PieceSource;
-use mc_text::Output;
 use std::alloc::Global;
 
 /// `mcaudit pack`, which returns true once the bundle is written.

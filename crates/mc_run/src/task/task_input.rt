@@ -1,13 +1,14 @@
 //! The tasks that read the input, each with its own arguments.
 
 ghost use Rattle.std.specs.Prelude.{◌≡◌, ◌≢◌, ◌<◌, IfErr};
-ghost use Rattle.mc_text.specs.Device.{failures_after};
+ghost use Rattle.mc_bundle.specs.Device.{failures_after};
 ghost use Rattle.mc_commands.specs.Failures.{is_read, is_write};
 ghost use Rattle.mc_run.specs.TaskRuns.{IsCheckRun, IsMakeRun, IsReplayRun, IsWantsRun};
 
+use mc_bundle::{Input, Output};
 use mc_commands::{RunFault, run_check, run_make, run_replay, run_wants};
 use mc_replay::{First, Last};
-use mc_text::{Addr, Input, Output};
+use mc_text::Addr;
 use std::alloc::Global;
 
 /// `mcaudit wants`.

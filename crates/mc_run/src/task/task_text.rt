@@ -1,12 +1,12 @@
 //! The tasks that read nothing and write a text.
 
 ghost use Rattle.std.specs.Prelude.{◌≡◌, ◌≢◌, ◌<◌, IfErr};
-ghost use Rattle.mc_text.specs.Device.{failures_after};
+ghost use Rattle.mc_bundle.specs.Device.{failures_after};
 ghost use Rattle.mc_commands.specs.Failures.{is_write};
 ghost use Rattle.mc_run.specs.TaskRuns.{IsTextRun};
 
+use mc_bundle::{Output, write_all};
 use mc_commands::RunFault;
-use mc_text::{Output, write_all};
 
 /// The program's name and its version, the one of the file VERSION, with a line feed.
 pub(crate) const VERSION_LINE: &str = "mcaudit 0.2.0\n";

@@ -3,7 +3,7 @@
 
 ghost use Rattle.std.specs.Prelude.{None};
 
-use mc_text::*;
+use mc_bundle::*;
 use std::process::Abort;
 use std::test::Fail;
 

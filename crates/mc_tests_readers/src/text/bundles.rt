@@ -1,6 +1,6 @@
 //! Tests of bundles that are read at once, from memory.
 
-use mc_text::*;
+use mc_bundle::*;
 use std::alloc::Global;
 use std::fmt::Write;
 use std::test::Fail;

@@ -2,10 +2,10 @@
 
 ghost use Rattle.std.specs.Prelude.{◌≡◌, ◌<◌, OnErr, OnOk};
 ghost use Rattle.std.specs.Io.KnownBytes.{Appends};
-ghost use Rattle.mc_text.specs.Device.{AppendsProperPrefix, failures_after, is_failure};
-ghost use Rattle.mc_text.specs.ReadFault.{ConsumesUpTo, is_read};
+ghost use Rattle.mc_bundle.specs.Device.{AppendsProperPrefix, failures_after, is_failure};
+ghost use Rattle.mc_bundle.specs.ReadFault.{ConsumesUpTo, is_read};
 
-use mc_text::*;
+use mc_bundle::*;
 use std::alloc::Global;
 use std::io::Cursor;
 use std::test::Fail;

@@ -4,7 +4,8 @@
 ghost use Rattle.std.specs.Prelude.{◌≡◌, ◌<◌, ◌≤◌, None, length};
 
 use super::bundles::bytes_of;
-use mc_text::*;
+use mc_bundle::*;
+use mc_text::decimal;
 use std::alloc::{AllocError, Global};
 use std::process::Abort;
 use std::test::Fail;

@@ -1,6 +1,6 @@
 //! Tests of a bundle that is read part by part, past its end, and after a fault.
 
-use mc_text::*;
+use mc_bundle::*;
 use std::test::Fail;
 
 const TEXT: &[u8] = b"mcaudit bundle 1\npart a 3\nx\ny\npart b/c 0\n\nend\n";

@@ -2,7 +2,7 @@
 
 ghost use Rattle.std.specs.Prelude.{◌≡◌};
 ghost use Rattle.std.specs.List.{list_all};
-ghost use Rattle.mc_text.specs.DeviceName.{is_device_name_byte, is_device_name};
+ghost use Rattle.mc_text.specs.Names.{is_device_name_byte, is_device_name};
 
 /// The longest name of a device, in bytes (`IFNAMSIZ` of linux/if.h less the zero at its end).
 const MAX_DEVICE_NAME: usize = 15;

@@ -32,7 +32,7 @@ pub(crate) fn plain_decimal(word: &[u8], max: u64) -> Option<u64>
 }
 
 /// Whether the word is decimal digits without a needless leading zero.
-pub(crate) fn is_plain_decimal(word: &[u8]) -> bool
+pub fn is_plain_decimal(word: &[u8]) -> bool
     ensures { result ≡ is_plain_decimal word.now }
 {
     if word.is_empty() || word.len() > 1 && word[0] == b'0' {

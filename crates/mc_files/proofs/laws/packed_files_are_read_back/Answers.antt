@@ -1,6 +1,6 @@
 use Rattle.std.proofs.Common.{refl}
-use Rattle.mc_text.specs.Bundle.{bundle_spelling}
-use Rattle.mc_text.proofs.BundleLaws.{bundle_of-complete}
+use Rattle.mc_bundle.specs.Bundle.{bundle_spelling}
+use Rattle.mc_bundle.proofs.BundleLaws.{bundle_of-complete}
 use Rattle.mc_files.proofs.PackLemmas.{IsPartName-from_IsPacked}
 use Rattle.mc_files.proofs.laws.packed_files_are_read_back.Goals as goal
 

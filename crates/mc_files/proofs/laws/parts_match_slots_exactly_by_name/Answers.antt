@@ -1,5 +1,5 @@
 use Rattle.std.proofs.Common.{List, ℕ, map, subst, ◌≡◌, None}
-use Rattle.mc_text.specs.Bundle.{PartText}
+use Rattle.mc_bundle.specs.Bundle.{PartText}
 use Rattle.mc_files.specs.PartMismatch.{first_mismatch}
 use Rattle.mc_files.specs.Layout.{part_name, slots}
 use Rattle.mc_files.proofs.PartMismatchLemmas.{same_names-from_first_mismatch, first_mismatch-same_names}

@@ -1,6 +1,6 @@
 use Rattle.std.proofs.Common.{rules, Ok, ◌∙◌}
 use Rattle.std.specs.declared.alloc.AllocError.{AllocError}
-use Rattle.mc_text.specs.BundleView.{part_text}
+use Rattle.mc_bundle.specs.BundleView.{part_text}
 use Rattle.std.proofs.lemmas.Iterator.{YieldsList-from_slice, YieldsList-from_map_by}
 use Rattle.std.proofs.lemmas.Iterator.Consumers.{map_from_collect}
 use Rattle.std.proofs.lemmas.List.{map-id}

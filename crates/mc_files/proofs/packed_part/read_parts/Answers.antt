@@ -1,6 +1,6 @@
 use Rattle.std.proofs.Common.{◌≡◌, List, ℕ, ap, ◌∙◌, Err, Ok, subst}
 use Rattle.std.proofs.lemmas.Result.{err_from_is_err_and}
-use Rattle.mc_text.specs.Bundle.{PartText}
+use Rattle.mc_bundle.specs.Bundle.{PartText}
 use Rattle.mc_files.specs.FilePart.{IsFailedOrMemory, file_part}
 use Rattle.mc_files.specs.Layout.{Slot}
 use Rattle.mc_files.specs.PackReading.{read_topology}

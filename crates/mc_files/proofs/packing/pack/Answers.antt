@@ -1,7 +1,7 @@
 use Rattle.std.proofs.Common.{ap, ◌∙◌, Err, List}
 use Rattle.std.proofs.lemmas.Result.{err_from_is_err_and}
-use Rattle.mc_text.specs.Bundle.{PartText}
-use Rattle.mc_text.specs.BundleView.{part_texts}
+use Rattle.mc_bundle.specs.Bundle.{PartText}
+use Rattle.mc_bundle.specs.BundleView.{part_texts}
 use Rattle.mc_files.proofs.RunLemmas.{IsPackAnswer-from_error, IsIoOrMemory-from_IsPacked}
 use Rattle.mc_files.proofs.RunLemmas.{IsPackAnswer-written, IsIoOrMemory-written, WritesPackedPrefix-cut}
 use Rattle.mc_files.proofs.RunLemmas.{WritesPackedBundle-written}

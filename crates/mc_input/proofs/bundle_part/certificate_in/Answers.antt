@@ -1,5 +1,5 @@
 use Rattle.std.proofs.Common.{◌∙◌, refl}
-use Rattle.mc_text.proofs.RestOfBundleLemmas.{advances_trans}
+use Rattle.mc_bundle.proofs.RestOfBundleLemmas.{advances_trans}
 use Rattle.mc_input.proofs.CollectedPartLemmas.{rest_of_bundle-part_collected}
 use Rattle.mc_input.proofs.bundle_part.certificate_in.Goals as goal
 

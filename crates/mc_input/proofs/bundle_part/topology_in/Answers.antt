@@ -2,9 +2,9 @@ use Rattle.std.proofs.Common.{◌≡◌, ◌∷◌, [], true, ap, inr, sym, ◌�
 use Rattle.std.specs.Str.{bytes_eq}
 use Rattle.std.proofs.lemmas.Result.{err_from_is_err_and}
 use Rattle.std.proofs.lemmas.Slice.Eq.{bytes_eq-Decides}
-use Rattle.mc_text.specs.Bundle.{PartText}
+use Rattle.mc_bundle.specs.Bundle.{PartText}
 use Rattle.mc_text.specs.Steps.{map_fault}
-use Rattle.mc_text.proofs.RestOfBundleLemmas.{advances_trans}
+use Rattle.mc_bundle.proofs.RestOfBundleLemmas.{advances_trans}
 use Rattle.mc_files.specs.Layout.{part_name, topology_slot}
 use Rattle.mc_input.specs.PartsOneByOne.{read_first_topology}
 use Rattle.mc_input.specs.declared.source_fault.SourceFault.TheVariants.{Input as refused}

@@ -1,6 +1,6 @@
 use Rattle.std.proofs.Common.{◌∙◌}
 use Rattle.std.proofs.lemmas.Result.{err_from_is_err_and}
-use Rattle.mc_text.proofs.RestOfBundleLemmas.{advances_trans}
+use Rattle.mc_bundle.proofs.RestOfBundleLemmas.{advances_trans}
 use Rattle.mc_input.specs.InputView.{certificate_text}
 use Rattle.mc_input.specs.Stream.{input_of_contents, read_after_topology, read_contents}
 use Rattle.mc_input.proofs.BundleContentsLemmas.{read_after_topology-Ok, read_after_topology-contents_Err}

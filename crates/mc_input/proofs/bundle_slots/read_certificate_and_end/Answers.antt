@@ -2,8 +2,8 @@ use Rattle.std.proofs.Common.{◌≡◌, ℕ, ◌+◌, ◌∙◌, ◌∷◌, [],
 use Rattle.std.proofs.Common.{option_map, subst, sym}
 use Rattle.std.proofs.lemmas.List.{drop_all}
 use Rattle.std.proofs.lemmas.Result.{err_from_is_err_and}
-use Rattle.mc_text.specs.Bundle.{PartText}
-use Rattle.mc_text.proofs.RestOfBundleLemmas.{advances_trans}
+use Rattle.mc_bundle.specs.Bundle.{PartText}
+use Rattle.mc_bundle.proofs.RestOfBundleLemmas.{advances_trans}
 use Rattle.mc_files.specs.Layout.{certificate_slot, certificate_slots, part_name, slots}
 use Rattle.mc_input.specs.PartsOneByOne.{certificate_number}
 use Rattle.mc_input.specs.Stream.{Stream, bundle_gives, part_then}

@@ -1,9 +1,9 @@
 use Rattle.std.proofs.Common.{◌≡◌, ◌+◌, ◌≤◌, ◌++◌, length, take, ap, ◌∙◌, sym, arith}
 use Rattle.std.proofs.Common.{rules, length-take, append_assoc}
 use Rattle.std.proofs.lemmas.List.{length-append}
-use Rattle.mc_text.specs.Bundle.{max_part}
-use Rattle.mc_text.proofs.PartsMeaning.{split-from_Consumes}
-use Rattle.mc_text.proofs.FedPieceLemmas.{result_after-append_piece}
+use Rattle.mc_bundle.specs.Bundle.{max_part}
+use Rattle.mc_bundle.proofs.PartsMeaning.{split-from_Consumes}
+use Rattle.mc_bundle.proofs.FedPieceLemmas.{result_after-append_piece}
 use Rattle.mc_input.proofs.fed_file.feed_open.Goals as goal
 
 -- The next piece goes from the bytes that are left to those that were fed, and the limit is counted

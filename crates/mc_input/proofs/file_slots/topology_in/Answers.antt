@@ -1,6 +1,6 @@
 use Rattle.std.proofs.Common.{◌∙◌, ap, Err, refl}
 use Rattle.std.proofs.lemmas.Result.{err_from_is_err_and}
-use Rattle.mc_text.specs.BundleView.{part_text}
+use Rattle.mc_bundle.specs.BundleView.{part_text}
 use Rattle.mc_files.specs.Layout.{topology_slot}
 use Rattle.mc_input.specs.PartsReading.{topology_of}
 use Rattle.mc_input.proofs.FilesLemmas.{read_part-file_Err, read_part-content_Err, read_part-Ok}

@@ -2,9 +2,9 @@ use Rattle.std.proofs.Common.{◌≡◌, ◌++◌, [], ◌∷◌, Ok, take, drop
 use Rattle.std.proofs.lemmas.List.{drop_all}
 use Rattle.std.proofs.lemmas.Result.{err_from_is_err_and}
 use Rattle.mc_text.specs.Steps.{map_fault}
-use Rattle.mc_text.proofs.RestOfBundleLemmas.{advances_trans, advances, rest_of_bundle-ended}
-use Rattle.mc_text.proofs.RestOfBundleLemmas.{rest_of_bundle-opened, rest_of_bundle-fault}
-use Rattle.mc_text.proofs.RestOfBundleLemmas.{parts_from_current-in_part}
+use Rattle.mc_bundle.proofs.RestOfBundleLemmas.{advances_trans, advances, rest_of_bundle-ended}
+use Rattle.mc_bundle.proofs.RestOfBundleLemmas.{rest_of_bundle-opened, rest_of_bundle-fault}
+use Rattle.mc_bundle.proofs.RestOfBundleLemmas.{parts_from_current-in_part}
 use Rattle.mc_files.specs.Layout.{slots}
 use Rattle.mc_input.specs.PartsOneByOne.{check_names_from}
 use Rattle.mc_input.specs.declared.source_fault.SourceFault.TheVariants.{Input as refused}

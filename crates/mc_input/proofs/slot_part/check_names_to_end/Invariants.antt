@@ -1,5 +1,5 @@
 use Rattle.std.proofs.Common.{◌≡◌, ◌≤◌, ℕ, List, Some, drop, length}
-use Rattle.mc_text.specs.RestOfBundle.{Advances}
+use Rattle.mc_bundle.specs.RestOfBundle.{Advances}
 use Rattle.mc_files.specs.Layout.{slots}
 use Rattle.mc_input.specs.PartsOneByOne.{read_rest, check_names_from}
 use Rattle.mc_input.proofs.slot_part.check_names_to_end.Given as goal

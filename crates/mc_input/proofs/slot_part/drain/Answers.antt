@@ -1,8 +1,8 @@
 use Rattle.std.proofs.Common.{List, [], Ok, Result, ap, ◌∙◌, sym}
 use Rattle.std.proofs.lemmas.Result.{err_from_is_err_and}
-use Rattle.mc_text.specs.Bundle.{PartText}
+use Rattle.mc_bundle.specs.Bundle.{PartText}
 use Rattle.mc_text.specs.Steps.{map_fault}
-use Rattle.mc_text.proofs.RestOfBundleLemmas.{advances, rest_of_bundle-ended, rest_of_bundle-fault}
+use Rattle.mc_bundle.proofs.RestOfBundleLemmas.{advances, rest_of_bundle-ended, rest_of_bundle-fault}
 use Rattle.mc_input.specs.declared.fault.InputFault.{InputFault}
 use Rattle.mc_input.specs.declared.source_fault.SourceFault.TheVariants.{Input as refused}
 use Rattle.mc_input.proofs.ReadRestLemmas.{framing-part_passed, read_rest-framing_refused, read_rest-none}

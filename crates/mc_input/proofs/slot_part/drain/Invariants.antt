@@ -1,5 +1,5 @@
 use Rattle.std.proofs.Common.{◌≡◌, ℕ, List, Some, Ok, Result}
-use Rattle.mc_text.specs.RestOfBundle.{Advances}
+use Rattle.mc_bundle.specs.RestOfBundle.{Advances}
 use Rattle.mc_input.specs.PartsOneByOne.{read_rest}
 use Rattle.mc_input.specs.declared.fault.InputFault.{InputFault}
 use Rattle.mc_input.proofs.slot_part.drain.Given as goal

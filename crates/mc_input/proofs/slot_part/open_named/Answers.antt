@@ -4,11 +4,11 @@ use Rattle.std.specs.Prelude.{slice_get}
 use Rattle.std.specs.Str.{bytes_eq}
 use Rattle.std.proofs.lemmas.Result.{err_from_is_err_and}
 use Rattle.std.proofs.lemmas.Slice.Eq.{bytes_eq-Decides}
-use Rattle.mc_text.specs.Bundle.{PartText}
+use Rattle.mc_bundle.specs.Bundle.{PartText}
 use Rattle.mc_text.specs.Steps.{map_fault}
-use Rattle.mc_text.proofs.RestOfBundleLemmas.{advances_trans, rest_of_bundle-ended}
-use Rattle.mc_text.proofs.RestOfBundleLemmas.{rest_of_bundle-opened, rest_of_bundle-fault}
-use Rattle.mc_text.proofs.RestOfBundleLemmas.{parts_from_current-in_part}
+use Rattle.mc_bundle.proofs.RestOfBundleLemmas.{advances_trans, rest_of_bundle-ended}
+use Rattle.mc_bundle.proofs.RestOfBundleLemmas.{rest_of_bundle-opened, rest_of_bundle-fault}
+use Rattle.mc_bundle.proofs.RestOfBundleLemmas.{parts_from_current-in_part}
 use Rattle.mc_files.specs.Layout.{part_name}
 use Rattle.mc_input.specs.InputReading.{named}
 use Rattle.mc_input.specs.declared.fault.InputFault.{InputFault}

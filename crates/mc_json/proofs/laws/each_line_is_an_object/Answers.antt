@@ -4,7 +4,7 @@ use Rattle.mc_json.proofs.EachLineLemmas.{are_object_lines-domain, are_object_li
 use Rattle.mc_json.proofs.EachLineLemmas.{are_object_lines-summary, are_object_lines-tree}
 use Rattle.mc_json.proofs.EachLineLemmas.{are_object_lines-all_unlisted, are_object_lines-without}
 use Rattle.mc_json.proofs.EachLineLemmas.{are_object_lines-asked, are_object_lines-asked_more}
-use Rattle.mc_json.proofs.EachLineLemmas.{are_object_lines-asked_services, are_object_lines-wrong_flow}
+use Rattle.mc_json.proofs.EachLineLemmas.{are_object_lines-asked_services}
 use Rattle.mc_json.proofs.laws.each_line_is_an_object.Goals as goal
 
 pub returns-clause-domain : goal.returns-clause-domain
@@ -15,9 +15,6 @@ returns-clause-tree c = λ t n es tree. are_object_lines-tree t n es tree
 
 pub returns-clause-right : goal.returns-clause-right
 returns-clause-right c = λ number f copies tree wanted. are_object_lines-right number f copies tree wanted
-
-pub returns-clause-wrong : goal.returns-clause-wrong
-returns-clause-wrong c = λ number f w. are_object_lines-wrong_flow number f w
 
 pub returns-clause-unlisted : goal.returns-clause-unlisted
 returns-clause-unlisted c = λ all t summary. are_object_lines-all_unlisted all t summary

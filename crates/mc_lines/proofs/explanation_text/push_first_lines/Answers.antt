@@ -2,8 +2,8 @@
 use Rattle.std.proofs.Common.{◌≡◌, ℕ, ◌+◌, ◌-◌, ◌++◌, List, length, take, flat_map, ap, sym}
 use Rattle.std.proofs.Common.{◌∙◌, arith}
 use Rattle.std.specs.String.{string_bytes}
-use Rattle.mc_explain.specs.declared.searches.shown_line.ShownLine.{ShownLine}
-use Rattle.mc_explain.proofs.ShownLineLemmas.{length-shown_lines}
+use Rattle.mc_search.specs.declared.shown_line.ShownLine.{ShownLine}
+use Rattle.mc_search.proofs.ShownLineLemmas.{length-shown_lines}
 use Rattle.mc_lines.specs.Filled.{line_text}
 use Rattle.mc_lines.specs.FlowContext.{flow_context}
 use Rattle.mc_lines.specs.SearchLines.{shown_items}

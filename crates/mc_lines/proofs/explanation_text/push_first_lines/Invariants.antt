@@ -1,6 +1,6 @@
 use Rattle.std.proofs.Common.{◌≡◌, ◌+◌, ◌-◌, ◌++◌, take, length, flat_map}
 use Rattle.std.specs.String.{string_bytes}
-use Rattle.mc_explain.specs.ShownLines.{shown_lines}
+use Rattle.mc_search.specs.ShownLines.{shown_lines}
 use Rattle.mc_lines.specs.Filled.{line_text}
 use Rattle.mc_lines.specs.FlowContext.{flow_context}
 use Rattle.mc_lines.specs.SearchLines.{shown_items}

@@ -3,7 +3,7 @@ use Rattle.mc_theory.specs.Lists.{below}
 use Rattle.mc_theory.specs.Flights.{Copy}
 use Rattle.mc_forward.specs.FlightsInDomain.{net_in}
 use Rattle.mc_explain.specs.Behind.{is_missed}
-use Rattle.mc_explain.proofs.FilterLemmas.{filter-below_passed, filter-below_failed}
+use Rattle.mc_search.proofs.FilterLemmas.{filter-below_passed, filter-below_failed}
 use Rattle.mc_explain.proofs.causes.behind.lans_without_copy.Goals as goal
 use Rattle.mc_explain.proofs.causes.behind.lans_without_copy.Goals.{then-is_missed+in_ok-push}
 use Rattle.mc_explain.proofs.causes.behind.lans_without_copy.Goals.{else-is_missed}

@@ -1,7 +1,7 @@
 use Rattle.std.proofs.Common.{◌+◌, length, arith, sym, ◌∙◌, length-drop}
 use Rattle.std.proofs.lemmas.Result.{err_from_is_err_and}
 use Rattle.std.proofs.lemmas.Slice.{between_to_end}
-use Rattle.mc_text.proofs.BundleWords.{HasNoByte-append}
+use Rattle.mc_text.proofs.ByteLemmas.{HasNoByte-append}
 use Rattle.mc_text.proofs.LineLemmas.{HasNoByte-from_position}
 use Rattle.mc_text.proofs.PieceLemmas.{position-within_length}
 use Rattle.mc_igmp.proofs.PieceLemmas.{read_rest_of_lines_more, read_rest_of_lines-fault}

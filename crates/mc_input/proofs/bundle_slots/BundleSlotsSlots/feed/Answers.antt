@@ -1,8 +1,8 @@
 use Rattle.std.proofs.Common.{◌≡◌, ℕ, ◌+◌, ◌∙◌, Err, ap, cond, drop, refl, subst, sym}
 use Rattle.std.specs.Prelude.{slice_get}
 use Rattle.std.proofs.lemmas.Result.{err_from_is_err_and}
-use Rattle.mc_text.specs.PartsReading.{is_read as is_failed}
-use Rattle.mc_text.proofs.RestOfBundleLemmas.{advances_trans}
+use Rattle.mc_bundle.specs.PartsReading.{is_read as is_failed}
+use Rattle.mc_bundle.proofs.RestOfBundleLemmas.{advances_trans}
 use Rattle.mc_files.specs.Layout.{part_name, slots}
 use Rattle.mc_files.proofs.SlotLemmas.{slots-with_certificate}
 use Rattle.mc_input.specs.InputReading.{named}

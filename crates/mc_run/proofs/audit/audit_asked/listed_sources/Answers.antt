@@ -1,5 +1,5 @@
 use Rattle.std.proofs.Common.{ℕ, List, ◌++◌, ◌∷◌, [], true, false, ap, append-nil, sym, take, ◌∙◌}
-use Rattle.mc_explain.specs.AskedText.{listed_sources}
+use Rattle.mc_shown.specs.AskedText.{listed_sources}
 use Rattle.mc_forward.specs.ListedTables.{flow_pairs}
 use Rattle.mc_run.proofs.AuditAskedLemmas.{listed_sources-more}
 use Rattle.mc_run.proofs.audit.audit_asked.listed_sources.Goals as goal

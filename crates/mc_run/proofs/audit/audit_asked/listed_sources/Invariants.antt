@@ -1,5 +1,5 @@
 use Rattle.std.proofs.Common.{◌≡◌, take}
-use Rattle.mc_explain.specs.AskedText.{listed_sources}
+use Rattle.mc_shown.specs.AskedText.{listed_sources}
 use Rattle.mc_forward.specs.ListedTables.{flow_pairs}
 use Rattle.mc_run.proofs.audit.audit_asked.listed_sources.Given as goal
 

@@ -3,7 +3,7 @@ use Rattle.std.specs.Prelude.{not}
 use Rattle.mc_asked.specs.Forwarding.{routers_in}
 use Rattle.mc_asked.specs.ListWants.{Want}
 use Rattle.mc_asked.specs.declared.forwarding.RouterState.TheVariants.{EverySource, NoneOut, Forwards}
-use Rattle.mc_explain.specs.AskedText.{listed_sources}
+use Rattle.mc_shown.specs.AskedText.{listed_sources}
 use Rattle.mc_forward.proofs.IndexLemmas.{slice_get-from_read}
 use Rattle.mc_forward.specs.ListedTables.{flow_pairs}
 use Rattle.mc_run.specs.AuditAsked.{states_of_line}

@@ -1,0 +1,14 @@
+pub mod Device
+pub mod ReadFault
+pub mod Bundle
+pub mod BundleFaults
+pub mod BundleReading
+pub mod PartName
+pub mod PartsReading
+pub mod PartsLimits
+pub mod RestOfBundle
+pub mod BundleView
+pub use Rattle.mc_text.specs.Lines
+pub use Rattle.mc_text.specs.Names
+pub use Rattle.mc_text.specs.Number
+pub use Rattle.mc_text.specs.Steps

@@ -1,0 +1,3 @@
+pub mod WrongNoFloatLemmas
+pub mod LineNoFloatLemmas
+pub mod WrongObjectLemmas

@@ -1,0 +1,13 @@
+pub mod FactData
+pub mod LineData
+pub mod WhyData
+pub mod WrongData
+pub mod BehindData
+pub mod WrongLine
+pub use Rattle.mc_lines.specs.ExplanationText
+pub use Rattle.serde_json.specs.Data
+pub use Rattle.mc_forward.specs.Domains
+pub use Rattle.mc_forward.specs.ListedTables
+pub use Rattle.mc_explain.specs.ExplanationValues
+pub use Rattle.mc_json.specs.ObjectLines
+pub use Rattle.mc_json.specs.RowData

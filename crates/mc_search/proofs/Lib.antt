@@ -1,0 +1,10 @@
+pub mod FilterLemmas
+pub mod ProbeLemmas
+pub mod GroupLemmas
+pub mod BucketLemmas
+pub mod SearchLemmas
+pub mod NextLanLemmas
+pub mod VisitedLemmas
+pub mod ReachLemmas
+pub mod ShownLineLemmas
+pub mod SearchNameLemmas

@@ -1,0 +1,14 @@
+pub mod TopologyLans
+pub mod BucketsAndMarks
+pub mod SearchLine
+pub mod LanProbe
+pub mod SearchReach
+pub mod SearchNames
+pub mod ExpectingRouters
+pub mod ShownLines
+pub use Rattle.mc_tables.specs.Summary
+pub use Rattle.mc_theory.specs.Nets
+pub use Rattle.mc_theory.specs.Flights
+pub use Rattle.mc_theory.specs.Findings
+pub use Rattle.mc_forward.specs.Domains
+pub use Rattle.mc_forward.specs.ListedTables

@@ -1,0 +1,11 @@
+pub mod DeviceLemmas
+pub mod LineFeedLemmas
+pub mod IndentedLemmas
+pub mod NameListLemmas
+pub mod AskedLemmas
+pub mod ShownNameLemmas
+pub mod LowestPairLemmas
+pub mod UnlistedPairLemmas
+pub mod ExcludedLemmas
+pub mod UnlistedLineLemmas
+pub mod AskedLineLemmas

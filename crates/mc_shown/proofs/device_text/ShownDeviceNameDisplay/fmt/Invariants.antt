@@ -1,0 +1,11 @@
+use Rattle.std.proofs.Common.{take}
+use Rattle.std.specs.Fmt.{HasWritten, IsPlainFormatter}
+use Rattle.mc_shown.specs.RowText.{device_name_text}
+use Rattle.mc_shown.proofs.device_text.ShownDeviceNameDisplay.fmt.Given as goal
+
+-- the bytes so far are written
+abbrev pub invariant-loop-byte : goal.invariant-loop-byte
+invariant-loop-byte g l =
+    IsPlainFormatter l.initial.f
+    → HasWritten g.W.Write.write_str_gives l.initial.f
+    (device_name_text (take l.byte-index l.byte-items)) l.f

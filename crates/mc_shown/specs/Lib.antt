@@ -1,0 +1,17 @@
+pub mod RowText
+pub mod EverySourceText
+pub mod Indented
+pub mod ShownNames
+pub mod WantedText
+pub mod RoutersForWant
+pub mod AskedText
+pub mod UnlistedText
+pub mod UnlistedLines
+pub mod UnlistedPairs
+pub mod ExcludedText
+pub use Rattle.mc_tables.specs.Summary
+pub use Rattle.mc_theory.specs.Nets
+pub use Rattle.mc_theory.specs.Flights
+pub use Rattle.mc_theory.specs.Findings
+pub use Rattle.mc_forward.specs.ListedTables
+pub use Rattle.mc_search.specs.SearchLine

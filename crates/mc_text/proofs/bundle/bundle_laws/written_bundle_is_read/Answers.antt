@@ -1,9 +1,0 @@
--- Reading takes off the front what the spelling put there, part by part.
-use Rattle.std.proofs.Common.{refl}
-use Rattle.mc_text.specs.Bundle.{bundle_spelling}
-use Rattle.mc_text.proofs.BundleLaws.{bundle_of-complete}
-use Rattle.mc_text.proofs.bundle.bundle_laws.written_bundle_is_read.Goals as goal
-
-pub returns : goal.returns
-returns c = λ parts names limits. bundle_of-complete (bundle_spelling parts) parts
-    (record { names = names; limits = limits; spelled = refl })

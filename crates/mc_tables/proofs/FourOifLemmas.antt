@@ -203,25 +203,25 @@ tested_lanes v least sizes others =
 abbrev byte_passes : ℕ → ℕ → ℕ → ℕ → Bool
 byte_passes least size other b = top 7 (bit_or (lane_below (lane_minus b least) size) (equal_lane b other))
 
--- they are 32 lanes
-length-tested_lanes : (v least sizes others : List ℕ) → length v ≡ 32 → length least ≡ 32
-    → length sizes ≡ 32 → length others ≡ 32 → length (tested_lanes v least sizes others) ≡ 32
-length-tested_lanes v least sizes others a b c d =
+-- they are as many lanes
+length-tested_lanes : (lanes : ℕ) (v least sizes others : List ℕ) → length v ≡ lanes → length least ≡ lanes
+    → length sizes ≡ lanes → length others ≡ lanes → length (tested_lanes v least sizes others) ≡ lanes
+length-tested_lanes lanes v least sizes others a b c d =
     let first = length-zip2 lane_minus v least (a ∙ sym b) ∙ a in
     let second = length-zip2 lane_below (zip2 lane_minus v least) sizes (first ∙ sym c) ∙ first in
     let third = length-zip2 equal_lane v others (a ∙ sym d) ∙ a in
     length-zip2 bit_or _ _ (second ∙ sym third) ∙ second
 
 -- the top bit of a lane is set exactly if its byte passes
-get_or-tested_lanes : (v least sizes others : List ℕ) → length v ≡ 32 → length least ≡ 32
-    → length sizes ≡ 32 → length others ≡ 32 → (k : ℕ) → k < 32
+get_or-tested_lanes : (lanes : ℕ) (v least sizes others : List ℕ) → length v ≡ lanes → length least ≡ lanes
+    → length sizes ≡ lanes → length others ≡ lanes → (k : ℕ) → k < lanes
     → get_or (map (top 7) (tested_lanes v least sizes others)) k false
     ≡ byte_passes (get_or least k 0) (get_or sizes k 0) (get_or others k 0) (get_or v k 0)
-get_or-tested_lanes v least sizes others a b c d k within =
+get_or-tested_lanes lanes v least sizes others a b c d k within =
     let first = length-zip2 lane_minus v least (a ∙ sym b) ∙ a in
     let second = length-zip2 lane_below (zip2 lane_minus v least) sizes (first ∙ sym c) ∙ first in
     let third = length-zip2 equal_lane v others (a ∙ sym d) ∙ a in
-    let size = length-tested_lanes v least sizes others a b c d in
+    let size = length-tested_lanes lanes v least sizes others a b c d in
     get_or-map (top 7) (tested_lanes v least sizes others) k 0 false (omega (arith, within, size))
     ∙ ap (top 7)
     (get_or-zip2 bit_or _ _ k 0 0 0 (omega (arith, within, second)) (omega (arith, within, third))
@@ -232,17 +232,17 @@ get_or-tested_lanes v least sizes others a b c d k within =
     (get_or-zip2 equal_lane v others k 0 0 0 (omega (arith, within, a)) (omega (arith, within, d))))
 
 -- if all top bits are set, each lane passes
-byte_passes-all_lanes : (v least sizes others : List ℕ) → length v ≡ 32 → length least ≡ 32
-    → length sizes ≡ 32 → length others ≡ 32
-    → eqb (mask_l (map (top 7) (tested_lanes v least sizes others)) % 2 ^ 64) 4294967295 ≡ true
-    → (k : ℕ) → k < 32 → 4294967295 / 2 ^ k % 2 ≡ 1
+byte_passes-all_lanes : (lanes full : ℕ) (v least sizes others : List ℕ) → lanes ≤ 64 → length v ≡ lanes
+    → length least ≡ lanes → length sizes ≡ lanes → length others ≡ lanes
+    → eqb (mask_l (map (top 7) (tested_lanes v least sizes others)) % 2 ^ 64) full ≡ true
+    → (k : ℕ) → k < lanes → full / 2 ^ k % 2 ≡ 1
     → byte_passes (get_or least k 0) (get_or sizes k 0) (get_or others k 0) (get_or v k 0) ≡ true
-byte_passes-all_lanes v least sizes others a b c d all k within bit =
+byte_passes-all_lanes lanes full v least sizes others few a b c d all k within bit =
     let tops = map (top 7) (tested_lanes v least sizes others) in
     let size = length-map (tested_lanes v least sizes others) (top 7)
-    ∙ length-tested_lanes v least sizes others a b c d in
-    let mask = sym (mask_l-mod tops 64 (omega (arith, size))) ∙ eqb-true _ 4294967295 all in
-    sym (get_or-tested_lanes v least sizes others a b c d k within)
+    ∙ length-tested_lanes lanes v least sizes others a b c d in
+    let mask = sym (mask_l-mod tops 64 (omega (arith, size, few))) ∙ eqb-true _ full all in
+    sym (get_or-tested_lanes lanes v least sizes others a b c d k within)
     ∙ cond-one _ (sym (bit_mask_l tops k) ∙ ap (λ m. m / 2 ^ k % 2) mask ∙ bit)
 
 -- ---- the bytes that are allowed at each place
@@ -295,6 +295,49 @@ printed_oif-from_bytes line n fits a b c d e f g =
       last = at 6 ∙ byte_passes-space _ (fits (n + 6)).fits g;
     }
 
+-- ---- one outgoing vif, by two loads of four bytes, so that its colon is there twice
+
+-- the bytes of the two loads
+pub lanes-of_one : (line : List ℕ) → 7 ≤ length line
+    → map (λ k. get_or (take 4 line ++ take 4 (drop 3 line)) k 0)
+    (0 ∷ 1 ∷ 2 ∷ 3 ∷ 4 ∷ 5 ∷ 6 ∷ 7 ∷ []) ≡ take 4 line ++ take 4 (drop 3 line)
+lanes-of_one (b0 ∷ b1 ∷ b2 ∷ b3 ∷ b4 ∷ b5 ∷ b6 ∷ rest) long = refl
+lanes-of_one line long = absurd (omega (arith, long))
+
+abbrev least_bytes_of_one : List ℕ
+least_bytes_of_one = 32 ∷ 49 ∷ 48 ∷ 58 ∷ 58 ∷ 49 ∷ 32 ∷ 32 ∷ []
+
+abbrev range_sizes_of_one : List ℕ
+range_sizes_of_one = 1 ∷ 3 ∷ 10 ∷ 1 ∷ 1 ∷ 9 ∷ 1 ∷ 1 ∷ []
+
+abbrev other_bytes_of_one : List ℕ
+other_bytes_of_one = 32 ∷ 32 ∷ 48 ∷ 58 ∷ 58 ∷ 49 ∷ 32 ∷ 32 ∷ []
+
+-- if all lanes pass, a line begins with an outgoing vif
+pub printed_oif-from_lanes : (line text : List ℕ) → text ≡ take 4 line ++ take 4 (drop 3 line)
+    → 7 ≤ length line → ((k : ℕ) → Fits w8 (get_or line k 0))
+    → eqb (mask_l (map (top 7) (tested_lanes text least_bytes_of_one range_sizes_of_one other_bytes_of_one))
+    % 2 ^ 64) 255 ≡ true
+    → StartsWithPrintedOif line
+printed_oif-from_lanes (b0 ∷ b1 ∷ b2 ∷ b3 ∷ b4 ∷ b5 ∷ b6 ∷ rest) text is long fits all =
+    let at = λ (k : ℕ) (within : k < 8) (bit : 255 / 2 ^ k % 2 ≡ 1).
+    subst (λ (l : List ℕ). byte_passes (get_or least_bytes_of_one k 0) (get_or range_sizes_of_one k 0)
+    (get_or other_bytes_of_one k 0) (get_or l k 0) ≡ true) is
+    (byte_passes-all_lanes 8 255 text least_bytes_of_one range_sizes_of_one other_bytes_of_one (omega arith)
+    (ap length is) refl refl refl all k within bit) in
+    record {
+      before = byte_passes-space b0 (fits 0).fits (at 0 (omega arith) refl);
+      tens = byte_passes-tens b1 (fits 1).fits (at 1 (omega arith) refl);
+      units = byte_passes-units b2 (fits 2).fits (at 2 (omega arith) refl);
+      colon = byte_passes-colon b3 (fits 3).fits (at 3 (omega arith) refl);
+      threshold = byte_passes-threshold b4 (fits 4).fits (at 5 (omega arith) refl);
+      behind = byte_passes-space b5 (fits 5).fits (at 6 (omega arith) refl);
+      last = byte_passes-space b6 (fits 6).fits (at 7 (omega arith) refl);
+    }
+printed_oif-from_lanes line text is long fits all = absurd (omega (arith, long))
+
+-- ---- four outgoing vifs
+
 abbrev least_bytes : List ℕ
 least_bytes =
     32 ∷ 49 ∷ 48 ∷ 58 ∷ 49 ∷ 32 ∷ 32 ∷ 32 ∷ 49 ∷ 48 ∷ 58 ∷ 49 ∷ 32 ∷ 32 ∷ 32 ∷ 49 ∷ 48 ∷ 58
@@ -338,7 +381,8 @@ four_oifs-from_bytes line more text is four long fits all =
     let same = ap (λ l. get_or l k 0) is
     ∙ get_or-append (take 28 line) more 0 k (omega (arith, within, front)) ∙ get_or-take 28 line k 0 within in
     subst (λ b. byte_passes_at k b ≡ true) same
-    (byte_passes-all_lanes text least_bytes range_sizes other_bytes size refl refl refl all k
+    (byte_passes-all_lanes 32 4294967295 text least_bytes range_sizes other_bytes (omega arith) size refl refl
+    refl all k
     (omega (arith, within)) bit) in
     record {
       first = printed_oif-from_bytes line 0 fits (at 0 (omega arith) refl) (at 1 (omega arith) refl)

@@ -18,6 +18,9 @@ const LANES: usize = 16;
 /// How many bytes four outgoing vifs take.
 pub const FOUR_LEN: usize = 28;
 
+/// How many bytes one takes.
+const ONE_LEN: usize = 7;
+
 /// The bytes of four outgoing vifs, and four of them again, which may be any.
 #[inline(always)]
 fn bytes_of_four(line: &[u8]) -> u8x32
@@ -72,15 +75,27 @@ fn printed_oif(line: &[u8], at: usize) -> Oif
     Oif { vif, threshold }
 }
 
-/// Whether a line begins with a printed outgoing vif.
+/// The bytes of an outgoing vif, its colon twice.
+#[inline(always)]
+fn bytes_of_one(line: &[u8]) -> u8x8
+    requires within { ONE_LEN ≤ length line.now }
+    ensures value { result ≡ take 4 line.now ++ take 4 (drop 3 line.now) }
+{
+    u8x4::from_slice(line).shuffle(u8x4::from_slice(&line[3..]), [0, 1, 2, 3, 4, 5, 6, 7])
+}
+
+/// Whether a line begins with a printed outgoing vif. Each byte is in the range of its place, or the other
+/// byte that is allowed there.
 #[inline(always)]
 fn starts_with_printed_oif(line: &[u8]) -> bool
-    requires long { 7 ≤ length line.now }
+    requires long { ONE_LEN ≤ length line.now }
     ensures value { result ≡ true → StartsWithPrintedOif line.now }
 {
-    let tens = line[1] == b' ' || (b'1'..=b'3').contains(&line[1]);
-    let vif = line[0] == b' ' && tens && line[2].is_ascii_digit() && line[3] == b':';
-    vif && (b'1'..=b'9').contains(&line[4]) && line[5] == b' ' && line[6] == b' '
+    let text = bytes_of_one(line);
+    let least = u8x8::from_array([b' ', b'1', b'0', b':', b':', b'1', b' ', b' ']);
+    let sizes = u8x8::from_array([1, 3, 10, 1, 1, 9, 1, 1]);
+    let others = u8x8::from_array([b' ', b' ', b'0', b':', b':', b'1', b' ', b' ']);
+    ((text - least).simd_lt(sizes) | text.simd_eq(others)).all()
 }
 
 /// The outgoing vif that a line begins with, if it is printed in seven bytes, and what follows it.
@@ -93,14 +108,14 @@ pub fn printed_oif_at_front(line: &[u8]) -> Option<(Oif, &[u8])>
     ensures vif { IfSome result (λ found. found.0.vif ≤ MAX_VIF) }
     ensures shorter { IfSome result (λ found. length found.1.now < length line.now) }
 {
-    if line.len() < 7 || !starts_with_printed_oif(line) {
+    if line.len() < ONE_LEN || !starts_with_printed_oif(line) {
         return None;
     }
     let oif = printed_oif(line, 0);
     if oif.vif > MAX_VIF {
         return None;
     }
-    Some((oif, &line[7..]))
+    Some((oif, &line[ONE_LEN..]))
 }
 
 /// Adds the four outgoing vifs that a line begins with, if they are printed so and ascend from `next`

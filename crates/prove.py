@@ -7,8 +7,9 @@ Each is proved by `rt lib` (beside.py), which knows by checksums what is proved 
 has changed, in the library or below it. So a run that follows one that was ended goes on where that was. N libraries
 are proved at once: if not given, as many as there are processors and 4 GB of free memory each, at most 4. Those above
 which most is left to prove, one after the other, begin first, and those that are proved beside them have a lower
-priority. A check has two jobs where the processors do for that, and one where they don't: more take longer beside
-others, and far more processor time, since each loads all that the library stands on.
+priority. A check has two jobs where the processors do for that, and one where they don't, but for the one above which
+most is left, which has two in any case: more take longer beside others, and far more processor time, since each loads
+all that the library stands on.
 
 A line says when a library is proved, and what that took. Where one isn't, what `rt` said of it follows on standard
 error; then no other begins, those that have begun may end, and the status is 1.
@@ -47,9 +48,10 @@ def checks_at_once(most=CORES):
     return max(1, min(most, CORES, free_memory() // MEMORY_OF_CHECK))
 
 
-def jobs_of_each(libraries):
-    """How many jobs a check has where so many libraries are proved at once: its share of the processors, rounded up."""
-    return min(MOST_JOBS, -(-CORES // libraries))
+def jobs_of(libraries, is_first):
+    """How many jobs a check has where so many libraries are proved at once: its share of the processors, rounded up,
+    but for the one above which most is left, which has as many as there may be."""
+    return min(MOST_JOBS, CORES if is_first else -(-CORES // libraries))
 
 
 def stands_on():
@@ -110,10 +112,11 @@ class Run:
         for name in can_begin[:self.jobs - len(self.running)]:
             self.waiting.remove(name)
             said = tempfile.TemporaryFile()
-            words = [sys.executable, os.path.join(HERE, "beside.py"), "--jobs", str(jobs_of_each(at_once))]
+            before = self.before(name)
+            words = [sys.executable, os.path.join(HERE, "beside.py"), "--jobs", str(jobs_of(at_once, before == 0))]
             how = {"cwd": os.path.join(HERE, name), "stdin": subprocess.DEVNULL}
             process = subprocess.Popen(words, stdout=said, stderr=subprocess.STDOUT, **how)
-            os.setpriority(os.PRIO_PROCESS, process.pid, os.nice(0) + NICER * self.before(name))
+            os.setpriority(os.PRIO_PROCESS, process.pid, os.nice(0) + NICER * before)
             self.running[process.pid] = name, process, said, time.monotonic()
 
     def before(self, name):

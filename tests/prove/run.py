@@ -193,17 +193,18 @@ def priority(tree):
 
 @case
 def share(tree):
-    """A check has two jobs where the processors do for that, by how many run beside it and begin with it."""
+    """A check has two jobs where the processors do for that, by how many run beside it and begin with it, or where most
+    is left above it."""
     for jobs, shares in {1: (1, 1, 1), 2: (1, 2, 2), 4: (1, 3, 3)}.items():
         tree.make_crates("top: one two three\none: low\ntwo: low\nthree: low\nlow:\n", **{"one": f"takes 0.{jobs}"})
         assert tree.prove(jobs, "top")[0] == 0, tree.lines()
         for name, count in zip(("low", "one", "two"), shares):
             said = tree.read_file(f"crates/{name}/out/jobs")
-            assert said == f"--jobs {prove.jobs_of_each(count)}", (jobs, name, said)
-    wanted = {(1, 1): 1, (2, 1): 2, (2, 2): 1, (4, 1): 2, (4, 2): 2, (4, 3): 2, (4, 4): 1, (64, 4): 2}
-    for (cores, count), each in wanted.items():
+            assert said == f"--jobs {prove.jobs_of(count, name != 'two')}", (jobs, name, said)
+    wanted = {(1, 1): (1, 1), (2, 1): (2, 2), (2, 2): (2, 1), (4, 3): (2, 2), (4, 4): (2, 1), (64, 4): (2, 2)}
+    for (cores, count), both in wanted.items():
         with mock.patch.object(prove, "CORES", cores):
-            assert prove.jobs_of_each(count) == each, (cores, count)
+            assert (prove.jobs_of(count, True), prove.jobs_of(count, False)) == both, (cores, count)
 
 
 @case

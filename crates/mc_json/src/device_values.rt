@@ -14,6 +14,10 @@ use serde_json::Value;
 use std::alloc::{AllocError, Global};
 
 /// A device's name, such as `eth1`, escaped as `ShownDeviceName` writes it.
+///
+/// # Errors
+///
+/// `AllocError` if an allocation fails.
 pub fn device_name(alloc: Global, name: &[u8]) -> Result<String, AllocError>
     ensures { IfOk result (λ text. string_bytes text ≡ device_name_text name.now) }
 {
@@ -22,6 +26,10 @@ pub fn device_name(alloc: Global, name: &[u8]) -> Result<String, AllocError>
 }
 
 /// The device of a router's vif, or null if its table has no line for it.
+///
+/// # Errors
+///
+/// `AllocError` if an allocation fails.
 pub fn device_value(
     alloc: Global,
     view: &FlowView<'_>,

@@ -143,6 +143,10 @@ impl Fields {
     }
 
     /// The finished object, or the first failed allocation.
+    ///
+    /// # Errors
+    ///
+    /// `AllocError` if an allocation fails.
     pub fn object(self) -> Result<Value, AllocError>
         ensures { (members : Members) → HasMembers self members
             → IfOk result (λ v. data_of v ≡ object members) }

@@ -115,6 +115,10 @@ fn event_value(alloc: Global, view: &FlowView<'_>, event: &Event) -> Result<Valu
 }
 
 /// The events of a travel, in order.
+///
+/// # Errors
+///
+/// `AllocError` if an allocation fails.
 pub fn event_values(
     alloc: Global,
     view: &FlowView<'_>,
@@ -170,6 +174,10 @@ fn stray_finding(
 }
 
 /// The finding of a travel.
+///
+/// # Errors
+///
+/// `AllocError` if an allocation fails.
 pub fn finding_value(
     alloc: Global,
     topology: &Topology,
@@ -187,6 +195,10 @@ pub fn finding_value(
 }
 
 /// A finding, null where there is none.
+///
+/// # Errors
+///
+/// `AllocError` if an allocation fails.
 pub fn optional_finding_value(
     alloc: Global,
     topology: &Topology,

@@ -12,6 +12,10 @@ use serde_json::Value;
 use std::alloc::{AllocError, Global};
 
 /// Writes a value that has no fraction, without spaces, and then a line feed.
+///
+/// # Errors
+///
+/// `AllocError` if an allocation fails.
 pub fn push_line(alloc: Global, text: &mut String, value: &Value) -> Result<(), AllocError>
     requires no_float { has_float (data_of value.now) ≡ false }
     ensures added { OnOk result (string_bytes text.new

@@ -9,6 +9,10 @@ use serde_json::Value;
 use std::alloc::{AllocError, Global};
 
 /// The names of LANs.
+///
+/// # Errors
+///
+/// `AllocError` if an allocation fails.
 pub fn lan_names(
     alloc: Global,
     topology: &Topology,
@@ -25,6 +29,10 @@ pub fn lan_names(
 }
 
 /// The names of routers.
+///
+/// # Errors
+///
+/// `AllocError` if an allocation fails.
 pub fn router_names(
     alloc: Global,
     topology: &Topology,

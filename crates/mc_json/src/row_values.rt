@@ -100,6 +100,10 @@ fn entry_value(
 }
 
 /// A router's row of a flow's source and group, or null if it has none.
+///
+/// # Errors
+///
+/// `AllocError` if an allocation fails.
 pub fn row_value(alloc: Global, view: &FlowView<'_>, router: RouterNo) -> Result<Value, AllocError>
     ensures { IfOk result (λ value. data_of value
         ≡ flow_row_data (facts view.now.domain) view.now.flow router) }
@@ -134,6 +138,10 @@ fn row_for_every_source<'n>(
 
 /// A router's row for every source: that of the flow's group, or else that of the group 0.0.0.0. Null if the
 /// summary of its cache has none.
+///
+/// # Errors
+///
+/// `AllocError` if an allocation fails.
 pub fn every_source_value(
     alloc: Global,
     view: &FlowView<'_>,
@@ -168,6 +176,10 @@ pub fn incoming_vif(view: &FlowView<'_>, router: RouterNo) -> Value
 }
 
 /// The device of that vif, or null if there is none.
+///
+/// # Errors
+///
+/// `AllocError` if an allocation fails.
 pub fn incoming_device(
     alloc: Global,
     view: &FlowView<'_>,

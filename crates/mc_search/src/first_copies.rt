@@ -18,6 +18,10 @@ pub struct FirstCopies {
 
 impl FirstCopies {
     /// The first copy on each LAN, and the first duplicate, among these copies.
+    ///
+    /// # Errors
+    ///
+    /// `Memory` if an allocation fails.
     pub fn new(
         alloc: Global,
         view: &FlowView<'_>,

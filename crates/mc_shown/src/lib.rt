@@ -1,5 +1,5 @@
-//! How the answer to an operator shows names, devices and rows in a line, and its lists of them: what hosts
-//! ask for, what is forwarded and not listed, which LANs want a flow, and which routers are excluded.
+//! How an audit shows names, devices and rows in a line, and its lists: what hosts ask for, what is forwarded and
+//! not listed, which LANs want a flow, and which routers are excluded.
 #![tactic(auto)]
 
 mod asked;

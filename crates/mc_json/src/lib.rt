@@ -1,5 +1,5 @@
-//! The report of an audit as JSON, one object a line, but for the lines of flows with a finding; and the values
-//! of which these are built.
+//! The report of an audit as JSON, one object a line, but for the lines of flows with a finding; and
+//! the values of which these are built.
 #![tactic(auto)]
 
 mod asked_lines;

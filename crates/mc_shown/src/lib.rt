@@ -1,5 +1,5 @@
-//! How an audit shows names, devices and rows in a line, and its lists: what hosts ask for, what is forwarded and
-//! not listed, which LANs want a flow, and which routers are excluded.
+//! How an audit shows names, devices and rows in a line, and its lists: what hosts ask for, what is
+//! forwarded and not listed, which LANs want a flow, and which routers are excluded.
 #![tactic(auto)]
 
 mod asked;

@@ -1,6 +1,8 @@
 # make            builds the proved program, crates/mcaudit/out/mcaudit: each library once those that it uses are
 #                 proved, as many at once as there are cores and 4 GB of free memory each, at most 4, or so many as
-#                 `make -j N` or `make JOBS=N` says; what is proved already, and unchanged, takes moments
+#                 `make -j N` or `make JOBS=N` says; what is proved already, and unchanged, takes moments. With
+#                 KEEP_PROOFS=1 each keeps what it proves, so that less is proved again after a change; the first
+#                 time that takes longer
 # make example    shows an audit of a fault and of its fix, and the whole path to a verdict; by the program if it is built
 # make test       the gate: every proof, the edits that must fail, the tests, the command-line cases, and those of tools/;
 #                 REPORT=FILE writes what each part took
@@ -49,7 +51,7 @@ all: $(PROGRAM)
 
 $(PROGRAM): $(SOURCES)
 	rm -f $(PROGRAM)
-	python3 crates/prove.py $(if $(JOBS),--jobs $(JOBS)) mcaudit
+	python3 crates/prove.py $(if $(JOBS),--jobs $(JOBS)) $(if $(KEEP_PROOFS),--keep) mcaudit
 	cd crates/mcaudit && rt run -- check < stdin
 	test -x $(PROGRAM)
 

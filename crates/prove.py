@@ -1,15 +1,15 @@
 #!/usr/bin/env python3
 """Proves the libraries that a crate stands on, each once those that it stands on itself are proved, some at once.
 
-usage: prove.py [--jobs N] CRATE      a crate of crates.txt
+usage: prove.py [--jobs N] [--keep] CRATE      a crate of crates.txt
 
 Each is proved by `rt lib` (beside.py), which knows by checksums what is proved already, and takes moments where nothing
 has changed, in the library or below it. So a run that follows one that was ended goes on where that was. N libraries
 are proved at once: if not given, as many as there are processors and 4 GB of free memory each, at most 4. Those above
 which most is left to prove, one after the other, begin first, and those that are proved beside them have a lower
-priority. A check has two jobs where the processors do for that, and one where they don't, but for the one above which
-most is left, which has two in any case: more take longer beside others, and far more processor time, since each loads
-all that the library stands on.
+priority. A check has its share of the processors as jobs, at most 4 and one for 4 GB of free memory, and the one above
+which most is left has as many as there may be. With --keep each keeps what it proves, so that after a change only what
+it touches is proved again; it has at most 2 jobs, since each of them loads all that the library stands on.
 
 A line says when a library is proved, and what that took. Where one isn't, what `rt` said of it follows on standard
 error; then no other begins, those that have begun may end, and the status is 1.
@@ -27,7 +27,8 @@ HERE = os.path.dirname(os.path.abspath(__file__))
 LIST = os.path.join(os.path.dirname(HERE), "crates.txt")
 CORES = len(os.sched_getaffinity(0))
 MOST = 4  # more gain nothing, since most libraries stand on one another
-MOST_JOBS = 2  # of one check
+MOST_JOBS = 4  # of one check
+MOST_KEEPING = 2  # of one that keeps what it proves
 MEMORY_OF_CHECK = 4_000_000_000
 NICER = 5  # how much lower the priority is beside each library above which more is left
 
@@ -48,10 +49,15 @@ def checks_at_once(most=CORES):
     return max(1, min(most, CORES, free_memory() // MEMORY_OF_CHECK))
 
 
-def jobs_of(libraries, is_first):
-    """How many jobs a check has where so many libraries are proved at once: its share of the processors, rounded up,
-    but for the one above which most is left, which has as many as there may be."""
-    return min(MOST_JOBS, CORES if is_first else -(-CORES // libraries))
+def most_jobs(keeps):
+    """How many jobs a check has at the most, if it keeps what it proves or not: those that memory holds."""
+    return checks_at_once(MOST_KEEPING if keeps else MOST_JOBS)
+
+
+def jobs_of(most, libraries, is_first):
+    """How many jobs, of so many at the most, a check has where so many libraries are proved at once: its share of the
+    processors, rounded up, but for the one above which most is left, which has as many as there may be."""
+    return min(most, CORES if is_first else -(-CORES // libraries))
 
 
 def stands_on():
@@ -99,8 +105,9 @@ def in_order(libraries):
 class Run:
     """The libraries that are proved, those that are being proved, and the one that wasn't, if there is one."""
 
-    def __init__(self, libraries, jobs):
-        self.libraries, self.jobs = libraries, jobs
+    def __init__(self, libraries, jobs, keeps):
+        self.libraries, self.jobs, self.keeps = libraries, jobs, keeps
+        self.most_jobs = most_jobs(keeps)
         self.waiting, self.running = in_order(libraries), {}
         self.places = {name: place for place, name in enumerate(self.waiting)}
         self.proved, self.failed = set(), []
@@ -113,7 +120,8 @@ class Run:
             self.waiting.remove(name)
             said = tempfile.TemporaryFile()
             before = self.before(name)
-            words = [sys.executable, os.path.join(HERE, "beside.py"), "--jobs", str(jobs_of(at_once, before == 0))]
+            words = [sys.executable, os.path.join(HERE, "beside.py"), *["--keep"] * self.keeps]
+            words += ["--jobs", str(jobs_of(self.most_jobs, at_once, before == 0))]
             how = {"cwd": os.path.join(HERE, name), "stdin": subprocess.DEVNULL}
             process = subprocess.Popen(words, stdout=said, stderr=subprocess.STDOUT, **how)
             os.setpriority(os.PRIO_PROCESS, process.pid, os.nice(0) + NICER * before)
@@ -155,6 +163,7 @@ def main():
     parser = argparse.ArgumentParser(description="Proves the libraries that a crate stands on, some at once.")
     parser.add_argument("crate", help="a crate of crates.txt")
     parser.add_argument("--jobs", metavar="N", type=int, help="so many libraries at once")
+    parser.add_argument("--keep", action="store_true", help="keep what is proved, for the next change")
     asked = parser.parse_args()
     below = stands_on()
     if asked.crate not in below:
@@ -162,7 +171,7 @@ def main():
     if asked.jobs is not None and asked.jobs < 1:
         parser.error("at least one library has to be proved at once")
     signal.signal(signal.SIGINT, signal.SIG_DFL)
-    return Run(libraries_of(asked.crate, below), asked.jobs or checks_at_once(MOST)).whole()
+    return Run(libraries_of(asked.crate, below), asked.jobs or checks_at_once(MOST), asked.keep).whole()
 
 
 if __name__ == "__main__":

@@ -124,6 +124,21 @@ class Tree:
             most = max(most, count)
         return most
 
+    def words(self, name):
+        """The words that the prover had for a library."""
+        return self.read_file(f"crates/{name}/out/words").split()
+
+    def jobs(self, name):
+        """How many jobs the proof of a library had."""
+        words = self.words(name)
+        return int(words[words.index("--jobs") + 1])
+
+    def keeps(self, name):
+        """Whether what is proved of a library is kept; if not, its proofs are left out of what is built."""
+        words = self.words(name)
+        assert ("--incremental" in words) != ("--statements" in words), words
+        return "--incremental" in words
+
     def wait_for(self, line):
         """Waits until a line is in the log."""
         until = time.monotonic() + PATIENCE
@@ -199,12 +214,33 @@ def share(tree):
         tree.make_crates("top: one two three\none: low\ntwo: low\nthree: low\nlow:\n", **{"one": f"takes 0.{jobs}"})
         assert tree.prove(jobs, "top")[0] == 0, tree.lines()
         for name, count in zip(("low", "one", "two"), shares):
-            said = tree.read_file(f"crates/{name}/out/jobs")
-            assert said == f"--jobs {prove.jobs_of(count, name != 'two')}", (jobs, name, said)
-    wanted = {(1, 1): (1, 1), (2, 1): (2, 2), (2, 2): (2, 1), (4, 3): (2, 2), (4, 4): (2, 1), (64, 4): (2, 2)}
-    for (cores, count), both in wanted.items():
-        with mock.patch.object(prove, "CORES", cores):
-            assert (prove.jobs_of(count, True), prove.jobs_of(count, False)) == both, (cores, count)
+            assert tree.jobs(name) == prove.jobs_of(prove.most_jobs(False), count, name != "two"), (jobs, name)
+    # processors, GB of memory and libraries, and the jobs of the first, of another, and of these where they keep
+    wanted = {(1, 24, 1): (1, 1, 1, 1), (2, 24, 2): (2, 1, 2, 1), (4, 24, 3): (4, 2, 2, 2), (4, 24, 4): (4, 1, 2, 1)}
+    wanted |= {(64, 24, 4): (4, 4, 2, 2), (4, 9, 1): (2, 2, 2, 2), (4, 3, 1): (1, 1, 1, 1)}
+    for (cores, memory, count), jobs in wanted.items():
+        free = mock.patch.object(prove, "free_memory", lambda it=memory: it * 10**9)
+        with free, mock.patch.object(prove, "CORES", cores):
+            most = prove.most_jobs(False), prove.most_jobs(True)
+            found = [prove.jobs_of(it, count, is_first) for it in most for is_first in (True, False)]
+            assert found == [*jobs], (cores, memory, count, found)
+
+
+@case
+def keeping(tree):
+    """A library is built without its proofs, but where something of it is kept, or what is proved shall be."""
+    tree.make_crates(LIST)
+    os.makedirs(f"{tree.top}/crates/left/out/incremental")
+    names = ("low", "left", "right", "alone", "run")
+    assert tree.prove(2)[0] == 0 and [it for it in names if tree.keeps(it)] == ["left"]
+    assert tree.run("make", "-j2", "KEEP_PROOFS=1")[0] == 0 and tree.proved() == ["mcaudit"], tree.lines()
+    for name in ("low", "alone"):
+        tree.write(name, "takes 0")
+    status, _, errors = tree.run("make", "-j2", "KEEP_PROOFS=1")
+    assert status == 0 and tree.proved() == ["alone", "left", "low", "mcaudit", "right", "run"], errors
+    assert tree.jobs("low") == prove.most_jobs(True) and all(tree.keeps(it) for it in names)
+    tree.write("low", "takes 0.1")
+    assert tree.prove(2)[0] == 0 and [it for it in names if tree.keeps(it)] == [*names]
 
 
 @case
@@ -294,9 +330,12 @@ def other_rt(tree):
 
 @case
 def kit(_):
-    """The kit's own `rt lib` asks for its lock where beside.py puts another one in its place."""
+    """The kit's own `rt lib` asks for its lock, and whether the prover keeps something, where beside.py answers."""
     rt = beside_others.load_rt()
     assert "lock" in rt.rtlib.one.__code__.co_names and callable(rt.rtlib.lock) and callable(rt.main)
+    asked = rt.rtlib.Crate.build_rlib.__code__.co_names
+    assert "libraries_keep" in asked and rt.rtlib.libraries_keep() and callable(rt.rtlib.Crate.has_kept), asked
+    assert "--statements" in rt.rtlib.help_of("build")
 
 
 @case

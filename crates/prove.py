@@ -9,7 +9,7 @@ are proved at once: if not given, as many as there are processors and 4 GB of fr
 which most is left to prove, one after the other, begin first, and those that are proved beside them have a lower
 priority. A check has its share of the processors as jobs, at most 4 and one for 4 GB of free memory, and the one above
 which most is left has as many as there may be. With --keep each keeps what it proves, so that after a change only what
-it touches is proved again; it has at most 2 jobs, since each of them loads all that the library stands on.
+it touches is proved again. One that keeps that, or did before, has at most 2 jobs: each loads all that it stands on.
 
 A line says when a library is proved, and what that took. Where one isn't, what `rt` said of it follows on standard
 error; then no other begins, those that have begun may end, and the status is 1.
@@ -50,7 +50,7 @@ def checks_at_once(most=CORES):
 
 
 def most_jobs(keeps):
-    """How many jobs a check has at the most, if it keeps what it proves or not: those that memory holds."""
+    """How many jobs memory holds of a check, which keeps what it proves or doesn't: at most as many as it may have."""
     return checks_at_once(MOST_KEEPING if keeps else MOST_JOBS)
 
 
@@ -107,7 +107,7 @@ class Run:
 
     def __init__(self, libraries, jobs, keeps):
         self.libraries, self.jobs, self.keeps = libraries, jobs, keeps
-        self.most_jobs = most_jobs(keeps)
+        self.most_jobs = {it: most_jobs(it) for it in (False, True)}  # by whether it keeps what it proves
         self.waiting, self.running = in_order(libraries), {}
         self.places = {name: place for place, name in enumerate(self.waiting)}
         self.proved, self.failed = set(), []
@@ -120,8 +120,9 @@ class Run:
             self.waiting.remove(name)
             said = tempfile.TemporaryFile()
             before = self.before(name)
+            most = self.most_jobs[self.keeps or os.path.isdir(os.path.join(HERE, name, "out", "incremental"))]
             words = [sys.executable, os.path.join(HERE, "beside.py"), *["--keep"] * self.keeps]
-            words += ["--jobs", str(jobs_of(self.most_jobs, at_once, before == 0))]
+            words += ["--jobs", str(jobs_of(most, at_once, before == 0))]
             how = {"cwd": os.path.join(HERE, name), "stdin": subprocess.DEVNULL}
             process = subprocess.Popen(words, stdout=said, stderr=subprocess.STDOUT, **how)
             os.setpriority(os.PRIO_PROCESS, process.pid, os.nice(0) + NICER * before)

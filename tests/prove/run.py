@@ -228,11 +228,13 @@ def share(tree):
 
 @case
 def keeping(tree):
-    """A library is built without its proofs, but where something of it is kept, or what is proved shall be."""
-    tree.make_crates(LIST)
-    os.makedirs(f"{tree.top}/crates/left/out/incremental")
+    """A library is built without its proofs, but where something of it is kept, or what is proved shall be. Then it has
+    fewer jobs, also where most is left above it."""
+    tree.make_crates(LIST, low="x" * 50)
+    os.makedirs(f"{tree.top}/crates/low/out/incremental")
     names = ("low", "left", "right", "alone", "run")
-    assert tree.prove(2)[0] == 0 and [it for it in names if tree.keeps(it)] == ["left"]
+    assert tree.prove(2)[0] == 0 and [it for it in names if tree.keeps(it)] == ["low"]
+    assert tree.jobs("low") == prove.most_jobs(True)
     assert tree.run("make", "-j2", "KEEP_PROOFS=1")[0] == 0 and tree.proved() == ["mcaudit"], tree.lines()
     for name in ("low", "alone"):
         tree.write(name, "takes 0")
